@@ -1,0 +1,6 @@
+pub mod Remainders
+pub mod Slicing
+pub mod Taking
+pub mod Stream
+pub mod Splitting
+pub mod Spelled

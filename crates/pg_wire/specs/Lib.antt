@@ -1,0 +1,11 @@
+pub mod Check
+pub mod Frame
+pub mod Number
+pub mod Stream
+pub mod Split
+pub mod Front
+pub mod Taking
+pub mod Head
+pub mod Heads
+pub mod Kinds
+pub mod Keys

@@ -1,0 +1,24 @@
+//! Frames of a synchrophasor stream: their check, their heads, and how a stream is cut into them.
+#![tactic(auto)]
+
+mod checksum;
+mod deframer;
+mod head;
+mod ids;
+mod kind;
+mod laws;
+mod refusal;
+
+pub use checksum::{check, check_bytewise};
+pub use deframer::{CAPACITY, Deframer, Taken, is_frame};
+pub use head::{Head, end_frame, read_head, start_frame};
+pub use ids::{PmuId, PmuKey, StreamId, SubId};
+pub use kind::Kind;
+pub use laws::{
+    frame_is_spelled, goes_on, no_frame_begins_another, one_remainder, one_split,
+    spelling_is_frame, split_appends, started_is_spelled, stream_is_split,
+};
+pub use refusal::Refusal;
+
+#[cfg(test)]
+mod tests;
