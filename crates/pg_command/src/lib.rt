@@ -1,0 +1,13 @@
+//! Command frames: what a subscriber commands, and what a link commands its source.
+#![tactic(auto)]
+
+mod command;
+mod laws;
+mod word;
+
+pub use command::{Command, read_command, write_command};
+pub use laws::{one_command, written_is_read};
+pub use word::Word;
+
+#[cfg(test)]
+mod tests;
