@@ -1,0 +1,11 @@
+pub mod Loop
+pub mod Blocks
+pub mod Tail
+pub mod Wholes
+pub mod Places
+pub mod Fields
+pub mod Framed
+pub mod Spells
+pub mod Copying
+pub mod Written
+pub mod Owned

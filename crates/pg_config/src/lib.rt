@@ -1,0 +1,15 @@
+//! Configuration frames and header frames: what a source and its PMUs announce of themselves, and what a stream's subscriber is told.
+#![tactic(auto)]
+
+mod laws;
+mod read;
+mod source;
+mod write;
+
+pub use laws::{own_block_alone, written_is_read, written_is_spelled};
+pub use read::read_config;
+pub use source::{Announced, PmuConfig, SourceConfig};
+pub use write::{write_config, write_header};
+
+#[cfg(test)]
+mod tests;
