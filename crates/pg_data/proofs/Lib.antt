@@ -1,0 +1,6 @@
+pub mod Blocks
+pub mod Changes
+pub mod Fillers
+pub mod Spellings
+pub mod Shares
+pub mod Sources

@@ -1,0 +1,4 @@
+pub mod Measurements
+pub mod Reading
+pub mod Filler
+pub mod Sharing

@@ -1,0 +1,139 @@
+//! A data frame that was read.
+
+ghost use Rattle.std.specs.Prelude.{◌≡◌, ◌↔◌, ◌+◌, ◌^◌, ◌<◌, ◌≤◌, length, take, slice_get, IfSome, IsTrue};
+ghost use Rattle.pg_config.specs.Parts.{block_id, data_len, data_lens};
+ghost use Rattle.std.specs.Int.{bit_at};
+ghost use Rattle.pg_data.specs.Measurements.{IsMeasurement, resolution, block_of, stat_of, HasChange, has_change};
+
+use pg_config::SourceConfig;
+use pg_wire::{PmuId, PmuKey};
+use std::marker::Model;
+use std::sync::Arc;
+
+/// STAT's configuration change bit, bit 10 (C37.118.2, 6.3).
+const CONFIG_CHANGE: u16 = 0x0400;
+
+/// A data frame with the configuration by which it was read (C37.118.2, 6.3). It is never changed.
+#[derive(Drop)]
+pub struct DataFrame {
+    /// The frame's IDCODE, which is the configuration's.
+    pub source: PmuId,
+    /// SOC: whole seconds since 1970-01-01 00:00 UTC.
+    pub soc: u32,
+    /// The time quality, FRACSEC's top byte.
+    pub quality: u8,
+    /// FRACSEC's numerator, below the configuration's resolution.
+    pub frac: u32,
+    /// The configuration of the source by which the frame was read.
+    pub config: Arc<SourceConfig>,
+    /// All data blocks, in the order of the configuration.
+    pub body: Vec<u8>,
+}
+
+impl Model for DataFrame {
+    ghost use Rattle.std.specs.Arc.{arc_value};
+    ghost use Rattle.pg_data.specs.Measurements.{Measurement, IsMeasurement};
+
+    ghost Value = { Measurement };
+
+    ghost view = { λ f. record { source = f.source; soc = f.soc; quality = f.quality; frac = f.frac; config = arc_value f.config; body = f.body.items } };
+
+    ghost invariant = { λ f. IsMeasurement (record { source = f.source; soc = f.soc; quality = f.quality; frac = f.frac; config = arc_value f.config; body = f.body.items }) };
+}
+
+impl DataFrame {
+    /// How many data blocks it has, one for each PMU of its configuration: 1 to 16.
+    pub fn count(&self) -> usize
+        ensures value { result ≡ length self.now.config.parts }
+        ensures keeps { IsMeasurement self.now }
+    {
+        self.config.count()
+    }
+
+    /// The resolution of its numerator, which is never 0.
+    pub fn base(&self) -> u32
+        ensures value { result ≡ resolution self.now.config }
+        ensures above { self.now.frac < result }
+    {
+        let _ = &self.frac;
+        resolution_of(&self.config)
+    }
+
+    /// The data block of PMU i, as it stood in the frame.
+    pub fn block(&self, i: usize) -> &[u8]
+        requires { i < length self.now.config.parts }
+        ensures value { result.now ≡ block_of self.now i }
+        ensures size { IfSome (slice_get self.now.config.parts i) (λ part. length result.now ≡ data_len part) }
+        ensures long { 6 ≤ length result.now }
+        // A frame with this block alone keeps FRAMESIZE's two bytes.
+        ensures short { 16 + length result.now < 2 ^ 16 }
+    {
+        let (start, end) = self.place(i);
+        &self.body[start..end]
+    }
+
+    /// Where PMU i's data block begins and ends in the body.
+    fn place(&self, i: usize) -> (usize, usize)
+        requires { i < length self.now.config.parts }
+        ensures start { result.0 ≡ data_lens (take i self.now.config.parts) }
+        ensures end { result.1 ≡ data_lens (take (i + 1) self.now.config.parts) }
+        ensures size { IfSome (slice_get self.now.config.parts i) (λ part. result.0 + data_len part ≡ result.1) }
+        ensures long { result.0 + 6 ≤ result.1 }
+        ensures within { result.1 ≤ length self.now.body }
+    {
+        let _ = &self.body;
+        (self.config.start(i), self.config.start(i + 1))
+    }
+
+    /// The key of PMU i: the frame's source, and the PMU's IDCODE in its configuration.
+    pub fn key(&self, i: usize) -> PmuKey
+        requires { i < length self.now.config.parts }
+        ensures source { result.source ≡ self.now.source }
+        ensures pmu { IfSome (slice_get self.now.config.parts i) (λ part. result.pmu ≡ block_id part.block) }
+    {
+        self.config.key(i)
+    }
+
+    /// STAT of PMU i's data block (C37.118.2, 6.3).
+    pub fn stat(&self, i: usize) -> u16
+        requires { i < length self.now.config.parts }
+        ensures { result ≡ stat_of self.now i }
+    {
+        let block = self.block(i);
+        u16::from_be_bytes([block[0], block[1]])
+    }
+
+    /// Whether a PMU tells that its configuration changes: STAT bit 10 is set in one of the data blocks.
+    pub fn is_changed(&self) -> bool
+        ensures means { IsTrue result ↔ HasChange self.now }
+        ensures value { result ≡ has_change self.now }
+    {
+        self.finds_change()
+    }
+
+    /// Looks at the blocks one after another.
+    fn finds_change(&self) -> bool
+        ensures { IsTrue result ↔ HasChange self.now }
+    {
+        for i in 0..self.count() {
+            if has_change_bit(self.stat(i)) {
+                return true;
+            }
+        }
+        false
+    }
+}
+
+/// The resolution of a source's frames.
+pub(crate) fn resolution_of(config: &SourceConfig) -> u32
+    ensures { result ≡ resolution config.now }
+{
+    config.parts[0].base
+}
+
+/// Whether STAT's configuration change bit is set.
+fn has_change_bit(stat: u16) -> bool
+    ensures { IsTrue result ↔ (bit_at stat 10 ≡ 1) }
+{
+    stat & CONFIG_CHANGE != 0
+}

@@ -1,0 +1,17 @@
+//! Data frames: what the PMUs of a source measured at one instant, one data block for each.
+#![tactic(auto)]
+
+mod filler;
+mod frame;
+mod laws;
+mod read;
+
+pub use filler::filler_into;
+pub use frame::DataFrame;
+pub use laws::{
+    block_is_spelled, filler_is_block, one_resolution, own_block_alone, written_is_read,
+};
+pub use read::read_data;
+
+#[cfg(test)]
+mod tests;
