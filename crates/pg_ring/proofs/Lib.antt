@@ -1,0 +1,4 @@
+pub mod Room
+pub mod Numbering
+pub mod Handing
+pub mod Fates

@@ -1,0 +1,15 @@
+//! The output queue of a subscriber: the rest of the frame in hand, then replies, then data frames out of a ring that
+//! drops the oldest. Each data frame carries its gap: the count of frames dropped or lost directly before it.
+#![tactic(auto)]
+
+mod laws;
+mod queue;
+mod ring;
+mod sizes;
+
+pub use laws::{each_number_has_one_fate, gaps_count_numbers};
+pub use queue::{Drained, OutQueue};
+pub use sizes::{RingBytes, RingSize};
+
+#[cfg(test)]
+mod tests;

@@ -1,0 +1,100 @@
+//! The steps of the ring of data frames.
+ghost use Rattle.std.specs.Prelude.{◌≡◌, ◌+◌, ◌-◌, ◌^◌, ◌<◌, ◌≤◌, [], ◌∷◌, ◌++◌, length, vec_len, min, take, drop};
+ghost use Rattle.circular_buffer.specs.Buffer.{buffer};
+ghost use Rattle.pg_ring.specs.Shown.{bytes_in, HaveBytes, Framed};
+ghost use Rattle.pg_ring.specs.Steps.{room, pass_on, pushed};
+ghost use Rattle.pg_ring.specs.Items.{shown, framed_of};
+
+use circular_buffer::HeapCircularBuffer;
+
+/// A data frame in the ring, and the count of frames dropped or lost directly before it.
+#[derive(Drop)]
+pub(crate) struct QueuedFrame {
+    pub(crate) bytes: Vec<u8>,
+    pub(crate) gap: u64,
+}
+
+/// Drops the oldest frames until fewer than `size` frames stand, with at most `limit` bytes, and returns the
+/// gap that they pass on.
+fn make_room(
+    frames: &mut HeapCircularBuffer<QueuedFrame>,
+    held: &mut usize,
+    size: usize,
+    limit: usize,
+) -> u64
+    requires counted { held.old ≡ bytes_in (shown frames.old.items) }
+    requires some_size { 0 < size }
+    ensures kept { room size limit 0 (shown frames.old.items) ≡ (result, shown frames.new.items) }
+    ensures counted { held.new ≡ bytes_in (shown frames.new.items) }
+    ensures capacity { frames.new.capacity ≡ frames.old.capacity }
+    ensures no_more { length frames.new.items ≤ length frames.old.items }
+    ensures fewer { length frames.new.items < size }
+    ensures lighter { held.new ≤ limit }
+    ensures have_bytes { HaveBytes (shown frames.old.items) → HaveBytes (shown frames.new.items) }
+{
+    let mut passed = 0u64;
+    while frames.len() >= size || *held > limit {
+        let Some(oldest) = frames.pop_front() else {
+            break;
+        };
+        *held -= oldest.bytes.len();
+        passed = passed.saturating_add(oldest.gap).saturating_add(1);
+    }
+    passed
+}
+
+/// The first frame takes a gap over.
+fn pass_gap(frames: &mut HeapCircularBuffer<QueuedFrame>, passed: u64)
+    requires { length frames.old.items ≤ frames.old.capacity }
+    ensures frames { shown frames.new.items ≡ pass_on passed (shown frames.old.items) }
+    ensures same_len { length frames.new.items ≡ length frames.old.items }
+    ensures capacity { frames.new.capacity ≡ frames.old.capacity }
+{
+    if let Some(mut first) = frames.pop_front() {
+        first.gap = first.gap.saturating_add(passed);
+        frames.push_front(first);
+    }
+}
+
+/// Appends a frame that is no longer than `limit`. The oldest frames go until it fits, and their gaps pass on. Returns
+/// how many went.
+#[tactic(auto, using(crate::proofs::Room::ring_steps))]
+pub(crate) fn push_frame(
+    frames: &mut HeapCircularBuffer<QueuedFrame>,
+    held: &mut usize,
+    limit: usize,
+    frame: QueuedFrame,
+) -> usize
+    requires counted { held.old ≡ bytes_in (shown frames.old.items) }
+    requires some_size { 0 < frames.old.capacity }
+    requires fits { vec_len frame.bytes ≤ limit }
+    requires has_byte { 0 < vec_len frame.bytes }
+    requires have_bytes { HaveBytes (shown frames.old.items) }
+    ensures dropped { result + length frames.new.items ≡ length frames.old.items + 1 }
+    ensures frames { shown frames.new.items
+        ≡ pushed frames.old.capacity limit (shown frames.old.items) (framed_of frame) }
+    ensures counted { held.new ≡ bytes_in (shown frames.new.items) }
+    ensures lighter { held.new ≤ limit }
+    ensures few { length frames.new.items ≤ frames.old.capacity }
+    ensures capacity { frames.new.capacity ≡ frames.old.capacity }
+    ensures have_bytes { HaveBytes (shown frames.new.items) }
+{
+    let size = frames.capacity();
+    let before = frames.len();
+    let passed = make_room(frames, held, size, limit - frame.bytes.len());
+    let dropped = before - frames.len();
+    *held += frame.bytes.len();
+    let _replaced = frames.push_back(frame);
+    pass_gap(frames, passed);
+    dropped
+}
+
+/// Copies what fits of `from` to the front of `out`, and returns how much.
+pub(crate) fn copy_front(from: &[u8], out: &mut [u8]) -> usize
+    ensures count { result ≡ min (length from.now) (length out.old) }
+    ensures bytes { out.new ≡ take result from.now ++ drop result out.old }
+{
+    let count = from.len().min(out.len());
+    out[..count].copy_from_slice(&from[..count]);
+    count
+}
