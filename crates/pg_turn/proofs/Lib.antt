@@ -1,0 +1,4 @@
+mod Counting
+mod Histories
+mod Pairs
+mod Turning

@@ -1,0 +1,21 @@
+//! A turnstile: one value that many threads step in turn, with one legal history for all of their calls.
+//!
+//! `Machine` is the value, `Turnstile` holds it, and a `Seat` is what one caller knows of the calls so far. All of it is a
+//! rule of this project (own rule); no standard speaks of it.
+#![tactic(auto)]
+
+mod counter;
+mod machine;
+mod plays;
+mod seat;
+#[cfg(test)]
+mod tests;
+mod turnstile;
+mod two_calls;
+mod view;
+
+pub use counter::{Add, Counter};
+pub use machine::Machine;
+pub use seat::Seat;
+pub use turnstile::Turnstile;
+pub use two_calls::{add_both, call_both, call_twice};
