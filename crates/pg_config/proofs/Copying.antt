@@ -11,7 +11,7 @@ use Rattle.pg_wire.specs.Heads.{start_of, ended}
 use Rattle.pg_wire.proofs.Spelled.{ended-start}
 use Rattle.pg_wire.specs.Stream.{joined}
 use Rattle.pg_config.specs.Parts.{Part}
-use Rattle.pg_config.specs.Writing.{reply_heading, block_with_count, config_body}
+use Rattle.pg_config.specs.Writing.{reply_heading, block_with_count, config_body, config_start, config_frame}
 use Rattle.pg_config.specs.Spelling.{SpellsHeader}
 
 -- the next PMU
@@ -32,16 +32,20 @@ pub length-block_with_count : (count : ℕ) (p : Part) → 2 ≤ length p.block 
 length-block_with_count count p long =
     omega (arith, length-append (take (length p.block - 2) p.block) (to_be_bytes w16 count), length-take-le (length p.block - 2) p.block (let le : length p.block - 2 ≤ length p.block = omega arith in le))
 
-regroup : (front kept count more : List ℕ) → ((front ++ kept) ++ count) ++ more ≡ front ++ ((kept ++ count) ++ more)
-regroup front kept count more = simp append_assoc
-
 -- one more block was added
 pub added-more : {A : Type 0} (f : A → Part) (xs : List A) (i : ℕ) (x : A) (count : ℕ) (front whole : List ℕ) → i < length xs → x ≡ get_or xs i x
     → front ++ joined (map (block_with_count count) (drop i (map f xs))) ≡ whole
-    → ((front ++ take (length (f x).block - 2) (f x).block) ++ to_be_bytes w16 count) ++ joined (map (block_with_count count) (drop (i + 1) (map f xs))) ≡ whole
+    → (front ++ block_with_count count (f x)) ++ joined (map (block_with_count count) (drop (i + 1) (map f xs))) ≡ whole
 added-more f xs i x count front whole lt is so_far =
-    regroup front (take (length (f x).block - 2) (f x).block) (to_be_bytes w16 count) (joined (map (block_with_count count) (drop (i + 1) (map f xs))))
+    append_assoc front (block_with_count count (f x)) (joined (map (block_with_count count) (drop (i + 1) (map f xs))))
     ∙ sym (ap (λ ps. front ++ joined (map (block_with_count count) ps)) (next-one f xs i x lt is)) ∙ so_far
+
+-- the blocks that are left are the next one and those after it
+pub left-more : {A : Type 0} (f : A → Part) (xs : List A) (i : ℕ) (x : A) (count : ℕ) → i < length xs → x ≡ get_or xs i x
+    → length (joined (map (block_with_count count) (drop i (map f xs)))) ≡ length (block_with_count count (f x)) + length (joined (map (block_with_count count) (drop (i + 1) (map f xs))))
+left-more f xs i x count lt is =
+    ap (λ ps. length (joined (map (block_with_count count) ps))) (next-one f xs i x lt is)
+    ∙ length-append (block_with_count count (f x)) (joined (map (block_with_count count) (drop (i + 1) (map f xs))))
 
 -- one more block was counted
 pub len-more : {A : Type 0} (f : A → Part) (xs : List A) (i : ℕ) (x : A) (count n whole : ℕ) → i < length xs → x ≡ get_or xs i x → 2 ≤ length (f x).block
@@ -63,22 +67,21 @@ grouped start base count middle rate = simp append_assoc
 body-length : (base count middle rate : List ℕ) → length base ≡ 4 → length count ≡ 2 → length rate ≡ 2 → length (((base ++ count) ++ middle) ++ rate) ≡ 8 + length middle
 body-length base count middle rate a b c = simp length-append (omega arith)
 
--- a configuration frame that was started, filled and ended
-pub config-framed : (h : Heading) (size base rate count n : ℕ) (parts : List Part) (start one two three four after : List ℕ) → start ≡ start_of h size
-    → size ≡ 24 + length (joined (map (block_with_count count) parts)) → n ≡ length parts
-    → one ≡ start ++ to_be_bytes w32 base → two ≡ one ++ to_be_bytes w16 n → three ≡ two ++ joined (map (block_with_count count) parts) → four ≡ three ++ to_be_bytes w16 rate
-    → after ≡ ended four → after ≡ frame_of h (config_body base rate count parts)
-config-framed h size base rate count n parts start one two three four after started sized number first second third fourth done =
+-- A configuration frame that was started for these PMUs, filled with their blocks and ended.
+pub config-framed : (kind : Kind) (id soc base rate count blocks blocks_len : ℕ) (parts : List Part) → blocks ≡ length parts
+    → blocks_len ≡ length (joined (map (block_with_count count) parts))
+    → ended ((config_start kind id soc base blocks blocks_len ++ joined (map (block_with_count count) parts)) ++ to_be_bytes w16 rate) ≡ config_frame kind id soc base rate count parts
+config-framed kind id soc base rate count blocks blocks_len parts number sized =
+    let h = reply_heading kind id soc in
     let middle = joined (map (block_with_count count) parts) in
-    let len : length (map (block_with_count count) parts) ≡ n = length-map parts (block_with_count count) ∙ sym number in
-    let same : two ≡ one ++ to_be_bytes w16 (length (map (block_with_count count) parts)) = second ∙ ap (λ m. one ++ to_be_bytes w16 m) (sym len) in
-    let filled : four ≡ (((start ++ to_be_bytes w32 base) ++ to_be_bytes w16 (length (map (block_with_count count) parts))) ++ middle) ++ to_be_bytes w16 rate =
-    fourth ∙ ap (λ l. l ++ to_be_bytes w16 rate) (third ∙ ap (λ l. l ++ middle) (same ∙ ap (λ l. l ++ to_be_bytes w16 (length (map (block_with_count count) parts))) first)) in
-    framed h size (config_body base rate count parts) start four after started
-    (sized ∙ (let sum : 24 + length middle ≡ 16 + (8 + length middle) = omega arith in sum)
-    ∙ ap (λ m. 16 + m) (sym (body-length (to_be_bytes w32 base) (to_be_bytes w16 (length (map (block_with_count count) parts))) middle (to_be_bytes w16 rate) refl refl refl)))
-    (filled ∙ grouped start (to_be_bytes w32 base) (to_be_bytes w16 (length (map (block_with_count count) parts))) middle (to_be_bytes w16 rate))
-    done
+    let all = to_be_bytes w16 (length (map (block_with_count count) parts)) in
+    let size : 24 + blocks_len ≡ 16 + (8 + length middle) = omega (arith, sized) in
+    let len : 24 + blocks_len ≡ 16 + length (config_body base rate count parts) =
+    size ∙ ap (λ m. 16 + m) (sym (body-length (to_be_bytes w32 base) all middle (to_be_bytes w16 rate) refl refl refl)) in
+    let named : to_be_bytes w16 blocks ≡ all = ap (to_be_bytes w16) (number ∙ sym (length-map parts (block_with_count count))) in
+    ap ended (ap (λ n. (((start_of h (24 + blocks_len) ++ to_be_bytes w32 base) ++ n) ++ middle) ++ to_be_bytes w16 rate) named
+    ∙ grouped (start_of h (24 + blocks_len)) (to_be_bytes w32 base) all middle (to_be_bytes w16 rate)
+    ∙ ap (λ n. start_of h n ++ config_body base rate count parts) len) ∙ ended-start h (config_body base rate count parts)
 
 pub length-frame_of : (h : Heading) (body : List ℕ) → length (frame_of h body) ≡ 16 + length body
 length-frame_of h body = omega (arith, length-append body (to_be_bytes w16 (chk (front_of h body))))

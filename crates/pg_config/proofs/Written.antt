@@ -12,7 +12,7 @@ use Rattle.pg_wire.specs.Stream.{joined}
 use Rattle.pg_wire.proofs.Spelled.{spells-back}
 use Rattle.pg_config.specs.Parts.{Part, IsPart, IsSource, IsBlock, part_with, block_id, size_by_counts, is_reserved, repeats}
 use Rattle.pg_config.specs.Spelling.{SpellsConfig, body_with}
-use Rattle.pg_config.specs.Writing.{CanWrite, ReadsBack, reply_heading, block_with_count, config_body, config_frame, written_part, part_with_count, announced_with}
+use Rattle.pg_config.specs.Writing.{CanWrite, IsReadable, ReadsAsWritten, ReadsBack, reply_heading, block_with_count, config_body, config_frame, written_part, part_with_count, announced_with}
 use Rattle.pg_config.proofs.Wholes.{source_of}
 use Rattle.pg_config.proofs.Fields.{InBytes, bytes_before, all_fields, parts-say, part}
 use Rattle.pg_config.proofs.Copying.{length-block_with_count, length-frame_of, reply-fits}
@@ -41,7 +41,7 @@ four-in_bytes n (suc (suc zero)) = last_byte (n / 256)
 four-in_bytes n (suc (suc (suc zero))) = last_byte n
 four-in_bytes n (suc (suc (suc (suc i)))) = lit< tt
 
-joined-in_bytes : (blocks : List (List ℕ)) → All InBytes blocks → InBytes (joined blocks)
+pub joined-in_bytes : (blocks : List (List ℕ)) → All InBytes blocks → InBytes (joined blocks)
 joined-in_bytes [] range = λ i. lit< tt
 joined-in_bytes (b ∷ bs) range = both-in_bytes b (joined bs) (All-head InBytes b bs range) (joined-in_bytes bs (All-tail InBytes b bs range))
 
@@ -225,4 +225,42 @@ written-read kind id soc base rate count parts can is same_all =
       frame = (spells-back (reply_heading kind id soc) (config_body base rate count parts) (reply-fits kind id soc (kind-fits kind can.config) can.id_fits can.soc_fits) (omega arith)
           (body-in_bytes base rate count parts can.bytes)).frame;
       read = spelled-read (config_frame kind id soc base rate count parts) (announced_with kind id (map (part_with_count count) parts)) spelled (counted-source id count parts can.each is);
+    }
+
+-- ---- read at the stream's resolution and rate
+
+written-ids : (base rate count : ℕ) (parts : List Part) → All IsPart parts → map (λ p. block_id p.block) (map (written_part base rate count) parts) ≡ map (λ p. block_id p.block) parts
+written-ids base rate count [] is = refl
+written-ids base rate count (p ∷ ps) is = ap₂ (λ n ns. n ∷ ns) (same count p (All-head IsPart p ps is)).id (written-ids base rate count ps (All-tail IsPart p ps is))
+
+written-is_part : (base rate count : ℕ) (p : Part) → 0 < base → base < 2 ^ 24 → IsPart p → IsPart (written_part base rate count p)
+written-is_part base rate count p some low is =
+    let s = same count p is in
+    record { some = some; base = low; counts = counted-part base (pos rate) count p s; block = s.block; id = ap is_reserved s.id ∙ is.id }
+
+pub written-source : (id base rate count : ℕ) (parts : List Part) → 0 < base → base < 2 ^ 24 → All IsPart parts → IsReadable id parts
+    → IsSource (source_of id (map (written_part base rate count) parts))
+written-source id base rate count parts some low each is =
+    let len : length (map (written_part base rate count) parts) ≡ length parts = length-map parts (written_part base rate count) in
+    record {
+      some = subst (λ n. 0 < n) (sym len) is.some;
+      few = subst (λ n. n ≤ 16) (sym len) is.few;
+      source = is.source;
+      distinct = ap repeats (written-ids base rate count parts each) ∙ is.distinct;
+      base = base;
+      rate = pos rate;
+      each = All-map (λ p. IsPart p × (p.base ≡ base) × (p.rate ≡ pos rate)) (written_part base rate count) parts
+          (All-weaker IsPart (λ p. IsPart (written_part base rate count p) × (base ≡ base) × (pos rate ≡ pos rate))
+          (λ p known. (written-is_part base rate count p some low known, refl, refl)) parts each);
+    }
+
+pub written-read-as : (kind : Kind) (id soc base rate count : ℕ) (parts : List Part) → CanWrite kind id soc base rate count parts → 0 < base
+    → IsReadable id parts → ReadsAsWritten kind id soc base rate count parts
+written-read-as kind id soc base rate count parts can some is =
+    let short : length (config_body base rate count parts) ≤ 64008 = body-short kind id soc base rate count parts can in
+    record {
+      frame = (spells-back (reply_heading kind id soc) (config_body base rate count parts) (reply-fits kind id soc (kind-fits kind can.config) can.id_fits can.soc_fits) (omega arith)
+          (body-in_bytes base rate count parts can.bytes)).frame;
+      read = spelled-read (config_frame kind id soc base rate count parts) (announced_with kind id (map (written_part base rate count) parts))
+          (written-spelled kind id soc base rate count parts can) (written-source id base rate count parts some can.base_fits can.each is);
     }

@@ -1,9 +1,10 @@
 //! The configurations of PMUs and of sources.
 
-ghost use Rattle.std.specs.Prelude.{◌≡◌, ◌+◌, ◌*◌, ◌<◌, ◌≤◌, ◌∷◌, length, map, take, slice_get, IfOk, IfSome};
+ghost use Rattle.std.specs.Prelude.{◌≡◌, ◌+◌, ◌*◌, ◌<◌, ◌≤◌, ◌∷◌, ◌++◌, length, map, take, slice_get, vec_len, vec_capacity, IfOk, IfSome};
 ghost use Rattle.std.specs.Bool.{Decides};
 ghost use Rattle.std.specs.Arc.{arc_value};
 ghost use Rattle.pg_config.specs.Parts.{IsPart, IsSource, block_id, data_len, data_lens, ends_from};
+ghost use Rattle.pg_config.specs.Writing.{uncounted, block_with_count};
 
 use pg_wire::{Kind, PmuId, PmuKey};
 use std::alloc::{AllocError, Global};
@@ -66,10 +67,41 @@ impl PmuConfig {
     pub fn block_len(&self) -> usize
         ensures value { result ≡ data_len self.now }
         ensures most { result ≤ 2000 }
+        ensures few { result ≤ 398 }
     {
         6 + 4 * usize::from(self.phasors)
             + 2 * usize::from(self.analogs)
             + 2 * usize::from(self.digitals)
+    }
+
+    /// The block without CFGCNT, its last two bytes.
+    fn kept_bytes(&self) -> &[u8]
+        ensures value { result.now ≡ uncounted self.now }
+        ensures len { length result.now + 2 ≡ length self.now.block }
+    {
+        let end = self.config_len() - 2;
+        &self.block[..end]
+    }
+
+    /// Adds the configuration block with this CFGCNT in place of its own to a frame, in the room that is there. All other
+    /// bytes are copied (own rule). It takes no memory.
+    pub fn add_to(&self, frame: &mut Vec<u8>, count: u16)
+        requires { vec_len frame.old + length (block_with_count count self.now) ≤ vec_capacity frame.old }
+        ensures bytes { frame.new.items ≡ frame.old.items ++ block_with_count count self.now }
+        ensures len { vec_len frame.new ≡ vec_len frame.old + length (block_with_count count self.now) }
+        ensures room { vec_capacity frame.old ≤ vec_capacity frame.new }
+    {
+        let kept = self.kept_bytes();
+        // Both fit, by what is asked for.
+        let _ = frame.extend_from_slice(kept);
+        let _ = frame.extend_from_slice(&count.to_be_bytes());
+    }
+
+    /// Whether the blocks are the same but for CFGCNT. By this the gateway tells a change of configuration (own rule).
+    pub fn is_same_but_count(&self, other: &PmuConfig) -> bool
+        ensures { Decides result (uncounted self.now ≡ uncounted other.now) }
+    {
+        self.kept_bytes() == other.kept_bytes()
     }
 
     /// Whether resolution, rate and block are the same.

@@ -161,6 +161,12 @@ fn first_path(rt: HostRuntime) -> Result<(), Fail> {
     let parts = announced.config.parts.as_slice();
     let reply = write_config(alloc, Kind::CfgTwo, stream, 0, 1_000_000, 30, 1, parts)?;
     assert_eq!(rt; reply.as_slice(), CONFIG_REPLY.as_slice());
+    // Another CFGCNT, and then another station.
+    let mut bytes = PMU7_CONFIG;
+    bytes[69] = 5;
+    assert!(rt; part.is_same_but_count(&read(&rt, alloc, &bytes)?.config.parts[0]));
+    bytes[25] = 0x39;
+    assert!(rt; !part.is_same_but_count(&read(&rt, alloc, &bytes)?.config.parts[0]));
     Ok(())
 }
 

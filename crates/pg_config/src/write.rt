@@ -1,16 +1,17 @@
 //! The writers of configuration frames and header frames.
 
-ghost use Rattle.std.specs.Prelude.{◌≡◌, ◌⊎◌, ℕ, ◌+◌, ◌-◌, ◌*◌, ◌^◌, ◌<◌, ◌≤◌, ◌++◌, length, take, map, All, OnOk, IfOk, IfErr, vec_capacity};
+ghost use Rattle.std.specs.Prelude.{◌≡◌, ◌⊎◌, ℕ, ◌+◌, ◌^◌, ◌<◌, ◌≤◌, ◌++◌, length, map, All, IfOk, IfErr, vec_len, vec_capacity};
 ghost use Rattle.std.specs.Arc.{arc_value};
+ghost use Rattle.std.specs.Int.{w16, to_be_bytes};
 ghost use Rattle.pg_wire.specs.Head.{frame_of};
-ghost use Rattle.pg_wire.specs.Heads.{heading_of};
+ghost use Rattle.pg_wire.specs.Heads.{heading_of, ended};
 ghost use Rattle.pg_wire.specs.Stream.{joined};
 ghost use Rattle.pg_config.specs.Spelling.{SpellsHeader};
-ghost use Rattle.pg_config.specs.Writing.{reply_heading, block_with_count, config_frame};
+ghost use Rattle.pg_config.specs.Writing.{reply_heading, block_with_count, config_start, config_frame};
 
 use crate::source::PmuConfig;
 use pg_wire::{Head, Kind, Refusal, StreamId, end_frame, start_frame};
-use std::alloc::{AllocError, Global};
+use std::alloc::Global;
 use std::sync::Arc;
 
 /// How many bytes a frame has beside its body.
@@ -39,14 +40,6 @@ fn reply_head(kind: Kind, id: StreamId, soc: u32, size: u16) -> Head
     }
 }
 
-/// A block without its CFGCNT.
-fn kept_bytes(part: &PmuConfig) -> &[u8]
-    ensures { result.now ≡ take (length part.now.block - 2) part.now.block }
-{
-    let end = part.config_len() - 2;
-    &part.block[..end]
-}
-
 /// How many bytes the blocks of these PMUs have.
 fn blocks_len(parts: &[Arc<PmuConfig>]) -> u16
     requires { length parts.now ≤ 32 }
@@ -60,16 +53,58 @@ fn blocks_len(parts: &[Arc<PmuConfig>]) -> u16
     len
 }
 
-/// Adds the blocks of these PMUs, each with this CFGCNT.
-fn add_blocks(frame: &mut Vec<u8>, count: u16, parts: &[Arc<PmuConfig>]) -> Result<(), AllocError>
-    ensures bytes { OnOk result (frame.new.items ≡ frame.old.items ++ joined (map (block_with_count count) (map arc_value parts.now))) }
+/// Adds the blocks of these PMUs, each with this CFGCNT, in the room that is there.
+fn add_blocks(frame: &mut Vec<u8>, count: u16, parts: &[Arc<PmuConfig>])
+    requires { vec_len frame.old + length (joined (map (block_with_count count) (map arc_value parts.now))) ≤ vec_capacity frame.old }
+    ensures bytes { frame.new.items ≡ frame.old.items ++ joined (map (block_with_count count) (map arc_value parts.now)) }
     ensures room { vec_capacity frame.old ≤ vec_capacity frame.new }
 {
     for part in parts {
-        frame.extend_from_slice(kept_bytes(part))?;
-        frame.extend_from_slice(&count.to_be_bytes())?;
+        part.add_to(frame, count);
     }
-    Ok(())
+}
+
+/// Starts the frame CFG-1 or CFG-2 of a stream, of version 2 with FRACSEC 0x0F000000 (C37.118.2, 6.4): its head,
+/// TIME_BASE and NUM_PMU, with room for the whole frame.
+///
+/// `base` is the resolution (24 bits; TIME_BASE's flags are 0), `blocks` the number of PMUs, and `blocks_len` how many bytes
+/// their configuration blocks have together. `PmuConfig::add_to` then adds each block and `end_config` ends the frame,
+/// both in that room. It asks for one of the two kinds and for at most 64,000 bytes of blocks. The one refusal is `NoMemory`.
+pub fn start_config(
+    alloc: Global,
+    kind: Kind,
+    id: StreamId,
+    soc: u32,
+    base: u32,
+    blocks: u16,
+    blocks_len: u16,
+) -> Result<Vec<u8>, Refusal>
+    requires kind { (kind ≡ Kind.CfgOne) ⊎ (kind ≡ Kind.CfgTwo) }
+    requires base { base < 2 ^ 24 }
+    requires len { blocks_len ≤ 64000 }
+    ensures bytes { IfOk result (λ frame. frame.items ≡ config_start kind id soc base blocks blocks_len) }
+    // What is left of the frame is added without memory.
+    ensures room { IfOk result (λ frame. vec_len frame + blocks_len + 4 ≤ vec_capacity frame) }
+    ensures memory { IfErr result (λ refusal. refusal ≡ Refusal.NoMemory) }
+{
+    let size = AROUND_BLOCKS + blocks_len;
+    let mut frame = start_frame(alloc, &reply_head(kind, id, soc, size))?;
+    // They fit, since the whole frame does.
+    let _ = frame.extend_from_slice(&base.to_be_bytes());
+    let _ = frame.extend_from_slice(&blocks.to_be_bytes());
+    Ok(frame)
+}
+
+/// Ends a configuration frame: adds DATA_RATE, the frames per second, and CHK over all bytes that are there, in the room
+/// that `start_config` reserved.
+pub fn end_config(frame: &mut Vec<u8>, rate: u8)
+    requires { vec_len frame.old + 4 ≤ vec_capacity frame.old }
+    ensures bytes { frame.new.items ≡ ended (frame.old.items ++ to_be_bytes w16 rate) }
+    ensures room { vec_capacity frame.old ≤ vec_capacity frame.new }
+{
+    // It fits, by what is asked for.
+    let _ = frame.extend_from_slice(&u16::from(rate).to_be_bytes());
+    end_frame(frame);
 }
 
 /// The frame CFG-1 or CFG-2 of a stream, of version 2 with FRACSEC 0x0F000000 (C37.118.2, 6.4).
@@ -92,13 +127,10 @@ pub fn write_config(
     ensures frame { IfOk result (λ v. v.items ≡ config_frame kind id soc base rate count (map arc_value parts.now)) }
     ensures memory { IfErr result (λ refusal. refusal ≡ Refusal.NoMemory) }
 {
-    let size = AROUND_BLOCKS + blocks_len(parts);
-    let mut frame = start_frame(alloc, &reply_head(kind, id, soc, size))?;
-    frame.extend_from_slice(&base.to_be_bytes())?;
-    frame.extend_from_slice(&(parts.len() as u16).to_be_bytes())?;
-    add_blocks(&mut frame, count, parts)?;
-    frame.extend_from_slice(&u16::from(rate).to_be_bytes())?;
-    end_frame(&mut frame);
+    let blocks = parts.len() as u16;
+    let mut frame = start_config(alloc, kind, id, soc, base, blocks, blocks_len(parts))?;
+    add_blocks(&mut frame, count, parts);
+    end_config(&mut frame, rate);
     Ok(frame)
 }
 

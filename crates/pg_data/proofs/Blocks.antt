@@ -1,9 +1,9 @@
 -- Data blocks, one behind another.
-use Rattle.std.proofs.Common.{◌≡◌, ℕ, zero, suc, ◌+◌, ◌-◌, ◌<◌, ◌≤◌, List, [], ◌∷◌, ◌++◌, length, map, take, drop, get_or, slice_get, slice_range, Option, Some, None, IfSome, refl, sym, inl, inr, add-one, ap, ap₂, ◌∙◌, arith, length-append, length-drop}
+use Rattle.std.proofs.Common.{◌≡◌, ℕ, zero, suc, pos, ◌+◌, ◌-◌, ◌<◌, ◌≤◌, List, [], ◌∷◌, ◌++◌, length, map, take, drop, get_or, slice_get, slice_range, Option, Some, None, IfSome, refl, sym, inl, inr, add-one, ap, ap₂, ◌∙◌, arith, length-append, length-drop}
 use Rattle.std.proofs.lemmas.List.{take-append-drop, length-take, take_at, drop_at, drop-drop, drop-take, take-take, length-take-le, nil_from_length, get_or-take, get_or-drop, get_or_past}
 use Rattle.std.proofs.lemmas.Bool.{cases_lt}
 use Rattle.pg_wire.specs.Stream.{joined}
-use Rattle.pg_config.specs.Parts.{Part, data_len, data_lens}
+use Rattle.pg_config.specs.Parts.{Part, Source, IsPart, IsSource, part_with, data_len, data_lens}
 
 pub lens_within : (ps : List Part) (i : ℕ) → data_lens (take i ps) ≤ data_lens ps
 lens_within ps zero = omega arith
@@ -105,3 +105,27 @@ place_long ps i start end low s e = rw (s, e, add-one i) (lens_step ps i low)
 
 pub place_within : (ps : List Part) (i end n : ℕ) → n ≡ data_lens ps → end ≡ data_lens (take (i + 1) ps) → end ≤ n
 place_within ps i end n size e = rw (size, e) (lens_within ps (i + 1))
+
+-- a configuration block of at most 2,000 bytes has at most 98 phasors
+part_small : (p : Part) → IsPart p → data_len p ≤ 398
+part_small p is =
+    let phasors : (part_with p.base p.rate p.block).phasors ≡ p.phasors = ap (λ (q : Part). q.phasors) is.counts in
+    let analogs : (part_with p.base p.rate p.block).analogs ≡ p.analogs = ap (λ (q : Part). q.analogs) is.counts in
+    let digitals : (part_with p.base p.rate p.block).digitals ≡ p.digitals = ap (λ (q : Part). q.digitals) is.counts in
+    omega (arith, is.block.size, is.block.bounded, phasors, analogs, digitals)
+
+lens_next : (ps : List Part) (i : ℕ) (p : Part) → i < length ps → data_lens (take (suc i) ps) ≡ data_lens (take i ps) + data_len (get_or ps i p)
+lens_next [] i d h = absurd (omega arith)
+lens_next (p ∷ ps) zero d h = omega arith
+lens_next (p ∷ ps) (suc i) d h = omega (arith, lens_next ps i d (omega arith))
+
+lens_near : (config : Source) → IsSource config → (i : ℕ) → i < length config.parts
+    → (p : Part) → data_lens (take (suc i) config.parts) ≤ data_lens (take i config.parts) + 398
+lens_near config is i h p =
+    omega (arith, lens_next config.parts i p h, part_small (get_or config.parts i p) (is.each i p h).0)
+
+pub place_near : (config : Source) → IsSource config → (i start end : ℕ) → i < length config.parts
+    → start ≡ data_lens (take i config.parts) → end ≡ data_lens (take (i + 1) config.parts) → end ≤ start + 398
+place_near config is i start end h s e =
+    let next : end ≡ data_lens (take (suc i) config.parts) = e ∙ ap (λ k. data_lens (take k config.parts)) (add-one i) in
+    omega (arith, s, next, lens_near config is i h (record { base = 0; rate = pos 0; phasors = 0; analogs = 0; digitals = 0; block = [] }))

@@ -67,6 +67,8 @@ impl DataFrame {
         ensures long { 6 ≤ length result.now }
         // A frame with this block alone keeps FRAMESIZE's two bytes.
         ensures short { 16 + length result.now < 2 ^ 16 }
+        // A configuration block of at most 2,000 bytes leaves room for 98 phasors.
+        ensures few { length result.now ≤ 398 }
     {
         let (start, end) = self.place(i);
         &self.body[start..end]
@@ -79,6 +81,7 @@ impl DataFrame {
         ensures end { result.1 ≡ data_lens (take (i + 1) self.now.config.parts) }
         ensures size { IfSome (slice_get self.now.config.parts i) (λ part. result.0 + data_len part ≡ result.1) }
         ensures long { result.0 + 6 ≤ result.1 }
+        ensures few { result.1 ≤ result.0 + 398 }
         ensures within { result.1 ≤ length self.now.body }
     {
         let _ = &self.body;

@@ -5,6 +5,7 @@ mod filler;
 mod frame;
 mod laws;
 mod read;
+mod shared;
 
 pub use filler::filler_into;
 pub use frame::DataFrame;
@@ -12,6 +13,7 @@ pub use laws::{
     block_is_spelled, filler_is_block, one_resolution, own_block_alone, written_is_read,
 };
 pub use read::read_data;
+pub use shared::SharedBlock;
 
 #[cfg(test)]
 mod tests;

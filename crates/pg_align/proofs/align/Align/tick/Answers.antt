@@ -1,0 +1,10 @@
+use Rattle.std.proofs.Common.{arith}
+use Rattle.pg_align.proofs.Kept.{kept_steps}
+use Rattle.pg_align.proofs.Histories.{Shows-tick}
+use Rattle.pg_align.proofs.align.Align.tick.Goals as goal
+
+pub returns-clause-shown : goal.returns-clause-shown
+returns-clause-shown c = grind (arith, kept_steps)
+
+pub returns-clause-history : goal.returns-clause-history
+returns-clause-history c h s = rw (returns-clause-shown c) (Shows-tick c.args.self.now h s)

@@ -1,0 +1,46 @@
+-- What the fields of an alignment mean, and what they keep.
+use Rattle.std.specs.Prelude.{◌≡◌, ◌+◌, ◌≤◌, [], ◌∷◌, None, Some, List, length, map, Option, vec_capacity, false}
+use Rattle.pg_data.specs.Shared.{Piece}
+use Rattle.pg_align.specs.Slots.{OpenSlot, Aligned, HavePlaces, AreFree, AreRising}
+use Rattle.pg_align.specs.declared.slot.Slot.{Slot}
+use Rattle.pg_align.specs.declared.align.Align.TheInside.{Inside}
+
+-- a slot of the code, as it is seen
+abbrev pub slot_of : Slot → OpenSlot Piece
+slot_of slot = record { slot = slot.number; ticks_left = slot.ticks_left; parts = slot.parts.items }
+
+abbrev pub slots_of : List Slot → List (OpenSlot Piece)
+slots_of slots = map slot_of slots
+
+-- the slot that left and is lent, if there is one
+abbrev pub lent : Option Slot → List Slot
+lent None = []
+lent (Some slot) = slot ∷ []
+
+abbrev pub aligned_of : Inside → Aligned Piece
+aligned_of a =
+    record {
+      window = a.window;
+      wait = a.wait;
+      effective = a.effective.items;
+      is_on = a.is_on;
+      last = a.last;
+      slots = slots_of a.slots.items;
+    }
+
+pub record IsKept (a : Inside) : Type 0 where
+  pub some_window : 1 ≤ a.window
+  pub small_window : a.window ≤ 64
+  pub small_wait : a.wait ≤ 60000
+  pub some_members : 1 ≤ length a.effective.items
+  pub few_members : length a.effective.items ≤ 32
+  -- each of the reserved slots is open, free or lent
+  pub all_slots : length a.slots.items + (length a.spare.items + length (lent a.leaving)) ≡ a.window + 1
+  pub slots_room : a.window + 1 ≤ vec_capacity a.slots
+  pub spare_room : a.window + 1 ≤ vec_capacity a.spare
+  pub slots_places : HavePlaces (length a.effective.items) (slots_of a.slots.items)
+  pub rising : AreRising (slots_of a.slots.items)
+  pub spare_free : AreFree (length a.effective.items) (slots_of a.spare.items)
+  pub lent_places : HavePlaces (length a.effective.items) (slots_of (lent a.leaving))
+  -- while it is off, no slot is open
+  pub off : a.is_on ≡ false → a.slots.items ≡ []

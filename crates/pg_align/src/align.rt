@@ -1,0 +1,276 @@
+//! The alignment of a stream. A clause sees it as its open slots.
+ghost use Rattle.std.specs.Prelude.{◌≡◌, ◌<◌, ◌≤◌, ◌↔◌, ℕ, List, [], ◌∷◌, length, slice_index_or, option_map, Option, Some, None, IsTrue, IfSome, IfNone, IsSome, IfOk, IfErr, nat_le, false};
+ghost use Rattle.std.specs.Borrow.{sem};
+ghost use Rattle.pg_data.specs.Shared.{Piece};
+ghost use Rattle.pg_stream.specs.Limits.{IsWithinLimits};
+ghost use Rattle.pg_align.specs.Histories.{Departed, History, answer_to, discarded, is_above, next_to_flush, next_to_leave, open_slots, opening, reshaped, started, take_arrival, ticked};
+ghost use Rattle.pg_align.specs.Slots.{Aligned, HavePlaces, answer_at, flushed_of, head_of, head_with, least_of, leaves_now, leaving_of, none_open, others_than, with_arrival, with_none, with_shape, with_start, with_tick};
+ghost use Rattle.pg_align.specs.Shown.{Shows};
+ghost use Rattle.pg_align.specs.Fields.{slot_of, slots_of};
+
+use crate::answer::Arrived;
+use crate::slot::{
+    Slot, add_arrival, free_all, free_slots, is_complete, take_back, take_least, tick_all,
+};
+use pg_data::SharedBlock;
+use pg_stream::Definition;
+use pg_wire::Refusal;
+use std::alloc::Global;
+use std::marker::Model;
+
+/// A stream's open slots, by rising number, in places that were reserved: one slot more than the window (own rule). Only
+/// `new` takes memory. A block that came is kept until its slot has left, and is given up at the next call that changes
+/// anything.
+#[derive(Drop)]
+pub struct Align {
+    window: usize,
+    wait: u32,
+    effective: Vec<bool>,
+    is_on: bool,
+    last: Option<u64>,
+    slots: Vec<Slot>,
+    spare: Vec<Slot>,
+    leaving: Option<Slot>,
+}
+
+impl Model for Align {
+    ghost use Rattle.pg_data.specs.Shared.{Piece};
+    ghost use Rattle.pg_align.specs.Slots.{Aligned};
+
+    ghost Value = { Aligned Piece };
+
+    ghost use Rattle.pg_align.specs.Fields.{aligned_of, IsKept};
+
+    ghost view = { aligned_of };
+
+    ghost invariant = { IsKept };
+}
+
+/// A slot that left, lent until the next call.
+#[derive(Drop)]
+pub struct Left<'a> {
+    /// The slot's number.
+    pub slot: u64,
+    /// For each member, in the definition's order, its data block, or none where it did not come.
+    pub parts: &'a [Option<SharedBlock>],
+}
+
+impl Align {
+    ghost use Rattle.pg_align.specs.Lending.{LendsLeaving, LendsLeast};
+
+    /// The alignment of a stream that is off and has no effective member, with its slots and places reserved. It asks for
+    /// a definition within the limits. Refused with `NoMemory` alone.
+    pub fn new(alloc: Global, definition: &Definition) -> Result<Align, Refusal>
+        requires { IsWithinLimits definition.now }
+        ensures shown { IfOk result (λ align.
+            align ≡ none_open definition.now.window definition.now.wait (length definition.now.members)) }
+        ensures history { IfOk result (λ align.
+            Shows align (opening definition.now.window definition.now.wait (length definition.now.members))) }
+        ensures memory { IfErr result (λ refusal. refusal ≡ Refusal.NoMemory) }
+    {
+        let window = definition.window as usize;
+        let places = definition.members.as_slice().len();
+        let effective = vec![in alloc; false; places]?;
+        let slots = Vec::with_capacity(alloc, window + 1)?;
+        let spare = free_slots(alloc, window + 1, places)?;
+        Ok(Align {
+            window,
+            wait: definition.wait,
+            effective,
+            is_on: false,
+            last: None,
+            slots,
+            spare,
+            leaving: None,
+        })
+    }
+
+    /// Whether the stream is on.
+    pub fn is_on(&self) -> bool
+        ensures shown { result ≡ self.now.is_on }
+        ensures history { (h : History Piece) → Shows self.now h → result ≡ h.is_on }
+    {
+        self.is_on
+    }
+
+    /// The number of open slots. It is at most the window once `leave_next` has answered `None`.
+    pub fn open_slots(&self) -> usize
+        ensures shown { result ≡ length self.now.slots }
+        ensures history { (h : History Piece) → Shows self.now h → result ≡ length (open_slots h) }
+    {
+        self.slots.len()
+    }
+
+    /// Whether at most the window's slots are open, as they are once `leave_next` has answered `None`: then there is room
+    /// for any arrival.
+    pub fn has_room(&self) -> bool
+        ensures shown { result ≡ nat_le (length self.now.slots) self.now.window }
+        ensures room { IsTrue result → (slot : ℕ) → others_than slot self.now.slots ≤ self.now.window }
+    {
+        self.slots.len() <= self.window
+    }
+
+    /// Whether the member at this place in the definition's order is effective.
+    pub fn is_effective(&self, place: usize) -> bool
+        ensures shown { result ≡ slice_index_or self.now.effective place false }
+        ensures history { (h : History Piece) → Shows self.now h → result ≡ slice_index_or h.effective place false }
+    {
+        place < self.effective.len() && self.effective[place]
+    }
+
+    /// Switches the stream on, with no last slot and no open slot. A stream that is on stays as it is.
+    pub fn start(&mut self)
+        ensures shown { self.new ≡ with_start self.old }
+        ensures history { (h : History Piece) → Shows self.old h → Shows self.new (started h) }
+    {
+        if !self.is_on {
+            self.is_on = true;
+            self.last = None;
+        }
+    }
+
+    /// Switches the stream off; its open slots are discarded.
+    pub fn discard(&mut self)
+        ensures shown { self.new ≡ with_none self.old }
+        ensures history { (h : History Piece) → Shows self.old h → Shows self.new (discarded h) }
+    {
+        take_back(&mut self.leaving, &mut self.spare);
+        free_all(&mut self.slots, &mut self.spare);
+        self.is_on = false;
+    }
+
+    /// Takes other members for effective: one `bool` for each, in the definition's order. It asks that no slot is open.
+    pub fn reshape(&mut self, effective: &[bool])
+        requires members { length effective.now ≡ length self.old.effective }
+        requires none_open { self.old.slots ≡ [] }
+        ensures shown { self.new ≡ with_shape self.old effective.now }
+        ensures history { (h : History Piece) → Shows self.old h → Shows self.new (reshaped h effective.now) }
+    {
+        self.effective.copy_from_slice(effective);
+    }
+
+    /// Takes a member's data block for a slot, where `place` is the member's in the definition's order. A slot at or below
+    /// the last one that left is late, and a second block of a member for a slot is ignored. It asks that the stream is
+    /// on, that the member is effective, and that at most the window's slots are open besides this one.
+    pub fn arrive(&mut self, slot: u64, place: usize, block: SharedBlock) -> Arrived
+        requires on { IsTrue self.old.is_on }
+        requires effective { IsTrue (slice_index_or self.old.effective place false) }
+        requires room { others_than slot self.old.slots ≤ self.old.window }
+        ensures answer { result ≡ answer_at self.old slot place }
+        ensures shown { self.new ≡ with_arrival self.old slot place block }
+        // A further block for the same slot finds the same room.
+        ensures room { others_than slot self.new.slots ≡ others_than slot self.old.slots }
+        ensures history { (h : History Piece) → Shows self.old h
+            → (result ≡ answer_to h slot place) × Shows self.new (take_arrival h slot place block) }
+    {
+        take_back(&mut self.leaving, &mut self.spare);
+        if !is_after(self.last, slot) {
+            return Arrived::Late;
+        }
+        let places = self.effective.len();
+        if add_arrival(
+            &mut self.slots,
+            &mut self.spare,
+            places,
+            self.wait,
+            slot,
+            place,
+            block,
+        ) {
+            Arrived::Kept
+        } else {
+            Arrived::Twice
+        }
+    }
+
+    /// A tick: one less is left for each open slot.
+    #[tactic(auto, using(crate::proofs::Kept::kept_steps))]
+    pub fn tick(&mut self)
+        ensures shown { self.new ≡ with_tick self.old }
+        ensures history { (h : History Piece) → Shows self.old h → Shows self.new (ticked h) }
+    {
+        tick_all(&mut self.slots);
+    }
+
+    /// The least open slot leaves if each effective member has come, if it is due, or if more than the window are open. It
+    /// is lent until the next call.
+    #[tactic(auto, using(crate::proofs::Kept::kept_steps))]
+    pub fn leave_next(&mut self) -> Option<Left<'_>>
+        ensures* after { sem 𝓛 (LendsLeaving self.entry) }
+        ensures leaves { option_map (λ left. head_with left.slot left.parts.now) result ≡ leaving_of self.old }
+        ensures members { IfSome result (λ left. length left.parts.now ≡ length self.old.effective) }
+        ensures few { IfNone result (length self.old.slots ≤ self.old.window) }
+        ensures history { (h : History Piece) → Shows self.old h
+            → option_map (λ left. head_with left.slot left.parts.now) result ≡ next_to_leave h }
+    {
+        take_back(&mut self.leaving, &mut self.spare);
+        if !least_is_leaving(&self.slots, &self.effective, self.window) {
+            return None;
+        }
+        let least = take_least(&mut self.slots);
+        self.last = Some(least.number);
+        self.leaving = Some(least);
+        lend(&self.leaving)
+    }
+
+    /// The least open slot leaves, whatever has come: a flush is this until it answers `None`. It is lent until the next
+    /// call.
+    #[tactic(auto, using(crate::proofs::Kept::kept_steps))]
+    pub fn flush_next(&mut self) -> Option<Left<'_>>
+        ensures* after { sem 𝓛 (LendsLeast self.entry) }
+        ensures leaves { option_map (λ left. head_with left.slot left.parts.now) result ≡ flushed_of self.old }
+        ensures members { IfSome result (λ left. length left.parts.now ≡ length self.old.effective) }
+        ensures none { IfNone result (self.old.slots ≡ []) }
+        ensures history { (h : History Piece) → Shows self.old h
+            → option_map (λ left. head_with left.slot left.parts.now) result ≡ next_to_flush h }
+    {
+        take_back(&mut self.leaving, &mut self.spare);
+        if self.slots.is_empty() {
+            return None;
+        }
+        let first = take_least(&mut self.slots);
+        self.last = Some(first.number);
+        self.leaving = Some(first);
+        lend(&self.leaving)
+    }
+}
+
+/// Whether a slot comes after the last one that left.
+fn is_after(last: Option<u64>, slot: u64) -> bool
+    ensures { result ≡ is_above last slot }
+{
+    match last {
+        None => true,
+        Some(last) => last < slot,
+    }
+}
+
+/// Whether the least slot is complete or due, or one of more than the window.
+fn least_is_leaving(slots: &[Slot], effective: &[bool], window: usize) -> bool
+    requires { HavePlaces (length effective.now) (slots_of slots.now) }
+    ensures leaves { result ≡ leaves_now window effective.now (slots_of slots.now) }
+    ensures some_slot { IsTrue result → 0 < length slots.now }
+    ensures few { result ≡ false → length slots.now ≤ window }
+{
+    match slots.first() {
+        None => false,
+        Some(least) => {
+            is_complete(effective, &least.parts) || least.ticks_left == 0 || slots.len() > window
+        }
+    }
+}
+
+/// Lends the slot that left.
+fn lend(leaving: &Option<Slot>) -> Option<Left<'_>>
+    ensures some { IsSome result ↔ IsSome leaving.now }
+    ensures lent { IfSome result (λ left. IfSome leaving.now (λ slot.
+        (left.slot ≡ slot.number) × (left.parts.now ≡ slot.parts.items))) }
+{
+    match leaving {
+        None => None,
+        Some(slot) => Some(Left {
+            slot: slot.number,
+            parts: slot.parts.as_slice(),
+        }),
+    }
+}

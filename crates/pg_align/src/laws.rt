@@ -1,0 +1,68 @@
+//! Laws of slots that leave, as contracts of functions that do nothing: a caller that needs one calls it.
+ghost use Rattle.std.specs.Prelude.{◌≡◌, ◌≤◌, ℕ, List, [], length, Some, None};
+ghost use Rattle.pg_data.specs.Shared.{Piece};
+ghost use Rattle.pg_align.specs.Histories.{Departed, History, flush_all, flush_one, leave_all, leave_one, next_to_flush, next_to_leave, open_slots, with_first};
+ghost use Rattle.pg_align.specs.Slots.{Aligned, OpenSlot, after_leaving, all_flushed, all_leaving, flushed_of, leaving_of, others_than, without_least};
+ghost use Rattle.pg_align.specs.Shown.{Shows};
+
+/// What `leave_next` does, by the list of all arrivals: whatever history an alignment shows, the slot that leaves is that
+/// history's, and afterwards it shows that history with this slot gone. The same of all slots that leave, one after
+/// another.
+pub fn leaving_shows_history()
+    ensures next { (align : Aligned Piece) (h : History Piece) → Shows align h → leaving_of align ≡ next_to_leave h }
+    ensures after { (align : Aligned Piece) (h : History Piece) → Shows align h
+        → Shows (after_leaving align) (leave_one h) }
+    ensures frames { (align : Aligned Piece) (h : History Piece) → Shows align h
+        → (all_leaving align).frames ≡ (leave_all h).frames }
+    ensures end { (align : Aligned Piece) (h : History Piece) → Shows align h
+        → Shows (all_leaving align).after (leave_all h).after }
+{}
+
+/// What `flush_next` does, by the list of all arrivals, and the same of all open slots.
+pub fn flushing_shows_history()
+    ensures next { (align : Aligned Piece) (h : History Piece) → Shows align h → flushed_of align ≡ next_to_flush h }
+    ensures after { (align : Aligned Piece) (h : History Piece) → Shows align h
+        → Shows (without_least align) (flush_one h) }
+    ensures frames { (align : Aligned Piece) (h : History Piece) → Shows align h
+        → (all_flushed align).frames ≡ (flush_all h).frames }
+    ensures end { (align : Aligned Piece) (h : History Piece) → Shows align h
+        → Shows (all_flushed align).after (flush_all h).after }
+{}
+
+/// The slots that leave are the next one and those that leave after it: what a loop over `leave_next` carries along.
+pub fn all_leaving_in_steps()
+    ensures some { (align : Aligned Piece) (first : Departed Piece) → leaving_of align ≡ Some first
+        → all_leaving align ≡ with_first first (all_leaving (after_leaving align)) }
+    ensures none { (align : Aligned Piece) → leaving_of align ≡ None
+        → all_leaving align ≡ record { frames = []; after = align } }
+{}
+
+/// The slots of a flush are the next one and those that leave after it: what a loop over `flush_next` carries along.
+pub fn all_flushed_in_steps()
+    ensures some { (align : Aligned Piece) (first : Departed Piece) → flushed_of align ≡ Some first
+        → all_flushed align ≡ with_first first (all_flushed (without_least align)) }
+    ensures none { (align : Aligned Piece) → flushed_of align ≡ None
+        → all_flushed align ≡ record { frames = []; after = align } }
+{}
+
+/// By the list of all arrivals: while a slot is to leave it leaves, and what leaves after it is what the history then lets
+/// leave; where none is to leave, nothing changes.
+pub fn leaving_repeats()
+    ensures some { (h : History Piece) (first : Departed Piece) → next_to_leave h ≡ Some first
+        → leave_all h ≡ with_first first (leave_all (leave_one h)) }
+    ensures none { (h : History Piece) → next_to_leave h ≡ None → leave_all h ≡ record { frames = []; after = h } }
+    ensures ends { (h : History Piece) → next_to_leave (leave_all h).after ≡ None }
+    ensures flushed { (h : History Piece) (first : Departed Piece) → next_to_flush h ≡ Some first
+        → flush_all h ≡ with_first first (flush_all (flush_one h)) }
+    ensures none_open { (h : History Piece) → open_slots (flush_all h).after ≡ [] }
+{}
+
+/// Once all that are to leave have left, at most the window's slots are open; after a flush none is. So there is room for
+/// an arrival.
+pub fn few_stay_open()
+    ensures others { (slots : List (OpenSlot Piece)) (slot : ℕ) → others_than slot slots ≤ length slots }
+    ensures left { (align : Aligned Piece) → length (all_leaving align).after.slots ≤ align.window }
+    ensures flushed { (align : Aligned Piece) → (all_flushed align).after.slots ≡ [] }
+    ensures count { (align : Aligned Piece) (h : History Piece) → Shows align h
+        → length align.slots ≡ length (open_slots h) }
+{}

@@ -1,0 +1,22 @@
+//! Time alignment: the open slots of a stream, and which of them leave when (own rules).
+//!
+//! A slot opens with its first arrival. The least open slot leaves when all effective members have come, when it has
+//! waited long enough, or when more than the window are open; a flush lets all of them leave.
+#![tactic(auto)]
+
+mod align;
+mod answer;
+mod laws;
+mod slot;
+
+pub use align::{Align, Left};
+pub use answer::Arrived;
+pub use laws::{
+    all_flushed_in_steps, all_leaving_in_steps, few_stay_open, flushing_shows_history,
+    leaving_repeats, leaving_shows_history,
+};
+
+#[cfg(test)]
+mod plain;
+#[cfg(test)]
+mod tests;

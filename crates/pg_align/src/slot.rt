@@ -1,0 +1,247 @@
+//! One open slot, and lists of them: the open ones by rising number, and the free ones.
+ghost use Rattle.std.specs.Prelude.{◌≡◌, ◌+◌, ◌<◌, ◌≤◌, ℕ, [], ◌∷◌, length, replicate, slice_set, slice_get, slice_index_or, Some, None, is_some, vec_len, vec_capacity, IsTrue, IfOk, IfErr, false, map, insert};
+ghost use Rattle.pg_data.specs.Shared.{Piece};
+ghost use Rattle.pg_align.specs.Histories.{has_all};
+ghost use Rattle.pg_align.specs.Slots.{one_tick_less, AreFree, AreRising, HavePlaces, OpenSlot, StandsAt, count_below, others_than, put_into, part_at, with_part, fresh_slot};
+ghost use Rattle.pg_align.specs.Fields.{slot_of, slots_of, lent};
+
+use pg_data::SharedBlock;
+use std::alloc::{AllocError, Global};
+
+/// A slot: its number, the ticks that are left until it is due, and a block or none for each member.
+#[derive(Drop)]
+pub(crate) struct Slot {
+    pub(crate) number: u64,
+    pub(crate) ticks_left: u32,
+    pub(crate) parts: Vec<Option<SharedBlock>>,
+}
+
+/// Gives up all parts; their places stay.
+fn clear_parts(parts: &mut [Option<SharedBlock>])
+    ensures { parts.new ≡ replicate (length parts.old) None }
+{
+    for part in parts.iter_mut() {
+        *part = None;
+    }
+}
+
+/// Whether each effective place has a part.
+pub(crate) fn is_complete(effective: &[bool], parts: &[Option<SharedBlock>]) -> bool
+    requires { length effective.now ≡ length parts.now }
+    ensures { result ≡ has_all effective.now parts.now }
+{
+    for (place, wanted) in effective.iter().enumerate() {
+        if *wanted && parts[place].is_none() {
+            return false;
+        }
+    }
+    true
+}
+
+/// Puts a part into its place, unless one is there.
+#[tactic(auto, using(crate::proofs::Parts::part_steps))]
+fn put_part(parts: &mut [Option<SharedBlock>], place: usize, part: SharedBlock) -> bool
+    requires { place < length parts.old }
+    ensures kept { IsTrue result → (slice_index_or parts.old place None ≡ None)
+        × (parts.new ≡ slice_set parts.old place (Some part)) }
+    ensures twice { result ≡ false → IsTrue (is_some (slice_index_or parts.old place None)) × (parts.new ≡ parts.old) }
+{
+    if parts[place].is_some() {
+        return false;
+    }
+    parts[place] = Some(part);
+    true
+}
+
+/// One tick less is left for each.
+pub(crate) fn tick_all(slots: &mut [Slot])
+    ensures { slots_of slots.new ≡ map one_tick_less (slots_of slots.old) }
+{
+    for slot in slots.iter_mut() {
+        slot.ticks_left = slot.ticks_left.saturating_sub(1);
+    }
+}
+
+/// Takes the first slot out.
+pub(crate) fn take_least(slots: &mut Vec<Slot>) -> Slot
+    requires { 0 < vec_len slots.old }
+    ensures slots { slots_of slots.old.items ≡ slot_of result ∷ slots_of slots.new.items }
+    ensures len { length slots.old.items ≡ length slots.new.items + 1 }
+    ensures capacity { vec_capacity slots.new ≡ vec_capacity slots.old }
+{
+    slots.remove(0)
+}
+
+/// Takes back the slot that was lent, and gives up its parts.
+#[tactic(auto, using(crate::proofs::Kept::kept_steps))]
+pub(crate) fn take_back(leaving: &mut Option<Slot>, spare: &mut Vec<Slot>)
+    requires room { vec_len spare.old + length (lent leaving.old) ≤ vec_capacity spare.old }
+    ensures none { leaving.new ≡ None }
+    ensures len { length spare.new.items ≡ length spare.old.items + length (lent leaving.old) }
+    ensures free { (places : ℕ) → AreFree places (slots_of spare.old.items)
+        → HavePlaces places (slots_of (lent leaving.old)) → AreFree places (slots_of spare.new.items) }
+    ensures capacity { vec_capacity spare.new ≡ vec_capacity spare.old }
+{
+    if let Some(mut slot) = leaving.take() {
+        clear_parts(&mut slot.parts);
+        spare.push_reserved(slot);
+    }
+}
+
+/// Gives up the parts of all slots; these are free then.
+#[tactic(auto, using(crate::proofs::Kept::kept_steps))]
+pub(crate) fn free_all(slots: &mut Vec<Slot>, spare: &mut Vec<Slot>)
+    requires room { length slots.old.items + length spare.old.items ≤ vec_capacity spare.old }
+    ensures none { slots.new.items ≡ [] }
+    ensures len { length spare.new.items ≡ length slots.old.items + length spare.old.items }
+    ensures free { (places : ℕ) → AreFree places (slots_of spare.old.items)
+        → HavePlaces places (slots_of slots.old.items) → AreFree places (slots_of spare.new.items) }
+    ensures capacity { (vec_capacity slots.new ≡ vec_capacity slots.old)
+        × (vec_capacity spare.new ≡ vec_capacity spare.old) }
+{
+    while let Some(mut slot) = slots.pop() {
+        clear_parts(&mut slot.parts);
+        spare.push_reserved(slot);
+    }
+}
+
+/// The place of the first slot whose number is not below this one, looked for from the newest end: most arrivals are for
+/// the newest slot or one near it.
+fn first_from(slots: &[Slot], number: u64) -> usize
+    requires rising { AreRising (slots_of slots.now) }
+    ensures place { result ≡ count_below number (slots_of slots.now) }
+    ensures within { result ≤ length slots.now }
+{
+    let mut place = slots.len();
+    while place > 0 && slots[place - 1].number >= number {
+        place -= 1;
+    }
+    place
+}
+
+/// Where a slot stands among the open ones, or else where it would.
+fn place_of(slots: &[Slot], number: u64) -> Result<usize, usize>
+    requires rising { AreRising (slots_of slots.now) }
+    ensures stands { IfOk result (λ at. StandsAt number (slots_of slots.now) at) }
+    ensures inside { IfOk result (λ at. at < length slots.now) }
+    ensures away { IfErr result (λ at. (at ≡ count_below number (slots_of slots.now))
+        × (others_than number (slots_of slots.now) ≡ length slots.now)) }
+    ensures within { IfErr result (λ at. at ≤ length slots.now) }
+{
+    let at = first_from(slots, number);
+    if at < slots.len() && slots[at].number == number {
+        Ok(at)
+    } else {
+        Err(at)
+    }
+}
+
+/// Puts a part into the slot at `at`, unless one is there.
+#[tactic(auto, using(crate::proofs::Parts::part_steps))]
+fn add_part(slots: &mut Vec<Slot>, at: usize, place: usize, part: SharedBlock) -> bool
+    requires within { at < vec_len slots.old }
+    requires places { (slot : OpenSlot Piece) → slice_get (slots_of slots.old.items) at ≡ Some slot
+        → place < length slot.parts }
+    ensures kept { IsTrue result → (slot : OpenSlot Piece) → slice_get (slots_of slots.old.items) at ≡ Some slot
+        → (slice_index_or slot.parts place None ≡ None)
+        × (slots_of slots.new.items ≡ slice_set (slots_of slots.old.items) at (put_into slot place part)) }
+    ensures twice { result ≡ false → (slots_of slots.new.items ≡ slots_of slots.old.items)
+        × ((slot : OpenSlot Piece) → slice_get (slots_of slots.old.items) at ≡ Some slot
+        → IsTrue (is_some (slice_index_or slot.parts place None))) }
+    ensures len { length slots.new.items ≡ length slots.old.items }
+    ensures capacity { vec_capacity slots.new ≡ vec_capacity slots.old }
+{
+    let slot = &mut slots[at];
+    put_part(&mut slot.parts, place, part)
+}
+
+/// Opens a slot at `at` with one part, in places that were free.
+#[tactic(auto, using(crate::proofs::Parts::part_steps))]
+fn open_slot(slots: &mut Vec<Slot>, at: usize, mut fresh: Slot, place: usize, part: SharedBlock)
+    requires room { vec_len slots.old < vec_capacity slots.old }
+    requires within { at ≤ vec_len slots.old }
+    requires place { place < vec_len fresh.parts }
+    ensures slots { slots_of slots.new.items ≡ insert (slots_of slots.old.items) at (put_into (slot_of fresh) place part) }
+    ensures len { length slots.new.items ≡ length slots.old.items + 1 }
+    ensures capacity { vec_capacity slots.new ≡ vec_capacity slots.old }
+{
+    fresh.parts[place] = Some(part);
+    let Ok(()) = slots.insert(at, fresh) else {
+        unreachable!();
+    };
+}
+
+/// Puts a part of a slot into its place, and opens the slot if it is not open: each slot has that many places. Nothing
+/// changes if a part is there, and the answer is then `false`.
+pub(crate) fn add_arrival(
+    slots: &mut Vec<Slot>,
+    spare: &mut Vec<Slot>,
+    places: usize,
+    wait: u32,
+    slot: u64,
+    place: usize,
+    part: SharedBlock,
+) -> bool
+    requires room { others_than slot (slots_of slots.old.items) < vec_capacity slots.old }
+    requires spare { others_than slot (slots_of slots.old.items) < length slots.old.items + length spare.old.items }
+    requires place { place < places }
+    requires places { HavePlaces places (slots_of slots.old.items) }
+    requires rising { AreRising (slots_of slots.old.items) }
+    requires free { AreFree places (slots_of spare.old.items) }
+    ensures kept { IsTrue result → (part_at (slots_of slots.old.items) slot place ≡ None)
+        × (slots_of slots.new.items ≡ with_part (fresh_slot slot wait places place part) place part (slots_of slots.old.items)) }
+    ensures twice { result ≡ false → IsTrue (is_some (part_at (slots_of slots.old.items) slot place))
+        × (slots_of slots.new.items ≡ slots_of slots.old.items) }
+    ensures count { length slots.new.items + length spare.new.items ≡ length slots.old.items + length spare.old.items }
+    ensures places { HavePlaces places (slots_of slots.new.items) }
+    ensures rising { AreRising (slots_of slots.new.items) }
+    ensures free { AreFree places (slots_of spare.new.items) }
+    ensures capacity { (vec_capacity slots.new ≡ vec_capacity slots.old)
+        × (vec_capacity spare.new ≡ vec_capacity spare.old) }
+{
+    let at = match place_of(slots, slot) {
+        Ok(at) => return add_part(slots, at, place, part),
+        Err(at) => at,
+    };
+    let Some(mut fresh) = spare.pop() else {
+        unreachable!();
+    };
+    fresh.number = slot;
+    fresh.ticks_left = wait;
+    open_slot(slots, at, fresh, place, part);
+    true
+}
+
+/// Places for parts, all free.
+fn free_parts(alloc: Global, places: usize) -> Result<Vec<Option<SharedBlock>>, AllocError>
+    ensures { IfOk result (λ parts. parts.items ≡ replicate places None) }
+{
+    let mut parts = Vec::with_capacity(alloc, places)?;
+    for _place in 0..places {
+        parts.push_reserved(None);
+    }
+    Ok(parts)
+}
+
+/// Slots with places that are all free.
+#[tactic(auto, using(crate::proofs::Kept::kept_steps))]
+pub(crate) fn free_slots(
+    alloc: Global,
+    count: usize,
+    places: usize,
+) -> Result<Vec<Slot>, AllocError>
+    ensures count { IfOk result (λ slots. length slots.items ≡ count) }
+    ensures room { IfOk result (λ slots. vec_capacity slots ≡ count) }
+    ensures free { IfOk result (λ slots. AreFree places (slots_of slots.items)) }
+{
+    let mut slots = Vec::with_capacity(alloc, count)?;
+    for _slot in 0..count {
+        let parts = free_parts(alloc, places)?;
+        slots.push_reserved(Slot {
+            number: 0,
+            ticks_left: 0,
+            parts,
+        });
+    }
+    Ok(slots)
+}

@@ -1,0 +1,7 @@
+pub mod Orders
+pub mod Places
+pub mod Blocks
+pub mod Joining
+pub mod Joined
+pub mod Reading
+pub mod Changes

@@ -1,0 +1,140 @@
+//! The data frame of a slot.
+ghost use Rattle.std.specs.Prelude.{◌≡◌, ◌+◌, ◌/◌, ◌<◌, ◌≤◌, ◌++◌, ◌^◌, List, length, drop, zip, IfOk, IfErr, IfSome, vec_len, vec_capacity};
+ghost use Rattle.pg_wire.specs.Stream.{joined};
+ghost use Rattle.pg_stream.specs.Limits.{IsWithinLimits};
+ghost use Rattle.pg_outcfg.specs.Quality.{joined_quality};
+ghost use Rattle.pg_outcfg.specs.Frames.{block_or_filler, data_blocks, qualities_of, data_frame_of};
+
+use crate::list::ConfigList;
+use pg_config::PmuConfig;
+use pg_data::{SharedBlock, filler_into};
+use pg_stream::{Definition, stamp_of};
+use pg_wire::{Head, Kind, PmuKey, Refusal, end_frame, start_frame};
+use std::alloc::Global;
+
+/// How many bytes a frame has beside its body.
+const AROUND_BODY: u16 = 16;
+
+/// The leap second flags of a time quality (C37.118.2, 6.2.2).
+const LEAP_FLAGS: u8 = 0x70;
+
+/// The quality code of a time quality.
+const QUALITY_CODE: u8 = 0x0F;
+
+/// The data frame of a slot (C37.118.2, 6.3): the slot's stamp, the joined quality of the frames that are present, and for
+/// each member that stands in `listed`, in the definition's order, its block in the slot or the filler.
+///
+/// `parts` has for each member of the definition, in its order, the block that came for it in this slot, or none. It asks
+/// for a definition that `check_definition` accepts, and of the slot what `stamp_of` asks. The one refusal is `NoMemory`;
+/// the frame is one allocation of its size, at most 12,752 bytes, and blocks are copied as they are.
+pub fn data_frame(
+    alloc: Global,
+    definition: &Definition,
+    slot: u64,
+    listed: &ConfigList,
+    parts: &[Option<SharedBlock>],
+) -> Result<Vec<u8>, Refusal>
+    requires limits { IsWithinLimits definition.now }
+    requires time { slot / definition.now.rate < 2 ^ 32 }
+    requires parts { length parts.now ≡ length definition.now.members }
+    ensures frame { IfOk result (λ v. v.items ≡ data_frame_of definition.now slot listed.now parts.now) }
+    ensures least { IfOk result (λ v. 16 ≤ vec_len v) }
+    ensures most { IfOk result (λ v. vec_len v ≤ 12752) }
+    ensures memory { IfErr result (λ refusal. refusal ≡ Refusal.NoMemory) }
+{
+    let members = definition.members.as_slice();
+    let size = AROUND_BODY + body_len(members, listed, parts);
+    let (soc, frac) = stamp_of(definition.rate, definition.base, slot);
+    let head = Head {
+        kind: Kind::Measured,
+        version: 2,
+        size,
+        id: definition.stream.get(),
+        soc,
+        quality: join_qualities(parts),
+        frac,
+    };
+    let mut frame = start_frame(alloc, &head)?;
+    add_blocks(&mut frame, members, listed, parts);
+    end_frame(&mut frame);
+    Ok(frame)
+}
+
+/// The joined time quality of the blocks that are there (own rule): each leap second flag that one has, and the greatest
+/// quality code. Bit 7 is 0.
+fn join_qualities(parts: &[Option<SharedBlock>]) -> u8
+    ensures { result ≡ joined_quality (qualities_of parts.now) }
+{
+    let mut flags = 0;
+    let mut code = 0;
+    for part in parts {
+        if let Some(block) = part {
+            let quality = block.quality();
+            flags |= quality & LEAP_FLAGS;
+            code = code.max(quality & QUALITY_CODE);
+        }
+    }
+    flags | code
+}
+
+/// How many bytes stand for an effective member.
+fn part_len(config: &PmuConfig, part: &Option<SharedBlock>) -> u16
+    ensures value { result ≡ length (block_or_filler config.now part.now) }
+    ensures most { result ≤ 398 }
+{
+    match part {
+        Some(block) => block.bytes().len() as u16,
+        None => config.block_len() as u16,
+    }
+}
+
+/// Adds what stands for an effective member, in the room that is there.
+fn add_part(frame: &mut Vec<u8>, config: &PmuConfig, part: &Option<SharedBlock>)
+    requires { vec_len frame.old + length (block_or_filler config.now part.now) ≤ vec_capacity frame.old }
+    ensures bytes { frame.new.items ≡ frame.old.items ++ block_or_filler config.now part.now }
+    ensures len { vec_len frame.new ≡ vec_len frame.old + length (block_or_filler config.now part.now) }
+    ensures room { vec_capacity frame.old ≤ vec_capacity frame.new }
+{
+    match part {
+        Some(block) => {
+            // It fits, by what is asked for.
+            let _ = frame.extend_from_slice(block.bytes());
+        }
+        None => filler_into(config, frame),
+    }
+}
+
+/// How many bytes the data blocks of the effective members have.
+fn body_len(members: &[PmuKey], listed: &ConfigList, parts: &[Option<SharedBlock>]) -> u16
+    requires few { length members.now ≤ 32 }
+    requires parts { length parts.now ≡ length members.now }
+    ensures value { result ≡ length (joined (data_blocks listed.now members.now parts.now)) }
+    ensures most { result ≤ 12736 }
+{
+    let mut len = 0;
+    for (i, key) in members.iter().enumerate() {
+        if let Some(config) = listed.get(key) {
+            len += part_len(config, &parts[i]);
+        }
+    }
+    len
+}
+
+/// Adds the data blocks of the effective members, in the room that is there.
+fn add_blocks(
+    frame: &mut Vec<u8>,
+    members: &[PmuKey],
+    listed: &ConfigList,
+    parts: &[Option<SharedBlock>],
+)
+    requires parts { length parts.now ≡ length members.now }
+    requires room { vec_len frame.old + length (joined (data_blocks listed.now members.now parts.now)) ≤ vec_capacity frame.old }
+    ensures bytes { frame.new.items ≡ frame.old.items ++ joined (data_blocks listed.now members.now parts.now) }
+    ensures room { vec_capacity frame.old ≤ vec_capacity frame.new }
+{
+    for (i, key) in members.iter().enumerate() {
+        if let Some(config) = listed.get(key) {
+            add_part(frame, config, &parts[i]);
+        }
+    }
+}

@@ -1,0 +1,15 @@
+//! Output frames of a stream: CFG-1 and CFG-2, header and data frames, and the count of configuration changes.
+#![tactic(auto)]
+
+mod config;
+mod data;
+mod laws;
+mod list;
+
+pub use config::{OutCfg, header};
+pub use data::data_frame;
+pub use laws::{changes_are_told, config_is_read, data_is_read, quality_is_joined};
+pub use list::{ConfigList, Listed};
+
+#[cfg(test)]
+mod tests;
