@@ -4,9 +4,11 @@
 //! has the stream 101 of that one member, off.
 #![tactic(auto)]
 
+mod edit;
 mod event;
 mod gateway;
 
+pub use edit::Edit;
 pub use event::{Event, Reply};
 pub use gateway::{Gateway, SOURCE, SUBSCRIBER};
 pub use pg_session::Drained;

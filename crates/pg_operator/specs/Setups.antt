@@ -1,0 +1,226 @@
+-- What a setup file asks for, by its table.
+use Rattle.std.specs.Prelude.{ℕ, ◌==◌, ◌&&◌, ◌++◌, Bool, true, false, pos, List, [], ◌∷◌, length, map, Option, Some, None, is_some, option_map, option_and_then, option_to_list, if◌then◌else◌, nat_le, codes}
+use Rattle.std.specs.List.{list_any}
+use Rattle.std.specs.Option.{option_map_or}
+use Rattle.std.specs.Str.{bytes_eq}
+use Rattle.toml.specs.Data.{Data, string, integer, array, table, Items, no_items, item, Members, no_members, member, get_member}
+use Rattle.toml.specs.Parse.{parse_document}
+use Rattle.pg_wire.specs.declared.ids.PmuKey.{PmuKey}
+use Rattle.pg_stream.specs.declared.definition.Definition.{Definition}
+use Rattle.pg_gateway.specs.declared.edit.Edit.{Edit}
+use Rattle.pg_gateway.specs.declared.edit.Edit.TheVariants.{AddPmu, AddSub, Grant, Define}
+use Rattle.pg_operator.specs.Words.{Text, number_in, halves, key_of, pair_in}
+
+-- ---- tables
+
+abbrev pub is_among : List Text → Text → Bool
+is_among names key = list_any (λ name. bytes_eq name key) names
+
+-- each key is one of these
+abbrev pub keys_within : List Text → Members → Bool
+keys_within names no_members = true
+keys_within names (member k d ms) = is_among names k && keys_within names ms
+
+-- a table with these keys and no other
+abbrev pub only : {X : Type 0} → List Text → (Members → Option X) → Members → Option X
+only names read ms = if keys_within names ms then read ms else None
+
+-- a key that has to be there; one that may be left out; one with no value where it is left out
+abbrev pub required : {X : Type 0} → (Data → Option X) → Text → Members → Option X
+required read key ms = option_and_then read (get_member key ms)
+
+abbrev pub optional : {X : Type 0} → X → (Data → Option X) → Text → Members → Option X
+optional otherwise read key ms = option_map_or read (get_member key ms) (Some otherwise)
+
+abbrev pub absent_or : {X : Type 0} → (Data → Option X) → Text → Members → Option (Option X)
+absent_or read key ms = optional None (λ d. option_map Some (read d)) key ms
+
+-- each item, in order
+abbrev pub each : {X : Type 0} → (Data → Option X) → Items → Option (List X)
+each read no_items = Some []
+each read (item d ds) = option_and_then (λ x. option_map (λ xs. x ∷ xs) (each read ds)) (read d)
+
+abbrev pub list_of : {X : Type 0} → (Data → Option X) → Data → Option (List X)
+list_of read (array ds) = each read ds
+list_of read _ = None
+
+-- ---- values
+
+-- a whole number in its range
+abbrev pub whole_in : ℕ → ℕ → Data → Option ℕ
+whole_in least most (integer (pos n)) = if nat_le least n && nat_le n most then Some n else None
+whole_in least most _ = None
+
+-- a key: a number P, which is P/P, or the text "S/P"
+abbrev pub key_in : Data → Option PmuKey
+key_in (string s) = pair_in s
+key_in d = option_map (λ n. key_of n n) (whole_in 1 65534 d)
+
+-- one of the four numbers of an address
+abbrev pub is_part : Text → Bool
+is_part w = is_some (number_in 0 255 w)
+
+-- `A.B.C.D`; the dot is 46
+abbrev pub is_host : Text → Bool
+is_host w = option_map_or (λ a. option_map_or (λ b. option_map_or (λ c. is_part a.0 && (is_part b.0 && (is_part c.0 && is_part c.1)))
+    (halves 46 b.1) false) (halves 46 a.1) false) (halves 46 w) false
+
+-- `A.B.C.D:PORT`; the colon is 58
+abbrev pub is_address : Text → Bool
+is_address w = option_map_or (λ p. is_host p.0 && is_some (number_in 1 65535 p.1)) (halves 58 w) false
+
+abbrev pub address_in : Data → Option Text
+address_in (string s) = if is_address s then Some s else None
+address_in _ = None
+
+abbrev pub text_in : Data → Option Text
+text_in (string s) = Some s
+text_in _ = None
+
+-- ---- `[[pmu]]`: its key, and the address of its source
+
+abbrev pub Pmu : Type 0
+Pmu = PmuKey × Option Text
+
+abbrev pub pmu_by : Members → Option Pmu
+pmu_by ms =
+    option_and_then (λ id. option_and_then (λ source. option_map (λ connect. (key_of source id, connect))
+    (absent_or address_in (codes "connect") ms))
+    (optional id (whole_in 1 65534) (codes "source") ms))
+    (required (whole_in 1 65534) (codes "id") ms)
+
+abbrev pub pmu_in : Data → Option Pmu
+pmu_in (table ms) = only (codes "id" ∷ codes "source" ∷ codes "connect" ∷ []) pmu_by ms
+pmu_in _ = None
+
+-- it is registered
+abbrev pub pmu_edit : Pmu → Edit
+pmu_edit p = AddPmu p.0
+
+-- sources with their addresses
+abbrev pub Links : Type 0
+Links = List (ℕ × Text)
+
+abbrev pub has_source : ℕ → Links → Bool
+has_source source links = list_any (λ link. link.0 == source) links
+
+-- the links, in order, of which no two are of one source
+abbrev pub links_from : Links → List Pmu → Option Links
+links_from seen [] = Some seen
+links_from seen ((key, None) ∷ pmus) = links_from seen pmus
+links_from seen ((key, Some address) ∷ pmus) =
+    if has_source key.source seen then None else links_from (seen ++ (key.source, address) ∷ []) pmus
+
+-- ---- `[[subscriber.stream]]`
+
+abbrev pub members_in : Data → Option (List PmuKey)
+members_in d = option_and_then (λ keys. if nat_le 1 (length keys) && nat_le (length keys) 32 then Some keys else None) (list_of key_in d)
+
+abbrev pub wide : Text → Members → Option ℕ
+wide key ms = required (whole_in 0 4294967295) key ms
+
+abbrev pub numbers_in : Members → Option (List ℕ → List PmuKey → Definition)
+numbers_in ms =
+    option_and_then (λ s. option_and_then (λ r. option_and_then (λ b. option_and_then (λ t. option_map
+    (λ w header members. record { stream = s; rate = r; base = b; wait = t; window = w; header = header; members = members })
+    (wide (codes "window") ms)) (wide (codes "wait") ms)) (wide (codes "base") ms))
+    (required (whole_in 0 255) (codes "rate") ms)) (required (whole_in 1 65534) (codes "id") ms)
+
+abbrev pub stream_by : Members → Option Definition
+stream_by ms =
+    option_and_then (λ made. option_and_then (λ text. option_map (λ keys. made text keys)
+    (required members_in (codes "members") ms))
+    (optional [] text_in (codes "header") ms))
+    (numbers_in ms)
+
+abbrev pub stream_names : List Text
+stream_names = codes "id" ∷ codes "rate" ∷ codes "base" ∷ codes "wait" ∷ codes "window" ∷ codes "header" ∷ codes "members" ∷ []
+
+abbrev pub stream_in : Data → Option Definition
+stream_in (table ms) = only stream_names stream_by ms
+stream_in _ = None
+
+-- ---- `[[subscriber]]`: its edits, and the port that it connects to
+
+abbrev pub grants_in : ℕ → Data → Option (List Edit)
+grants_in id = list_of (λ d. option_map (Grant id) (key_in d))
+
+abbrev pub streams_in : ℕ → Data → Option (List Edit)
+streams_in id = list_of (λ d. option_map (Define id) (stream_in d))
+
+-- AddSub, its grants, its streams
+abbrev pub edits_by : ℕ → ℕ → ℕ → Members → Option (List Edit)
+edits_by id size bytes ms =
+    option_and_then (λ grants. option_map (λ streams. AddSub id size bytes ∷ grants ++ streams)
+    (optional [] (streams_in id) (codes "stream") ms))
+    (optional [] (grants_in id) (codes "grants") ms)
+
+-- a subscriber's own values
+pub record Entry : Type 0 where
+  pub id : ℕ
+  pub port : Option ℕ
+  pub size : ℕ
+  pub bytes : ℕ
+
+abbrev pub entry_by : Members → Option Entry
+entry_by ms =
+    option_and_then (λ id. option_and_then (λ port. option_and_then (λ size. option_map (λ bytes. record { id = id; port = port; size = size; bytes = bytes })
+    (optional 16777216 (whole_in 16 16777216) (codes "bytes") ms))
+    (required (whole_in 1 1024) (codes "ring") ms))
+    (absent_or (whole_in 1 65535) (codes "port") ms))
+    (required (whole_in 1 65535) (codes "id") ms)
+
+abbrev pub Subscriber : Type 0
+Subscriber = List Edit × Option (ℕ × ℕ)
+
+abbrev pub subscriber_by : Members → Option Subscriber
+subscriber_by ms =
+    option_and_then (λ e. option_map (λ edits. (edits, option_map (λ p. (e.id, p)) e.port))
+    (edits_by e.id e.size e.bytes ms)) (entry_by ms)
+
+abbrev pub subscriber_names : List Text
+subscriber_names = codes "id" ∷ codes "port" ∷ codes "ring" ∷ codes "bytes" ∷ codes "grants" ∷ codes "stream" ∷ []
+
+abbrev pub subscriber_in : Data → Option Subscriber
+subscriber_in (table ms) = only subscriber_names subscriber_by ms
+subscriber_in _ = None
+
+-- ---- the file
+
+-- the PMUs in the file's order, then each subscriber's edits
+abbrev pub edits_of : List Subscriber → List Edit
+edits_of [] = []
+edits_of (s ∷ ss) = s.0 ++ edits_of ss
+
+abbrev pub ports_of : List Subscriber → List (ℕ × ℕ)
+ports_of [] = []
+ports_of (s ∷ ss) = option_to_list s.1 ++ ports_of ss
+
+abbrev pub planned : List Subscriber → List Edit × List (ℕ × ℕ)
+planned ss = (edits_of ss, ports_of ss)
+
+pub record Settings : Type 0 where
+  pub edits : List Edit
+  pub links : Links
+  pub ports : List (ℕ × ℕ)
+  pub tick_ms : ℕ
+  pub ingest : ℕ
+  pub serve : ℕ
+
+abbrev pub setup_by : Members → Option Settings
+setup_by ms =
+    option_and_then (λ tick. option_and_then (λ ingest. option_and_then (λ serve. option_and_then (λ pmus. option_and_then (λ links. option_map
+    (λ subscribers. record { edits = map pmu_edit pmus ++ edits_of subscribers; links = links; ports = ports_of subscribers; tick_ms = tick; ingest = ingest; serve = serve })
+    (required (list_of subscriber_in) (codes "subscriber") ms))
+    (links_from [] pmus))
+    (required (list_of pmu_in) (codes "pmu") ms))
+    (optional 1 (whole_in 1 8) (codes "serve") ms))
+    (optional 1 (whole_in 1 8) (codes "ingest") ms))
+    (optional 10 (whole_in 1 1000) (codes "tick_ms") ms)
+
+abbrev pub setup_in : Members → Option Settings
+setup_in = only (codes "tick_ms" ∷ codes "ingest" ∷ codes "serve" ∷ codes "pmu" ∷ codes "subscriber" ∷ []) setup_by
+
+-- what a file asks for, or nothing
+abbrev pub setup_of : Text → Option Settings
+setup_of text = option_and_then setup_in (parse_document text)

@@ -1,0 +1,430 @@
+//! The setup file: what it is read as.
+ghost use Rattle.std.specs.Prelude.{◌≡◌, ◌⊎◌, IfOk, IfErr, IfSome, map, option_map, codes, string_bytes, Some, None, [], ◌∷◌, ◌++◌};
+ghost use Rattle.std.specs.List.{list_any};
+ghost use Rattle.toml.specs.View.{view, table_view};
+ghost use Rattle.pg_operator.specs.Setups.{absent_or, address_in, edits_by, edits_of, entry_by, grants_in, has_source, links_from, list_of, optional, pmu_by, pmu_edit, pmu_in, planned, ports_of, required, setup_by, setup_in, setup_of, streams_in, subscriber_by, subscriber_in, whole_in};
+
+use crate::{stream, table};
+use pg_gateway::Edit;
+use pg_ring::{RingBytes, RingSize};
+use pg_wire::{PmuId, PmuKey, Refusal, SubId};
+use std::alloc::Global;
+use toml::{Table, Value};
+
+/// What a setup file asks for.
+#[derive(Debug, Drop)]
+pub struct Setup {
+    /// The edits, in order: each PMU is registered, then each subscriber is added, with its grants and its streams.
+    pub edits: Vec<Edit>,
+    /// The sources to which links are made, each with its address `A.B.C.D:PORT`; no source twice.
+    pub links: Vec<(PmuId, String)>,
+    /// The subscribers that have a port of their own, with it.
+    pub ports: Vec<(SubId, u16)>,
+    /// Milliseconds from tick to tick: 1 to 1000.
+    pub tick_ms: u16,
+    /// Threads that read the links: 1 to 8.
+    pub ingest: u8,
+    /// Threads that serve the subscribers: 1 to 8.
+    pub serve: u8,
+}
+
+/// What a setup file asks for (own rule). It is TOML, with these keys and no other:
+///
+/// | Key | Values | If absent |
+/// |---|---|---|
+/// | `tick_ms` | 1 to 1000 | 10 |
+/// | `ingest`, `serve` | 1 to 8 | 1 |
+/// | `pmu`, `subscriber` | tables | required |
+/// | `pmu.id` | 1 to 65534 | required |
+/// | `pmu.source` | 1 to 65534 | equal to `id` |
+/// | `pmu.connect` | text `A.B.C.D:PORT`, of the source; four numbers 0 to 255, and one 1 to 65535 | no link |
+/// | `subscriber.id` | 1 to 65535 | required |
+/// | `subscriber.port` | 1 to 65535 | no listener |
+/// | `subscriber.ring` | 1 to 1024 | required |
+/// | `subscriber.bytes` | 16 to 16777216 | 16777216 |
+/// | `subscriber.grants` | list of numbers P, which are P/P, or texts "S/P" | none |
+/// | `subscriber.stream` | tables | none |
+/// | `stream.id`, `rate`, `base`, `wait`, `window` | as in a line `define` | required |
+/// | `stream.header` | the text itself | empty |
+/// | `stream.members` | list of 1 to 32 numbers or texts, as the grants | required |
+///
+/// # Errors
+///
+/// `BadSetup` for text that is not TOML, an unknown key, a key that is required and absent, a value of another type or
+/// out of range, and a second `connect` for one source; `NoMemory`.
+pub fn read_setup(alloc: Global, text: &str) -> Result<Setup, Refusal>
+    ensures found { IfOk result (λ s. setup_of text.now ≡ Some (record { edits = s.edits.items; links = map (λ l. (l.0, string_bytes l.1)) s.links.items; ports = s.ports.items; tick_ms = s.tick_ms; ingest = s.ingest; serve = s.serve })) }
+    ensures refused { IfErr result (λ r. (r ≡ Refusal.NoMemory) ⊎ ((r ≡ Refusal.BadSetup) × (setup_of text.now ≡ None))) }
+{
+    match toml::table_from_str(alloc, text) {
+        Ok(table) => setup_in(alloc, &table),
+        Err(error) => {
+            if error.is_memory() {
+                Err(Refusal::NoMemory)
+            } else {
+                Err(Refusal::BadSetup)
+            }
+        }
+    }
+}
+
+/// What the file's table asks for.
+fn setup_in(alloc: Global, table: &Table) -> Result<Setup, Refusal>
+    ensures ok { IfOk result (λ s. setup_in (table_view table.now) ≡ Some (record { edits = s.edits.items; links = map (λ l. (l.0, string_bytes l.1)) s.links.items; ports = s.ports.items; tick_ms = s.tick_ms; ingest = s.ingest; serve = s.serve })) }
+    ensures err { IfErr result (λ r. (r ≡ Refusal.NoMemory) ⊎ ((r ≡ Refusal.BadSetup) × (setup_in (table_view table.now) ≡ None))) }
+{
+    if !table::keys_within(&["tick_ms", "ingest", "serve", "pmu", "subscriber"], table) {
+        return Err(Refusal::BadSetup);
+    }
+    let Some(tick_ms) = table::optional(table, "tick_ms", 10, 1, 1000) else {
+        return Err(Refusal::BadSetup);
+    };
+    let Some(ingest) = table::optional(table, "ingest", 1, 1, 8) else {
+        return Err(Refusal::BadSetup);
+    };
+    let Some(serve) = table::optional(table, "serve", 1, 1, 8) else {
+        return Err(Refusal::BadSetup);
+    };
+    let pmus = match pmus_at(alloc, table) {
+        Ok(pmus) => pmus,
+        Err(refusal) => return Err(refusal),
+    };
+    let links = match links_of(alloc, pmus.as_slice()) {
+        Ok(links) => links,
+        Err(refusal) => return Err(refusal),
+    };
+    let subscribers = match subscribers_at(alloc, table) {
+        Ok(subscribers) => subscribers,
+        Err(refusal) => return Err(refusal),
+    };
+    let mut edits = edits_of(alloc, pmus.as_slice())?;
+    let mut rest = subscribers.edits;
+    edits.append(&mut rest)?;
+    Ok(Setup {
+        edits,
+        links,
+        ports: subscribers.ports,
+        tick_ms: tick_ms as u16,
+        ingest: ingest as u8,
+        serve: serve as u8,
+    })
+}
+
+/// A PMU, and the address of its source.
+#[derive(Clone, Copy)]
+struct Pmu<'a> {
+    key: PmuKey,
+    connect: Option<&'a str>,
+}
+
+/// The PMUs, in order.
+fn pmus_at(alloc: Global, table: &Table) -> Result<Vec<Pmu<'_>>, Refusal>
+    ensures ok { IfOk result (λ v. required (list_of pmu_in) (codes "pmu") (table_view table.now) ≡ Some (map (λ p. (p.key, option_map (λ s. s.now) p.connect)) v.items)) }
+    ensures err { IfErr result (λ r. (r ≡ Refusal.NoMemory) ⊎ ((r ≡ Refusal.BadSetup) × (required (list_of pmu_in) (codes "pmu") (table_view table.now) ≡ None))) }
+{
+    match table::value_at(table, "pmu") {
+        Some(value) => pmus_in(alloc, value),
+        None => Err(Refusal::BadSetup),
+    }
+}
+
+/// The PMUs' tables.
+fn pmus_in(alloc: Global, value: &Value) -> Result<Vec<Pmu<'_>>, Refusal>
+    ensures ok { IfOk result (λ v. list_of pmu_in (view value.now) ≡ Some (map (λ p. (p.key, option_map (λ s. s.now) p.connect)) v.items)) }
+    ensures err { IfErr result (λ r. (r ≡ Refusal.NoMemory) ⊎ ((r ≡ Refusal.BadSetup) × (list_of pmu_in (view value.now) ≡ None))) }
+{
+    let Some(items) = value.as_array() else {
+        return Err(Refusal::BadSetup);
+    };
+    let mut pmus = Vec::new(alloc);
+    'items: for item in items {
+        let Some(pmu) = pmu_in(item) else {
+            return Err(Refusal::BadSetup);
+        };
+        if pmus.push(pmu).is_err() {
+            return Err(Refusal::NoMemory);
+        }
+    }
+    Ok(pmus)
+}
+
+/// A PMU's table.
+fn pmu_in(value: &Value) -> Option<Pmu<'_>>
+    ensures { option_map (λ p. (p.key, option_map (λ s. s.now) p.connect)) result ≡ pmu_in (view value.now) }
+{
+    let table = value.as_table()?;
+    if !table::keys_within(&["id", "source", "connect"], table) {
+        return None;
+    }
+    let pmu = pmu_id(table)?;
+    let source = source_of(table, pmu)?;
+    let connect = connect_at(table)?;
+    Some(Pmu {
+        key: PmuKey { source, pmu },
+        connect,
+    })
+}
+
+/// The number of a PMU.
+fn pmu_id(table: &Table) -> Option<PmuId>
+    ensures { result ≡ required (whole_in 1 65534) (codes "id") (table_view table.now) }
+{
+    match table::required(table, "id", 1, 65534) {
+        Some(id) => PmuId::new(id as u16),
+        None => None,
+    }
+}
+
+/// The source of a PMU, which has its number where it is left out.
+fn source_of(table: &Table, pmu: PmuId) -> Option<PmuId>
+    ensures { result ≡ optional pmu (whole_in 1 65534) (codes "source") (table_view table.now) }
+{
+    match table::value_at(table, "source") {
+        Some(value) => match table::whole(value, 1, 65534) {
+            Some(source) => PmuId::new(source as u16),
+            None => None,
+        },
+        None => Some(pmu),
+    }
+}
+
+/// The address of a source, or none where it is left out.
+fn connect_at(table: &Table) -> Option<Option<&str>>
+    ensures { option_map (λ o. option_map (λ s. s.now) o) result ≡ absent_or address_in (codes "connect") (table_view table.now) }
+{
+    match table::value_at(table, "connect") {
+        Some(value) => match table::address(value) {
+            Some(address) => Some(Some(address)),
+            None => None,
+        },
+        None => Some(None),
+    }
+}
+
+/// The links that the PMUs ask for, of which no two are of one source.
+fn links_of(alloc: Global, pmus: &[Pmu<'_>]) -> Result<Vec<(PmuId, String)>, Refusal>
+    ensures ok { IfOk result (λ v. links_from [] (map (λ p. (p.key, option_map (λ s. s.now) p.connect)) pmus.now) ≡ Some (map (λ l. (l.0, string_bytes l.1)) v.items)) }
+    ensures err { IfErr result (λ r. (r ≡ Refusal.NoMemory) ⊎ ((r ≡ Refusal.BadSetup) × (links_from [] (map (λ p. (p.key, option_map (λ s. s.now) p.connect)) pmus.now) ≡ None))) }
+{
+    let mut links = Vec::new(alloc);
+    'pmus: for pmu in pmus {
+        if let Some(address) = pmu.connect {
+            if has_source(links.as_slice(), pmu.key.source) {
+                return Err(Refusal::BadSetup);
+            }
+            links.push((pmu.key.source, String::from_str(alloc, address)?))?;
+        }
+    }
+    Ok(links)
+}
+
+/// Whether one of the links is of this source.
+fn has_source(links: &[(PmuId, String)], source: PmuId) -> bool
+    ensures { result ≡ has_source source (map (λ l. (l.0, string_bytes l.1)) links.now) }
+{
+    links.iter().any(|link| link.0 == source)
+}
+
+/// The edits that register the PMUs.
+fn edits_of(alloc: Global, pmus: &[Pmu<'_>]) -> Result<Vec<Edit>, Refusal>
+    ensures ok { IfOk result (λ v. v.items ≡ map pmu_edit (map (λ p. (p.key, option_map (λ s. s.now) p.connect)) pmus.now)) }
+    ensures err { IfErr result (λ r. r ≡ Refusal.NoMemory) }
+{
+    let mut edits = Vec::new(alloc);
+    'pmus: for pmu in pmus {
+        edits.push(Edit::AddPmu(pmu.key))?;
+    }
+    Ok(edits)
+}
+
+/// The edits of the subscribers, and the ports that they connect to.
+#[derive(Drop)]
+struct Subscribers {
+    edits: Vec<Edit>,
+    ports: Vec<(SubId, u16)>,
+}
+
+/// The subscribers, in order.
+fn subscribers_at(alloc: Global, table: &Table) -> Result<Subscribers, Refusal>
+    ensures ok { IfOk result (λ s. option_map planned (required (list_of subscriber_in) (codes "subscriber") (table_view table.now)) ≡ Some (s.edits.items, s.ports.items)) }
+    ensures err { IfErr result (λ r. (r ≡ Refusal.NoMemory) ⊎ ((r ≡ Refusal.BadSetup) × (required (list_of subscriber_in) (codes "subscriber") (table_view table.now) ≡ None))) }
+{
+    match table::value_at(table, "subscriber") {
+        Some(value) => subscribers_in(alloc, value),
+        None => Err(Refusal::BadSetup),
+    }
+}
+
+/// The subscribers' tables.
+fn subscribers_in(alloc: Global, value: &Value) -> Result<Subscribers, Refusal>
+    ensures ok { IfOk result (λ s. option_map planned (list_of subscriber_in (view value.now)) ≡ Some (s.edits.items, s.ports.items)) }
+    ensures err { IfErr result (λ r. (r ≡ Refusal.NoMemory) ⊎ ((r ≡ Refusal.BadSetup) × (list_of subscriber_in (view value.now) ≡ None))) }
+{
+    let Some(items) = value.as_array() else {
+        return Err(Refusal::BadSetup);
+    };
+    let mut edits = Vec::new(alloc);
+    let mut ports = Vec::new(alloc);
+    'items: for item in items {
+        let subscriber = match subscriber_in(alloc, item) {
+            Ok(subscriber) => subscriber,
+            Err(refusal) => return Err(refusal),
+        };
+        let mut own = subscriber.edits;
+        edits.append(&mut own)?;
+        if let Some(port) = subscriber.port {
+            ports.push(port)?;
+        }
+    }
+    Ok(Subscribers { edits, ports })
+}
+
+/// The edits of a subscriber, and the port that it connects to.
+#[derive(Drop)]
+struct Subscriber {
+    edits: Vec<Edit>,
+    port: Option<(SubId, u16)>,
+}
+
+/// A subscriber's table.
+fn subscriber_in(alloc: Global, value: &Value) -> Result<Subscriber, Refusal>
+    ensures ok { IfOk result (λ s. subscriber_in (view value.now) ≡ Some (s.edits.items, s.port)) }
+    ensures err { IfErr result (λ r. (r ≡ Refusal.NoMemory) ⊎ ((r ≡ Refusal.BadSetup) × (subscriber_in (view value.now) ≡ None))) }
+{
+    let Some(table) = value.as_table() else {
+        return Err(Refusal::BadSetup);
+    };
+    if !table::keys_within(&["id", "port", "ring", "bytes", "grants", "stream"], table) {
+        return Err(Refusal::BadSetup);
+    }
+    let Some(entry) = entry_at(table) else {
+        return Err(Refusal::BadSetup);
+    };
+    let port = entry.own_port();
+    match edits_at(alloc, &entry, table) {
+        Ok(edits) => Ok(Subscriber { edits, port }),
+        Err(refusal) => Err(refusal),
+    }
+}
+
+/// A subscriber's own values.
+#[derive(Clone, Copy)]
+struct Entry {
+    id: SubId,
+    port: Option<u16>,
+    size: RingSize,
+    bytes: RingBytes,
+}
+
+impl Entry {
+    /// The subscriber and its port, where it has one.
+    fn own_port(&self) -> Option<(SubId, u16)>
+        ensures { result ≡ option_map (λ p. (self.now.id, p)) self.now.port }
+    {
+        match self.port {
+            Some(port) => Some((self.id, port)),
+            None => None,
+        }
+    }
+}
+
+/// A subscriber's own values in its table.
+fn entry_at(table: &Table) -> Option<Entry>
+    ensures { option_map (λ e. record { id = e.id; port = e.port; size = e.size; bytes = e.bytes }) result ≡ entry_by (table_view table.now) }
+{
+    let id = subscriber_id(table)?;
+    let port = port_at(table)?;
+    let size = ring_size(table)?;
+    let bytes = ring_bytes(table)?;
+    Some(Entry {
+        id,
+        port,
+        size,
+        bytes,
+    })
+}
+
+/// The number of a subscriber.
+fn subscriber_id(table: &Table) -> Option<SubId>
+    ensures { result ≡ required (whole_in 1 65535) (codes "id") (table_view table.now) }
+{
+    match table::required(table, "id", 1, 65535) {
+        Some(id) => SubId::new(id as u16),
+        None => None,
+    }
+}
+
+/// The port that a subscriber connects to, or none where it is left out.
+fn port_at(table: &Table) -> Option<Option<u16>>
+    ensures { result ≡ absent_or (whole_in 1 65535) (codes "port") (table_view table.now) }
+{
+    match table::value_at(table, "port") {
+        Some(value) => match table::whole(value, 1, 65535) {
+            Some(port) => Some(Some(port as u16)),
+            None => None,
+        },
+        None => Some(None),
+    }
+}
+
+/// How many data frames a subscriber's ring holds.
+fn ring_size(table: &Table) -> Option<RingSize>
+    ensures { result ≡ required (whole_in 1 1024) (codes "ring") (table_view table.now) }
+{
+    match table::required(table, "ring", 1, 1024) {
+        Some(size) => RingSize::new(size as u16),
+        None => None,
+    }
+}
+
+/// How many bytes of data frames a subscriber's ring holds.
+fn ring_bytes(table: &Table) -> Option<RingBytes>
+    ensures { result ≡ optional 16777216 (whole_in 16 16777216) (codes "bytes") (table_view table.now) }
+{
+    match table::optional(table, "bytes", 16_777_216, 16, 16_777_216) {
+        Some(bytes) => RingBytes::new(bytes),
+        None => None,
+    }
+}
+
+/// A subscriber's edits: it is added, then its grants, then its streams.
+fn edits_at(alloc: Global, entry: &Entry, table: &Table) -> Result<Vec<Edit>, Refusal>
+    ensures ok { IfOk result (λ v. edits_by entry.now.id entry.now.size entry.now.bytes (table_view table.now) ≡ Some v.items) }
+    ensures err { IfErr result (λ r. (r ≡ Refusal.NoMemory) ⊎ ((r ≡ Refusal.BadSetup) × (edits_by entry.now.id entry.now.size entry.now.bytes (table_view table.now) ≡ None))) }
+{
+    let mut grants = match grants_at(alloc, entry.id, table) {
+        Ok(grants) => grants,
+        Err(refusal) => return Err(refusal),
+    };
+    let mut streams = match streams_at(alloc, entry.id, table) {
+        Ok(streams) => streams,
+        Err(refusal) => return Err(refusal),
+    };
+    let mut edits = Vec::new(alloc);
+    edits.push(Edit::AddSub(entry.id, entry.size, entry.bytes))?;
+    edits.append(&mut grants)?;
+    edits.append(&mut streams)?;
+    Ok(edits)
+}
+
+/// A subscriber's grants, none where they are left out.
+fn grants_at(alloc: Global, id: SubId, table: &Table) -> Result<Vec<Edit>, Refusal>
+    ensures ok { IfOk result (λ v. optional [] (grants_in id) (codes "grants") (table_view table.now) ≡ Some v.items) }
+    ensures err { IfErr result (λ r. (r ≡ Refusal.NoMemory) ⊎ ((r ≡ Refusal.BadSetup) × (optional [] (grants_in id) (codes "grants") (table_view table.now) ≡ None))) }
+{
+    match table::value_at(table, "grants") {
+        Some(value) => stream::grants_in(alloc, id, value),
+        None => Ok(Vec::new(alloc)),
+    }
+}
+
+/// A subscriber's streams, none where they are left out.
+fn streams_at(alloc: Global, id: SubId, table: &Table) -> Result<Vec<Edit>, Refusal>
+    ensures ok { IfOk result (λ v. optional [] (streams_in id) (codes "stream") (table_view table.now) ≡ Some v.items) }
+    ensures err { IfErr result (λ r. (r ≡ Refusal.NoMemory) ⊎ ((r ≡ Refusal.BadSetup) × (optional [] (streams_in id) (codes "stream") (table_view table.now) ≡ None))) }
+{
+    match table::value_at(table, "stream") {
+        Some(value) => stream::streams_in(alloc, id, value),
+        None => Ok(Vec::new(alloc)),
+    }
+}
