@@ -7,13 +7,13 @@ use Rattle.pg_wire.specs.declared.refusal.Refusal.{Refusal}
 use Rattle.pg_wire.specs.declared.refusal.Refusal.TheVariants.{NoMemory, NoSuchPmu, NoConfig, StaleConfig, NoSuchSub}
 use Rattle.pg_config.specs.Parts.{Part, Source, block_id}
 use Rattle.pg_data.specs.Measurements.{Measurement, block_of}
-use Rattle.pg_session.specs.Private as session
-use Rattle.pg_session.specs.Private.{Sample, Private, PrivateEvent, begin, SubscriberValue, Shows, Told, done, refused, handed}
+use Rattle.pg_first.specs.Private as session
+use Rattle.pg_first.specs.Private.{Sample, Private, PrivateEvent, begin, SubscriberValue, Shows, Told, done, refused, handed}
 use Rattle.pg_gateway.specs.declared.event.Event.{Event}
 use Rattle.pg_gateway.specs.declared.event.Event.TheVariants.{Announce, Measure, Command, Drain}
 use Rattle.pg_gateway.specs.declared.event.Reply.{Reply}
 use Rattle.pg_gateway.specs.declared.event.Reply.TheVariants.{Done, Refused, Drained}
-use Rattle.pg_session.specs.declared.outbox.Drained as outbox
+use Rattle.pg_first.specs.declared.outbox.Drained as outbox
 
 -- what an event says, wherever it lies in memory
 pub data Happening : Type 0 where

@@ -3,7 +3,7 @@
 use pg_command::Command as Asked;
 use pg_config::SourceConfig;
 use pg_data::DataFrame;
-use pg_session::Drained as Handed;
+use pg_first::Drained as Handed;
 use pg_wire::{Refusal, SubId};
 use std::sync::Arc;
 

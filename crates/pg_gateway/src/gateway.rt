@@ -3,14 +3,14 @@
 ghost use Rattle.std.specs.Prelude.{◌≡◌, ◌<◌, length, take, IfOk, IfErr, IfSome, true};
 ghost use Rattle.std.specs.List.{position};
 ghost use Rattle.std.specs.Arc.{arc_value};
-ghost use Rattle.pg_session.specs.Private.{told as private_told};
+ghost use Rattle.pg_first.specs.Private.{told as private_told};
 ghost use Rattle.pg_gateway.specs.Shared.{opening, is_registered, registered_place, happening, told, GatewayShows, Goes, IsPlain, KeepsBuffer, announce, measure, command, drain};
 
 use crate::event::{Event, Reply};
 use pg_command::Command;
 use pg_config::{PmuConfig, SourceConfig};
 use pg_data::DataFrame;
-use pg_session::{PrivateReply, Subscriber};
+use pg_first::{PrivateReply, Subscriber};
 use pg_wire::{Refusal, SubId};
 use std::alloc::Global;
 use std::marker::Model;

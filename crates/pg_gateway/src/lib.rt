@@ -11,4 +11,4 @@ mod gateway;
 pub use edit::Edit;
 pub use event::{Event, Reply};
 pub use gateway::{Gateway, SOURCE, SUBSCRIBER};
-pub use pg_session::Drained;
+pub use pg_first::Drained;

@@ -1,10 +1,25 @@
-//! One subscriber: its stream, and what waits to be handed to it.
+//! One subscriber: a private gateway of its own, and the session that cuts its bytes into commands.
 #![tactic(auto)]
 
+mod accepting;
+mod arriving;
+mod change;
+mod copying;
 mod event;
-mod outbox;
+mod laws;
+mod leaving;
+mod listing;
+mod output;
+mod reply;
+mod session;
+mod stream;
+mod streams;
 mod subscriber;
 
-pub use event::PrivateReply;
-pub use outbox::{Drained, Outbox};
+pub use event::{PrivateEvent, PrivateReply};
+pub use laws::{no_slot_needs_no_memory, numbers_are_kept, runs_go_on};
+pub use session::{Next, Session};
 pub use subscriber::Subscriber;
+
+#[cfg(test)]
+mod tests;

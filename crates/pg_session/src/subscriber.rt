@@ -1,209 +1,587 @@
-//! One subscriber and its stream.
+//! One subscriber: a private gateway of its own.
 
-ghost use Rattle.std.specs.Prelude.{◌≡◌, ◌+◌, ◌<◌, ◌≤◌, ◌==◌, ◌∷◌, [], List, map, length, take, IfOk, IfErr, OnOk, OnErr, not, true, false};
-ghost use Rattle.std.specs.Str.{bytes_eq};
+ghost use Rattle.std.specs.Prelude.{◌≡◌, ◌+◌, ◌<◌, ◌≤◌, [], ◌∷◌, ℕ, List, Option, Some, length, map, vec_len, All, IfOk, IfErr, IsOk, IsTrue, true, false};
 ghost use Rattle.std.specs.Arc.{arc_value};
+ghost use Rattle.std.specs.Bool.{Decides};
+ghost use Rattle.pg_entitle.specs.Grants.{has_key};
+ghost use Rattle.pg_session.specs.Events.{Happening, happening, config_of, announced_at, announce, grant, tick, connect, hangup, revoke, remove, drain, command, define, samples_at, measure};
 ghost use Rattle.pg_config.specs.Parts.{Part};
-ghost use Rattle.pg_data.specs.Measurements.{block_of};
-ghost use Rattle.pg_session.specs.Outbox.{with_data, with_lost, with_reply};
-ghost use Rattle.pg_session.specs.Private.{announce, measure, command, drain, handed, data_frame, config_reply, same_list, uncounted, begin, told, Shows, Takes};
+ghost use Rattle.pg_session.specs.Private.{told};
+ghost use Rattle.pg_session.specs.Ready.{Accepts, AreHeld, AreOwn, ArePlaces, IsPlain, IsReady, KeepsBuffer, NeedsNone, ReturnsBuffer};
+ghost use Rattle.pg_session.specs.Shown.{SubscriberValue, Shows, Takes, begin};
+ghost use Rattle.pg_session.specs.Steps.{Steps, MakesFew, HasNoCopies, Obeys, MayRefuse};
+ghost use Rattle.pg_session.specs.Fields.{all_wanted, granted_wanted};
 
-use crate::event::PrivateReply;
-use crate::outbox::{Drained, Outbox};
+use crate::accepting::{are_copies, are_held, are_own, are_places, are_wanted, is_copy};
+use crate::change::Change;
+use crate::copying::{copy_blocks, copy_parts, lay_config};
+use crate::event::{PrivateEvent, PrivateReply};
+use crate::listing::{list_all, list_one};
+use crate::output::Output;
+use crate::reply::{is_question, send_reply, word_at};
+use crate::stream::Stream;
+use crate::streams::{
+    measure_all, remove_streams, reshape_all, stop_all, stream_of, switch_streams, tick_all,
+};
+use circular_buffer::HeapCircularBuffer;
+use pg_audit::Stats;
 use pg_command::Command;
-use pg_config::{PmuConfig, write_config};
-use pg_data::DataFrame;
-use pg_wire::{Head, Kind, Refusal, StreamId, end_frame, start_frame};
+use pg_config::{PmuConfig, SourceConfig};
+use pg_data::{DataFrame, SharedBlock};
+use pg_entitle::Grants;
+use pg_outcfg::ConfigList;
+use pg_ring::{OutQueue, RingBytes, RingSize};
+use pg_stream::{Definition, check_definition};
+use pg_wire::{PmuKey, Refusal, StreamId};
 use std::alloc::Global;
 use std::marker::Model;
 use std::sync::Arc;
 
-/// The stream's IDCODE.
-const STREAM: u16 = 101;
+/// The most streams of a subscriber.
+const MOST_STREAMS: usize = 8;
 
-/// Its frames per second.
-const RATE: u8 = 30;
+/// The most copies that an event asks for: of blocks 16 for each stream, of configurations 16.
+const MOST_BLOCKS: usize = 128;
 
-/// Its resolution.
-const BASE: u32 = 1_000_000;
+const MOST_CONFIGS: usize = 16;
 
-/// The commands that it obeys: start data, and send CFG-2 (C37.118.2, 6.6).
-const START_DATA: u16 = 2;
-
-const SEND_CFG_TWO: u16 = 5;
-
-/// One subscriber with one stream of one member, which is granted to it.
+/// One subscriber: its grants, its streams, its queue and its counters (own rule). Nothing that it holds speaks of another.
 #[derive(Drop)]
 pub struct Subscriber {
     alloc: Global,
-    effective: Vec<Arc<PmuConfig>>,
-    count: u16,
-    on: bool,
-    outbox: Outbox,
+    connected: bool,
+    grants: Grants,
+    listed: ConfigList,
+    streams: Vec<Stream>,
+    output: Output,
+    last_tick: Option<u32>,
+    blocks: HeapCircularBuffer<SharedBlock>,
+    configs: HeapCircularBuffer<Arc<PmuConfig>>,
 }
 
 impl Model for Subscriber {
-    ghost use Rattle.std.specs.Prelude.{◌≤◌, map, length, vec_capacity};
+    ghost use Rattle.std.specs.Prelude.{map, vec_capacity};
     ghost use Rattle.std.specs.Arc.{arc_value};
-    ghost use Rattle.pg_session.specs.Private.{SubscriberValue};
+    ghost use Rattle.pg_session.specs.Shown.{SubscriberValue};
+    ghost use Rattle.pg_session.specs.Steps.{IsKept};
 
     ghost Value = { SubscriberValue };
 
-    ghost view = { λ s. record { effective = map arc_value s.effective.items; count = s.count; on = s.on; queue = s.outbox } };
+    ghost view = { λ s. record {
+      own = record {
+        connected = s.connected;
+        grants = s.grants;
+        listed = s.listed;
+        streams = s.streams.items;
+        output = s.output.output;
+        last_tick = s.last_tick;
+      };
+      blocks = s.blocks.items;
+      configs = map arc_value s.configs.items;
+    } };
 
-    ghost invariant = { λ s. (length s.effective.items ≤ 1) × (1 ≤ vec_capacity s.effective) };
-}
-
-/// Whether two configuration blocks are the same but for CFGCNT, their last two bytes.
-fn is_same_block(held: &[u8], other: &[u8]) -> bool
-    requires held { 2 ≤ length held.now }
-    requires other { 2 ≤ length other.now }
-    ensures { result ≡ bytes_eq (uncounted held.now) (uncounted other.now) }
-{
-    held[..held.len() - 2] == other[..other.len() - 2]
-}
-
-/// The data frame of a PMU's block. NoMemory is the one refusal.
-fn compose(alloc: Global, frame: &DataFrame, i: usize) -> Result<Vec<u8>, Refusal>
-    requires { i < length frame.now.config.parts }
-    ensures { IfOk result (λ v. v.items ≡ data_frame (record { soc = frame.now.soc; quality = frame.now.quality; frac = frame.now.frac; block = block_of frame.now i })) }
-{
-    let block = frame.block(i);
-    let head = Head {
-        kind: Kind::Measured,
-        version: 2,
-        size: (16 + block.len()) as u16,
-        id: STREAM,
-        soc: frame.soc,
-        quality: frame.quality % 128,
-        frac: frame.frac,
-    };
-    let mut out = start_frame(alloc, &head)?;
-    out.extend_from_slice(block)?;
-    end_frame(&mut out);
-    Ok(out)
+    ghost invariant = { λ s. IsKept (record {
+      own = record {
+        connected = s.connected;
+        grants = s.grants;
+        listed = s.listed;
+        streams = s.streams.items;
+        output = s.output.output;
+        last_tick = s.last_tick;
+      };
+      blocks = s.blocks.items;
+      configs = map arc_value s.configs.items;
+    }) (vec_capacity s.streams) s.blocks.capacity s.configs.capacity };
 }
 
 impl Subscriber {
-    /// A subscriber whose stream is off and whose member has announced nothing.
-    pub fn new(alloc: Global) -> Result<Subscriber, Refusal>
-        ensures shows { IfOk result (λ s. Shows s begin) }
+    /// A subscriber that is not connected and has no grant and no stream, with this ring and these ring bytes; `last` is the SOC
+    /// of the last tick, if there was one. All that later events need but streams and frames is reserved. The one refusal is
+    /// `NoMemory`.
+    pub fn new(
+        alloc: Global,
+        ring: RingSize,
+        bytes: RingBytes,
+        last: Option<u32>,
+    ) -> Result<Subscriber, Refusal>
+        ensures shows { IfOk result (λ s. Shows s (begin ring bytes last)) }
+        ensures none { IfOk result HasNoCopies }
         ensures memory { IfErr result (λ refusal. refusal ≡ Refusal.NoMemory) }
     {
         Ok(Subscriber {
             alloc,
-            effective: Vec::with_capacity(alloc, 1)?,
-            count: 0,
-            on: false,
-            outbox: Outbox::new(alloc),
+            connected: false,
+            grants: Grants::new(alloc)?,
+            listed: ConfigList::new(alloc)?,
+            streams: Vec::with_capacity(alloc, MOST_STREAMS)?,
+            output: Output::new(alloc, ring, bytes)?,
+            last_tick: last,
+            blocks: HeapCircularBuffer::with_capacity(alloc, MOST_BLOCKS)?,
+            configs: HeapCircularBuffer::with_capacity(alloc, MOST_CONFIGS)?,
         })
     }
 
-    /// Whether this configuration changes the CFG-1 list.
-    fn is_changed_by(&self, config: &PmuConfig) -> bool
-        ensures { result ≡ not (same_list self.now.effective (config.now ∷ [])) }
+    /// Whether a PMU is granted.
+    pub fn holds(&self, key: PmuKey) -> bool
+        ensures value { result ≡ has_key self.now.own.grants key }
     {
-        match self.effective.first() {
-            None => true,
-            Some(held) => !is_same_block(&held.block, &config.block),
+        self.grants.holds(key)
+    }
+
+    /// How many PMUs are granted: at most 32 (own rule).
+    pub fn grant_count(&self) -> usize
+        ensures value { result ≡ length self.now.own.grants }
+        ensures few { result ≤ 32 }
+    {
+        self.grants.len()
+    }
+
+    /// How many streams are defined: at most 8 (own rule).
+    pub fn stream_count(&self) -> usize
+        ensures value { result ≡ length self.now.own.streams }
+        ensures few { result ≤ 8 }
+    {
+        self.streams.len()
+    }
+
+    /// What waits to be handed out.
+    pub fn queue(&self) -> &OutQueue
+        ensures value { result.now ≡ self.now.own.output.queue }
+    {
+        self.output.queue()
+    }
+
+    /// The counters.
+    pub fn stats(&self) -> &Stats
+        ensures value { result.now ≡ self.now.own.output.stats }
+    {
+        self.output.stats()
+    }
+
+    /// Whether the subscriber takes the event: an announcement of granted PMUs alone; a measurement of granted PMUs alone, each
+    /// with the configuration that is listed for it; both of some places of the frame, in its order; and a grant with a
+    /// configuration of its PMU, or none. It takes all others.
+    pub fn accepts(&self, event: &PrivateEvent<'_>) -> bool
+        ensures { Decides result (Accepts self.now event.now) }
+    {
+        match event {
+            PrivateEvent::Grant(key, Some(config)) => config.pmu() == key.pmu,
+            PrivateEvent::Announce(config, places) => {
+                are_places(config.count(), places) && are_own(&self.grants, config, places)
+            }
+            PrivateEvent::Measure(frame, places) => {
+                are_places(frame.count(), places)
+                    && are_held(&self.grants, &self.listed, frame, places)
+            }
+            _ => true,
         }
     }
 
-    /// The member's configuration was announced. The stream's count goes up by one where its CFG-1 list changes.
-    pub fn announce(&mut self, config: Arc<PmuConfig>) -> PrivateReply
-        ensures { Takes self.old (announce (arc_value config)) (told result) self.new }
+    /// Lays the copies that an event needs, before anything changes. Those that lay ready before are given up. Where the event
+    /// needs none it takes no memory.
+    ///
+    /// # Errors
+    ///
+    /// `NoMemory`, and then no copy lies ready.
+    pub fn copies(&mut self, event: &PrivateEvent<'_>) -> Result<(), Refusal>
+        requires accepts { Accepts self.old event.now }
+        ensures ready { IfOk result (λ u. IsReady self.new (happening event.now)) }
+        ensures none { IfErr result (λ refusal. HasNoCopies self.new) }
+        ensures memory { IfErr result (λ refusal. refusal ≡ Refusal.NoMemory) }
+        ensures needless { NeedsNone self.old (happening event.now) → IsOk result }
+        ensures own { self.new.own ≡ self.old.own }
     {
-        if self.is_changed_by(&config) {
-            self.count = self.count.wrapping_add(1);
+        self.forget();
+        match self.lay(event) {
+            Ok(_) => Ok(()),
+            Err(refusal) => {
+                self.forget();
+                Err(refusal)
+            }
         }
-        self.effective.clear();
-        self.effective.push_reserved(config);
+    }
+
+    /// Whether just the copies lie ready that an event needs. It asks for one that the subscriber accepts.
+    pub fn ready(&self, event: &PrivateEvent<'_>) -> bool
+        requires accepts { Accepts self.now event.now }
+        ensures { Decides result (IsReady self.now (happening event.now)) }
+    {
+        match event {
+            PrivateEvent::Grant(key, Some(config)) => {
+                self.blocks.is_empty() && self.is_granted_ready(key, config)
+            }
+            PrivateEvent::Announce(config, places) => {
+                self.blocks.is_empty() && are_copies(config, places, &self.configs)
+            }
+            PrivateEvent::Measure(frame, places) => {
+                self.configs.is_empty() && are_wanted(frame, places, &self.streams, &self.blocks)
+            }
+            _ => self.blocks.is_empty() && self.configs.is_empty(),
+        }
+    }
+
+    /// Whether just the copy lies ready that a grant needs.
+    fn is_granted_ready(&self, key: &PmuKey, config: &PmuConfig) -> bool
+        ensures { Decides result (self.now.configs ≡ granted_wanted self.now.own.grants key.now (Some config.now)) }
+    {
+        if self.grants.holds(*key) || self.grants.is_full() {
+            return self.configs.is_empty();
+        }
+        self.configs.len() == 1 && is_copy(&self.configs, 0, config)
+    }
+
+    /// Lays the copies that an event needs, where none lie.
+    fn lay(&mut self, event: &PrivateEvent<'_>) -> Result<(), Refusal>
+        requires accepts { Accepts self.old event.now }
+        requires none { HasNoCopies self.old }
+        ensures ready { IfOk result (λ u. IsReady self.new (happening event.now)) }
+        ensures memory { IfErr result (λ refusal. refusal ≡ Refusal.NoMemory) }
+        ensures needless { NeedsNone self.old (happening event.now) → IsOk result }
+        ensures own { self.new.own ≡ self.old.own }
+    {
+        match event {
+            PrivateEvent::Grant(key, Some(config)) => self.lay_granted(key, config),
+            PrivateEvent::Announce(config, places) => {
+                copy_parts(config, places, &mut self.configs)
+            }
+            PrivateEvent::Measure(frame, places) => {
+                copy_blocks(frame, places, &self.streams, &mut self.blocks)
+            }
+            _ => Ok(()),
+        }
+    }
+
+    /// Lays the copy that a grant needs: of what the PMU has announced, where it is granted anew.
+    fn lay_granted(&mut self, key: &PmuKey, config: &Arc<PmuConfig>) -> Result<(), Refusal>
+        requires none { HasNoCopies self.old }
+        ensures blocks { self.new.blocks ≡ [] }
+        ensures configs { IfOk result (λ u. self.new.configs ≡ granted_wanted self.old.own.grants key.now (Some (arc_value config.now))) }
+        ensures memory { IfErr result (λ refusal. refusal ≡ Refusal.NoMemory) }
+        ensures needless { granted_wanted self.old.own.grants key.now (Some (arc_value config.now)) ≡ [] → IsOk result }
+        ensures own { self.new.own ≡ self.old.own }
+    {
+        if self.grants.holds(*key) {
+            return Ok(());
+        }
+        if self.grants.is_full() {
+            return Ok(());
+        }
+        lay_config(config, &mut self.configs)?;
+        Ok(())
+    }
+
+    /// Gives up the copies that lie ready. Nothing else changes.
+    pub fn forget(&mut self)
+        ensures none { HasNoCopies self.new }
+        ensures own { self.new.own ≡ self.old.own }
+    {
+        self.blocks.clear();
+        self.configs.clear();
+    }
+
+    /// Takes an event: one step of the private gateway. With `lost` every data frame that it makes is a number without a
+    /// frame; else those that find no memory are, from the first such on. Afterwards no copy lies ready.
+    ///
+    /// It asks for an event that the subscriber accepts, and that just the copies that it needs lie ready.
+    ///
+    /// # Errors
+    ///
+    /// The reply is `Refused` with the first that holds: of a grant `GrantsFull`; of a revoke `NotGranted`; of a definition
+    /// `BadDefinition`, `StreamExists`, `StreamsFull`, `NoMemory`; of a removal `NoSuchStream`; of a connect `Busy`; of a
+    /// hang-up `NotConnected`; of a command `NotConnected`, `NoSuchStream`, `UnknownCommand`, `Unsupported`, and where it asks
+    /// for a reply `ReplyFull`, `NoMemory`. A drain is answered with its buffer, and with `NotConnected`.
+    pub fn take(&mut self, event: PrivateEvent<'_>, lost: bool) -> PrivateReply
+        requires accepts { Accepts self.old event }
+        requires ready { IsReady self.old (happening event) }
+        ensures takes { Takes self.old (happening event.entry) lost (told result) self.new }
+        // the same of what is kept, whatever state that shows
+        ensures steps { Steps self.old (happening event.entry) lost (told result) self.new }
+        ensures few { MakesFew (told result) }
+        ensures buffer { KeepsBuffer event.entry result }
+        ensures none { HasNoCopies self.new }
+    {
+        match event {
+            PrivateEvent::Grant(key, _) => self.grant(key, lost),
+            PrivateEvent::Revoke(key) => self.revoke(key, lost),
+            PrivateEvent::Announce(config, places) => self.announce(config, places, lost),
+            PrivateEvent::Measure(frame, places) => self.measure(frame, places, lost),
+            PrivateEvent::Define(definition) => self.define(definition, lost),
+            PrivateEvent::Remove(stream) => self.remove(stream, lost),
+            PrivateEvent::Tick(soc) => self.tick(soc, lost),
+            PrivateEvent::Connect => self.connect(lost),
+            PrivateEvent::Hangup => self.hang_up(lost),
+            PrivateEvent::Command(asked) => self.command(&asked, lost),
+            PrivateEvent::Drain(buf) => self.drain(buf, lost),
+        }
+    }
+
+    /// A tick.
+    fn tick(&mut self, soc: u32, lost: bool) -> PrivateReply
+        requires none { HasNoCopies self.old }
+        ensures steps { Steps self.old (tick soc) lost (told result) self.new }
+        ensures none { HasNoCopies self.new }
+        ensures few { MakesFew (told result) }
+        ensures plain { IsPlain result }
+    {
+        self.output.begin(lost);
+        tick_all(
+            self.alloc,
+            &self.listed,
+            &mut self.streams,
+            &mut self.output,
+        );
+        self.last_tick = Some(soc);
+        self.output.done()
+    }
+
+    /// Blocks of granted PMUs came, whose copies lie ready.
+    fn measure(&mut self, frame: &DataFrame, places: &[usize], lost: bool) -> PrivateReply
+        requires places { ArePlaces (length frame.now.config.parts) places.now }
+        requires held { AreHeld self.old.own.grants self.old.own.listed (samples_at frame.now places.now) }
+        requires ready { self.old.blocks ≡ all_wanted self.old.own.streams frame.now.quality (samples_at frame.now places.now) }
+        requires none { self.old.configs ≡ [] }
+        ensures steps { Steps self.old (measure frame.now.soc frame.now.quality frame.now.frac (samples_at frame.now places.now)) lost (told result) self.new }
+        ensures none { HasNoCopies self.new }
+        ensures few { MakesFew (told result) }
+        ensures plain { IsPlain result }
+    {
+        let _count = frame.count();
+        self.output.begin(lost);
+        measure_all(
+            self.alloc,
+            &self.listed,
+            frame,
+            places,
+            &mut self.streams,
+            &mut self.blocks,
+            &mut self.output,
+        );
+        self.output.done()
+    }
+
+    /// The subscriber connects.
+    fn connect(&mut self, lost: bool) -> PrivateReply
+        requires none { HasNoCopies self.old }
+        ensures steps { Steps self.old connect lost (told result) self.new }
+        ensures none { HasNoCopies self.new }
+        ensures few { MakesFew (told result) }
+        ensures plain { IsPlain result }
+    {
+        if self.connected {
+            return PrivateReply::Refused(Refusal::Busy);
+        }
+        self.connected = true;
         PrivateReply::Done { made: 0, kept: 0 }
     }
 
-    /// The member was measured: PMU i of the frame. While the stream is on, that makes one data frame.
-    pub fn measure(&mut self, frame: &DataFrame, i: usize) -> PrivateReply
-        requires { i < length frame.now.config.parts }
-        ensures { Takes self.old (measure (record { soc = frame.now.soc; quality = frame.now.quality; frac = frame.now.frac; block = block_of frame.now i })) (told result) self.new }
+    /// The subscriber hangs up.
+    fn hang_up(&mut self, lost: bool) -> PrivateReply
+        requires none { HasNoCopies self.old }
+        ensures steps { Steps self.old hangup lost (told result) self.new }
+        ensures none { HasNoCopies self.new }
+        ensures few { MakesFew (told result) }
+        ensures plain { IsPlain result }
     {
-        if !self.on {
+        if !self.connected {
+            return PrivateReply::Refused(Refusal::NotConnected);
+        }
+        stop_all(&mut self.streams);
+        self.output.clear();
+        self.connected = false;
+        PrivateReply::Done { made: 0, kept: 0 }
+    }
+
+    /// A PMU is granted. What it has announced, of which a copy lies ready, is put into the CFG-1 list; each stream whose effective
+    /// blocks that changes is flushed first.
+    fn grant(&mut self, key: PmuKey, lost: bool) -> PrivateReply
+        requires blocks { self.old.blocks ≡ [] }
+        ensures steps { (config : Option Part) → self.old.configs ≡ granted_wanted self.old.own.grants key config → Steps self.old (grant key config) lost (told result) self.new }
+        ensures none { (config : Option Part) → self.old.configs ≡ granted_wanted self.old.own.grants key config → HasNoCopies self.new }
+        ensures few { MakesFew (told result) }
+        ensures plain { IsPlain result }
+    {
+        if self.grants.holds(key) {
             return PrivateReply::Done { made: 0, kept: 0 };
         }
-        if self.queue_frame(frame, i) {
-            PrivateReply::Done { made: 1, kept: 1 }
-        } else {
-            PrivateReply::Done { made: 1, kept: 0 }
+        if self.grants.is_full() {
+            return PrivateReply::Refused(Refusal::GrantsFull);
         }
+        let _few = self.grants.len();
+        let _rising = self.listed.len();
+        let _granted = self.grants.grant(key);
+        let Some(copy) = self.configs.pop_front() else {
+            return PrivateReply::Done { made: 0, kept: 0 };
+        };
+        self.output.begin(lost);
+        list_one(
+            self.alloc,
+            &key,
+            copy,
+            &mut self.listed,
+            &mut self.streams,
+            &mut self.output,
+        );
+        self.output.done()
     }
 
-    /// Makes a data frame of a PMU's block and queues it, or counts it as lost where there is no memory for it.
-    fn queue_frame(&mut self, frame: &DataFrame, i: usize) -> bool
-        requires { i < length frame.now.config.parts }
-        ensures kept { result ≡ true → self.new ≡ record self.old { queue = with_data self.old.queue (data_frame (record { soc = frame.now.soc; quality = frame.now.quality; frac = frame.now.frac; block = block_of frame.now i })) } }
-        ensures lost { result ≡ false → self.new ≡ record self.old { queue = with_lost self.old.queue } }
+    /// Granted PMUs announced their configurations, whose copies lie ready.
+    fn announce(&mut self, config: &SourceConfig, places: &[usize], lost: bool) -> PrivateReply
+        requires places { ArePlaces (length config.now.parts) places.now }
+        requires own { AreOwn self.old.own.grants (announced_at config.now places.now) }
+        requires blocks { self.old.blocks ≡ [] }
+        requires ready { self.old.configs ≡ map config_of (announced_at config.now places.now) }
+        ensures steps { Steps self.old (announce (announced_at config.now places.now)) lost (told result) self.new }
+        ensures none { HasNoCopies self.new }
+        ensures few { MakesFew (told result) }
+        ensures plain { IsPlain result }
     {
-        match compose(self.alloc, frame, i) {
-            Ok(bytes) => self.outbox.push_data(bytes),
-            Err(_) => {
-                self.outbox.push_lost();
-                false
-            }
-        }
+        self.output.begin(lost);
+        let _few = self.grants.len();
+        let _rising = self.listed.len();
+        list_all(
+            self.alloc,
+            config,
+            places,
+            &mut self.configs,
+            &mut self.listed,
+            &mut self.streams,
+            &mut self.output,
+        );
+        self.output.done()
     }
 
-    /// A command. Start data and send CFG-2 are obeyed, for the stream 101; the others are `Unsupported`, and another
-    /// stream is `NoSuchStream`. Send CFG-2 may be refused with NoMemory.
-    pub fn command(&mut self, asked: Command) -> PrivateReply
-        ensures { Takes self.old (command asked.stream asked.word) (told result) self.new }
+    /// The grant of a PMU is taken back. Each stream whose effective blocks that changes is flushed first.
+    fn revoke(&mut self, key: PmuKey, lost: bool) -> PrivateReply
+        requires none { HasNoCopies self.old }
+        ensures steps { Steps self.old (revoke key) lost (told result) self.new }
+        ensures none { HasNoCopies self.new }
+        ensures few { MakesFew (told result) }
+        ensures plain { IsPlain result }
     {
-        if asked.stream != STREAM {
+        if !self.grants.holds(key) {
+            return PrivateReply::Refused(Refusal::NotGranted);
+        }
+        self.output.begin(lost);
+        let change = Change::Remove(key);
+        let counts = change.counts(&self.listed);
+        reshape_all(
+            self.alloc,
+            &self.listed,
+            &change,
+            counts,
+            &mut self.streams,
+            &mut self.output,
+        );
+        self.listed.remove(&key);
+        let _revoked = self.grants.revoke(key);
+        self.output.done()
+    }
+
+    /// What waits is handed out into a buffer, as far as it goes.
+    fn drain(&mut self, mut buf: Vec<u8>, lost: bool) -> PrivateReply
+        requires none { HasNoCopies self.old }
+        ensures steps { Steps self.old (drain (vec_len buf)) lost (told result) self.new }
+        ensures none { HasNoCopies self.new }
+        ensures few { MakesFew (told result) }
+        ensures buffer { ReturnsBuffer buf.items result }
+    {
+        if !self.connected {
+            return PrivateReply::Drained {
+                buf,
+                out: Err(Refusal::NotConnected),
+            };
+        }
+        let out = self.output.drain(&mut buf);
+        PrivateReply::Drained { buf, out: Ok(out) }
+    }
+
+    /// A stream is removed, with its open slots.
+    fn remove(&mut self, stream: StreamId, lost: bool) -> PrivateReply
+        requires none { HasNoCopies self.old }
+        ensures steps { Steps self.old (remove stream) lost (told result) self.new }
+        ensures none { HasNoCopies self.new }
+        ensures few { MakesFew (told result) }
+        ensures plain { IsPlain result }
+    {
+        if stream_of(&self.streams, stream.get()).is_none() {
             return PrivateReply::Refused(Refusal::NoSuchStream);
         }
-        match asked.word {
-            START_DATA => {
-                self.on = true;
-                PrivateReply::Done { made: 0, kept: 0 }
+        remove_streams(&mut self.streams, stream.get());
+        PrivateReply::Done { made: 0, kept: 0 }
+    }
+
+    /// A command of the subscriber. Refused ones are counted, where it is connected.
+    fn command(&mut self, asked: &Command, lost: bool) -> PrivateReply
+        requires none { HasNoCopies self.old }
+        ensures steps { Steps self.old (command asked.now.stream asked.now.word) lost (told result) self.new }
+        ensures none { HasNoCopies self.new }
+        ensures few { MakesFew (told result) }
+        ensures plain { IsPlain result }
+    {
+        if !self.connected {
+            return PrivateReply::Refused(Refusal::NotConnected);
+        }
+        match self.obey(asked) {
+            Ok(_) => PrivateReply::Done { made: 0, kept: 0 },
+            Err(refusal) => {
+                self.output.count_refusal(refusal);
+                PrivateReply::Refused(refusal)
             }
-            SEND_CFG_TWO => match self.reply_config() {
-                Ok(()) => PrivateReply::Done { made: 0, kept: 0 },
-                Err(refusal) => PrivateReply::Refused(refusal),
-            },
-            _ => PrivateReply::Refused(Refusal::Unsupported),
         }
     }
 
-    /// The CFG-2 frame of the stream.
-    fn compose_config(&self) -> Result<Vec<u8>, Refusal>
-        ensures frame { IfOk result (λ v. v.items ≡ config_reply self.now.count self.now.effective) }
-        ensures memory { IfErr result (λ refusal. refusal ≡ Refusal.NoMemory) }
+    /// Does what a command asks for. A refusal changes nothing.
+    fn obey(&mut self, asked: &Command) -> Result<(), Refusal>
+        requires connected { self.old.own.connected ≡ true }
+        requires none { HasNoCopies self.old }
+        ensures done { IfOk result (λ u. Obeys self.old.own asked.now.stream asked.now.word self.new.own) }
+        ensures refused { IfErr result (MayRefuse self.old.own asked.now.stream asked.now.word) }
+        ensures unchanged { IfErr result (λ refusal. self.new.own ≡ self.old.own) }
+        ensures none { HasNoCopies self.new }
     {
-        write_config(
+        let Some(stream) = stream_of(&self.streams, asked.stream) else {
+            return Err(Refusal::NoSuchStream);
+        };
+        let word = word_at(asked.word)?;
+        if !is_question(word) {
+            switch_streams(&mut self.streams, asked.stream, asked.word);
+            return Ok(());
+        }
+        let soc = self.last_tick.unwrap_or(0);
+        send_reply(
             self.alloc,
-            Kind::CfgTwo,
-            StreamId::new(STREAM).unwrap(),
-            0,
-            BASE,
-            RATE,
-            self.count,
-            &self.effective,
-        )
+            stream,
+            word,
+            soc,
+            &self.listed,
+            &mut self.output,
+        )?;
+        Ok(())
     }
 
-    /// Queues the CFG-2 frame of the stream. NoMemory changes nothing.
-    fn reply_config(&mut self) -> Result<(), Refusal>
-        ensures ok { OnOk result (self.new ≡ record self.old { queue = with_reply self.old.queue (config_reply self.old.count self.old.effective) }) }
-        ensures err { OnErr result (self.new ≡ self.old) }
-        ensures memory { IfErr result (λ refusal. refusal ≡ Refusal.NoMemory) }
+    /// A stream is defined. It is off, and stands last.
+    fn define(&mut self, definition: Definition, lost: bool) -> PrivateReply
+        requires none { HasNoCopies self.old }
+        ensures steps { Steps self.old (define definition) lost (told result) self.new }
+        ensures none { HasNoCopies self.new }
+        ensures few { MakesFew (told result) }
+        ensures plain { IsPlain result }
     {
-        let frame = self.compose_config()?;
-        self.outbox.push_reply(frame)
-    }
-
-    /// Hands out what waits, as far as it fits the buffer.
-    pub fn drain(&mut self, buffer: &mut [u8]) -> Drained
-        ensures takes { Takes self.old (drain (length buffer.old)) (handed (take result.len buffer.new) result.begun result.gap) self.new }
-        ensures within { result.len ≤ length buffer.old }
-    {
-        self.outbox.drain(buffer)
+        if let Err(refusal) = check_definition(&definition) {
+            return PrivateReply::Refused(refusal);
+        }
+        if stream_of(&self.streams, definition.stream.get()).is_some() {
+            return PrivateReply::Refused(Refusal::StreamExists);
+        }
+        if self.streams.len() >= MOST_STREAMS {
+            return PrivateReply::Refused(Refusal::StreamsFull);
+        }
+        match Stream::new(self.alloc, definition, &self.listed) {
+            Ok(stream) => {
+                self.streams.push_reserved(stream);
+                PrivateReply::Done { made: 0, kept: 0 }
+            }
+            Err(refusal) => PrivateReply::Refused(refusal),
+        }
     }
 }

@@ -4,3 +4,4 @@ pub mod Taking
 pub mod Stream
 pub mod Splitting
 pub mod Spelled
+pub mod Holding

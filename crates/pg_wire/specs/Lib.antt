@@ -9,3 +9,4 @@ pub mod Head
 pub mod Heads
 pub mod Kinds
 pub mod Keys
+pub mod Held

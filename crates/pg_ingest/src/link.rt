@@ -1,0 +1,192 @@
+//! The link to a source.
+
+ghost use Rattle.std.specs.Prelude.{◌≡◌, ◌+◌, ◌≤◌, ◌<◌, ◌++◌, length, IfOk, IfErr, IfNone, OnSome};
+ghost use Rattle.pg_ingest.specs.Reading.{item_told, IsPaired};
+ghost use Rattle.pg_ingest.specs.Commands.{told_in};
+ghost use Rattle.pg_ingest.specs.Linking.{unfed, heard, after_item, stats_of, ignoring, words_owed};
+ghost use Rattle.pg_ingest.specs.Shown.{LinkPast, beginning, feeding, renewed, Shows, command_due, commanding};
+ghost use Rattle.pg_ingest.specs.Links.{IsEventOf, Gives, Holds, Counts};
+ghost use Rattle.pg_audit.specs.Counting.{no_pmu_stats};
+
+use crate::asking::Asking;
+use crate::told::{Told, tell};
+use pg_audit::PmuStats;
+use pg_command::write_command;
+use pg_config::SourceConfig;
+use pg_data::DataFrame;
+use pg_wire::{Deframer, PmuId, Refusal, Taken};
+use std::alloc::Global;
+use std::marker::Model;
+use std::sync::Arc;
+
+/// What comes next of a source's bytes.
+#[derive(Drop)]
+pub enum LinkEvent {
+    /// The source announces this configuration, by a CFG-2 frame (C37.118.2, 6.4).
+    Announce(Arc<SourceConfig>),
+    /// A data frame, read by the configuration announced last (C37.118.2, 6.3).
+    Measure(Arc<DataFrame>),
+    /// A frame was ignored for this reason: `BadCheck` or `BadVersion`; `WrongType` for a frame that is neither CFG-2 nor
+    /// data; for CFG-2 those of `read_config`, then `WrongId` for another source's; for data `NoConfig` where nothing was
+    /// announced, then those of `read_data`; `NoMemory` last, but before the `WrongId` of another source's CFG-2.
+    Ignored(Refusal),
+    /// Nothing comes any more until a reset, since the bytes broke: `BadFirst`, `BadSecond` or `ShortSize`.
+    Ended(Refusal),
+    /// No whole frame is held, and none is broken: more bytes have to come.
+    More,
+}
+
+/// The link to one source (own rule). It makes events of the source's bytes, and tells which commands the source is owed:
+/// 5, send CFG-2, at the start and where the configuration may have changed, and 2, start data, once a configuration was
+/// accepted.
+#[derive(Drop)]
+pub struct Link {
+    alloc: Global,
+    source: PmuId,
+    deframer: Deframer,
+    known: Option<Arc<SourceConfig>>,
+    asking: Asking,
+    stats: PmuStats,
+}
+
+impl Model for Link {
+    ghost use Rattle.std.specs.Prelude.{option_map};
+    ghost use Rattle.std.specs.Arc.{arc_value};
+    ghost use Rattle.pg_ingest.specs.Linking.{Linking};
+    ghost use Rattle.pg_wire.specs.Held.{IsHeld};
+
+    ghost Value = { Linking };
+
+    ghost view = { λ l. record { source = l.source; bytes = l.deframer; known = option_map arc_value l.known; asking = l.asking; stats = l.stats } };
+
+    ghost invariant = { λ l. IsHeld l.deframer };
+}
+
+impl Link {
+    /// A link of this source that was fed nothing, all counters at 0. The one refusal is `NoMemory`.
+    pub fn new(alloc: Global, source: PmuId) -> Result<Link, Refusal>
+        ensures state { IfOk result (λ l. l ≡ unfed source no_pmu_stats) }
+        ensures shows { IfOk result (λ l. Shows l (beginning source)) }
+        ensures memory { IfErr result (λ refusal. refusal ≡ Refusal.NoMemory) }
+    {
+        Ok(Link {
+            alloc,
+            source,
+            deframer: Deframer::new(alloc)?,
+            known: None,
+            asking: Asking::new(),
+            stats: PmuStats::new(),
+        })
+    }
+
+    /// Whose link it is.
+    pub fn source(&self) -> PmuId
+        ensures value { result ≡ self.now.source }
+    {
+        self.source
+    }
+
+    /// How many more bytes there is room for: 65,535 less the bytes that are held.
+    pub fn room(&self) -> usize
+        ensures value { result + length self.now.bytes.held ≡ 65535 }
+    {
+        self.deframer.room()
+    }
+
+    /// Takes the next piece of the source's bytes, which is no longer than `room` tells. Behind a break it is dropped.
+    pub fn feed(&mut self, piece: &[u8])
+        requires { length self.old.bytes.held + length piece.now ≤ 65535 }
+        ensures state { self.new ≡ heard self.old piece.now }
+        // Whatever its past was, the piece comes after it.
+        ensures shows { (past : LinkPast) → Shows self.old past → Shows self.new (feeding past piece.now) }
+    {
+        self.deframer.feed(piece);
+    }
+
+    /// The next event, as soon as its frame is whole, or why a frame was ignored. Events and ignored frames are counted.
+    pub fn next_event(&mut self) -> LinkEvent
+        ensures gives { Gives self.old result self.new }
+        ensures holds { Holds self.old result self.new }
+        ensures counts { Counts self.old.stats result self.new.stats }
+        ensures same { self.new.source ≡ self.old.source }
+    {
+        match self.deframer.next() {
+            Taken::Frame(frame) => {
+                let told = tell(self.alloc, self.source, &self.known, frame);
+                self.take(told)
+            }
+            Taken::Skipped(refusal) => self.take(Told::Skipped(refusal)),
+            Taken::More => LinkEvent::More,
+            Taken::Broken(refusal) => LinkEvent::Ended(refusal),
+        }
+    }
+
+    /// Keeps what a frame tells, counts it, and tells it.
+    fn take(&mut self, told: Told) -> LinkEvent
+        requires { IsPaired told }
+        ensures event { IsEventOf result (item_told told) }
+        ensures state { self.new ≡ after_item self.old (item_told told) }
+    {
+        match told {
+            Told::Config(kept, given) => {
+                self.known = Some(kept);
+                self.asking.accept();
+                self.stats.count_taken();
+                LinkEvent::Announce(given)
+            }
+            Told::Data(frame) => {
+                self.asking.measure(frame.is_changed());
+                self.stats.count_taken();
+                LinkEvent::Measure(frame)
+            }
+            Told::Skipped(refusal) | Told::BadConfig(refusal) => {
+                self.asking.answer();
+                self.ignore(refusal)
+            }
+            Told::BadData(refusal) => {
+                self.asking.reject(refusal);
+                self.ignore(refusal)
+            }
+            Told::Other => self.ignore(Refusal::WrongType),
+        }
+    }
+
+    /// Counts a frame that is ignored, and tells why.
+    fn ignore(&mut self, refusal: Refusal) -> LinkEvent
+        ensures event { result ≡ LinkEvent.Ignored refusal }
+        ensures state { self.new ≡ record self.old { stats = ignoring self.old.stats refusal } }
+    {
+        self.stats.count_refusal(refusal);
+        LinkEvent::Ignored(refusal)
+    }
+
+    /// The next command that the source is owed, as a frame of SOC 0, if any: 5, send CFG-2, before 2, start data.
+    pub fn next_out(&mut self) -> Option<[u8; 18]>
+        ensures gives { (past : LinkPast) → Shows self.old past → (result ≡ command_due past) × Shows self.new (commanding past) }
+        ensures fewer { OnSome result (words_owed self.new < words_owed self.old) }
+        ensures none { IfNone result (self.new ≡ self.old) }
+        ensures same { self.new ≡ record self.old { asking = self.new.asking } }
+    {
+        let word = self.asking.next_word()?;
+        Some(write_command(self.source, 0, word.number()))
+    }
+
+    /// Starts anew, as on a new connection: without a configuration, with command 5 owed, and without the bytes of a frame
+    /// that had begun. The counters stay, and so does its memory.
+    pub fn reset(&mut self)
+        ensures state { self.new ≡ unfed self.old.source self.old.stats }
+        ensures shows { (past : LinkPast) → Shows self.old past → Shows self.new (renewed past) }
+    {
+        self.deframer.reset();
+        self.known = None;
+        self.asking = Asking::new();
+    }
+
+    /// What it counted since it was new: the events that it gave, and the frames that it ignored by their reason.
+    pub fn stats(&self) -> &PmuStats
+        ensures value { result.now ≡ self.now.stats }
+        ensures counts { (past : LinkPast) → Shows self.now past → result.now ≡ stats_of (past.earlier ++ told_in past.acts) }
+    {
+        &self.stats
+    }
+}

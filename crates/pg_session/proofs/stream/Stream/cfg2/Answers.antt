@@ -1,0 +1,11 @@
+use Rattle.std.proofs.Common.{◌≡◌, subst, IfOk}
+use Rattle.pg_data.specs.Shared.{Piece}
+use Rattle.pg_align.specs.Slots.{Aligned}
+use Rattle.pg_outcfg.specs.Frames.{cfg2_frame}
+use Rattle.pg_session.specs.Streams.{StreamOf}
+use Rattle.pg_session.proofs.stream.Stream.cfg2.Goals as goal
+
+pub returns-clause-frame : goal.returns-clause-frame
+returns-clause-frame c =
+    subst (λ (s : StreamOf (Aligned Piece)). IfOk c.cfg2.result (λ v. v.items ≡ cfg2_frame s.definition s.count c.args.soc c.args.listed.now))
+    c.self.view_is c.cfg2.ensures.frame

@@ -1,0 +1,90 @@
+-- What follows for whole runs of private events.
+use Rattle.std.specs.Prelude.{◌≡◌, ◌<◌, ◌&&◌, ℕ, zero, suc, ◌-◌, nat_le, Bool, if◌then◌else◌, List, [], ◌∷◌, ◌++◌, length, Option, Some, None, option_map}
+use Rattle.pg_entitle.specs.Grants.{has_key}
+use Rattle.pg_ring.specs.Fates.{Call, Push, Lose, Reply, Drain, HangUp, history_of, fates, one_if}
+use Rattle.pg_align.specs.Histories.{History}
+use Rattle.pg_data.specs.Shared.{Piece}
+use Rattle.pg_session.specs.Streams.{Turn}
+use Rattle.pg_session.specs.Events.{Happening, Sample, grant, revoke, announce, measure, define, remove, tick, connect, hangup, command, drain}
+use Rattle.pg_session.specs.Private.{Told, done, refused, handed, May, next, turns_of, frames_of, asks_reply, reply_frame, stream_at}
+use Rattle.pg_session.specs.ByAll.{by_arrivals, by_numbers}
+use Rattle.pg_session.specs.Shown.{Model, begin}
+
+-- private events, each with the reply to it
+abbrev pub Run : Type 0
+Run = List (Happening × Told)
+
+-- the state after a run
+abbrev pub after : Model → Run → Model
+after p [] = p
+after p (x ∷ xs) = after (next by_arrivals by_numbers p x.0 x.1) xs
+
+-- what the replies of a run hand out: the bytes, how many frames they begin, and the gaps before these
+abbrev pub handed_by : Told → List (List ℕ × ℕ × ℕ)
+handed_by (done made kept) = []
+handed_by (refused r) = []
+handed_by (handed bytes begun gap) = (bytes, begun, gap) ∷ []
+
+abbrev pub handed_in : Run → List (List ℕ × ℕ × ℕ)
+handed_in [] = []
+handed_in (x ∷ xs) = handed_by x.1 ++ handed_in xs
+
+-- what the frames made are to the queue: the first `kept` are pushed, the others lost
+abbrev pub frame_calls : ℕ → List (List ℕ) → List Call
+frame_calls kept [] = []
+frame_calls zero (frame ∷ frames) = Lose ∷ frame_calls zero frames
+frame_calls (suc kept) (frame ∷ frames) = Push frame ∷ frame_calls kept frames
+
+abbrev pub turn_calls : ℕ → List (Turn (History Piece)) → List Call
+turn_calls kept [] = []
+turn_calls kept (turn ∷ turns) = frame_calls kept turn.frames ++ turn_calls (kept - length turn.frames) turns
+
+abbrev pub reply_calls : Option (List ℕ) → List Call
+reply_calls None = []
+reply_calls (Some frame) = Reply frame ∷ []
+
+-- what an event that is not refused is to the queue
+abbrev pub calls_done : Model → Happening → ℕ → List Call
+calls_done p (grant key config) kept =
+    if has_key p.grants key then [] else turn_calls kept (turns_of by_arrivals by_numbers p (grant key config))
+calls_done p (revoke key) kept = turn_calls kept (turns_of by_arrivals by_numbers p (revoke key))
+calls_done p (announce list) kept = turn_calls kept (turns_of by_arrivals by_numbers p (announce list))
+calls_done p (measure soc quality frac samples) kept = turn_calls kept (turns_of by_arrivals by_numbers p (measure soc quality frac samples))
+calls_done p (tick soc) kept = turn_calls kept (turns_of by_arrivals by_numbers p (tick soc))
+calls_done p (define definition) kept = []
+calls_done p (remove number) kept = []
+calls_done p connect kept = []
+calls_done p hangup kept = HangUp ∷ []
+calls_done p (command number word) kept =
+    reply_calls (if asks_reply word then option_map (reply_frame by_arrivals by_numbers p word) (stream_at p.streams number) else None)
+calls_done p (drain n) kept = Drain n ∷ []
+
+abbrev pub calls_of : Model → Happening → Told → List Call
+calls_of p e (done made kept) = calls_done p e kept
+calls_of p e (refused r) = []
+calls_of p e (handed bytes begun gap) = calls_done p e 0
+
+-- what a run is to the queue
+abbrev pub calls_in : Model → Run → List Call
+calls_in p [] = []
+calls_in p (x ∷ xs) = calls_of p x.0 x.1 ++ calls_in (next by_arrivals by_numbers p x.0 x.1) xs
+
+-- A longer run goes on where the shorter one ends, and hands out the rest after what that handed.
+pub record RunsGoOn : Type 0 where
+  pub state : (p : Model) (xs ys : Run) → after p (xs ++ ys) ≡ after (after p xs) ys
+  pub handed : (xs ys : Run) → handed_in (xs ++ ys) ≡ handed_in xs ++ handed_in ys
+
+-- After any run the queue is what its calls make of a new one. So each number that was given has one fate: its frame was
+-- begun, or is queued; or it was, or is, in the gap of such a frame; or it is pending; or a hang-up found it waiting.
+pub record NumbersAreKept : Type 0 where
+  pub queue : (size limit : ℕ) (last : Option ℕ) (xs : Run)
+      → (after (begin size limit last) xs).output.queue ≡ (history_of size limit (calls_in (begin size limit last) xs)).now
+  pub fate : (size limit : ℕ) (last : Option ℕ) (xs : Run) (k : ℕ) → 0 < size
+      → fates (history_of size limit (calls_in (begin size limit last) xs)) k
+      ≡ one_if (nat_le 1 k && nat_le k (length (after (begin size limit last) xs).output.queue.made))
+
+-- A measurement that completes no slot makes no frame; it is done, whatever memory there is.
+pub record NeedsNoMemory : Type 0 where
+  pub reply : (p : Model) (soc quality frac : ℕ) (samples : List Sample) (lost : Bool) (r : Told)
+      → frames_of by_arrivals by_numbers p (measure soc quality frac samples) ≡ []
+      → May by_arrivals by_numbers p (measure soc quality frac samples) lost r → r ≡ done 0 0

@@ -1,0 +1,148 @@
+//! A subscriber's bytes, cut into commands as they come.
+
+ghost use Rattle.std.specs.Prelude.{◌≡◌, ℕ, ◌+◌, ◌≤◌, ◌<◌, List, [], ◌++◌, length, vec_len, IfOk, IfErr};
+ghost use Rattle.pg_session.specs.Commands.{Hearing, Item, item_read, with_item, next_of, unheard, heard, Shows, Gives, Holds};
+
+use pg_audit::PmuStats;
+use pg_command::{Command, read_command};
+use pg_wire::{Deframer, Refusal, SubId, Taken};
+use std::alloc::Global;
+use std::marker::Model;
+
+/// The bytes that a drain hands out at most.
+const DRAIN_BYTES: usize = 16_384;
+
+/// What comes next of a subscriber's bytes.
+#[derive(Clone, Copy, Debug)]
+pub enum Next {
+    /// A command (C37.118.2, 6.6).
+    Cmd(Command),
+    /// A frame was ignored: its CHK is wrong (`BadCheck`), its version is neither 1 nor 2 (`BadVersion`), it is no command
+    /// (`WrongType`), or a command of another length (`BadLength`).
+    Ignored(Refusal),
+    /// No whole frame is held, and none is broken: more bytes have to come.
+    More,
+    /// Nothing comes any more, since the bytes broke: `BadFirst`, `BadSecond` or `ShortSize`.
+    Broken(Refusal),
+}
+
+/// What a subscriber sends, from its connection on. It takes its memory when it is made, and none later.
+#[derive(Drop)]
+pub struct Session {
+    sub: SubId,
+    deframer: Deframer,
+    stats: PmuStats,
+    alloc: Global,
+    buffer: Vec<u8>,
+}
+
+impl Model for Session {
+    ghost use Rattle.pg_session.specs.Commands.{Hearing};
+    ghost use Rattle.std.specs.Prelude.{vec_len};
+
+    ghost Value = { Hearing };
+
+    ghost view = { λ s. record { sub = s.sub; bytes = s.deframer; stats = s.stats; buffer = vec_len s.buffer } };
+
+    ghost use Rattle.pg_wire.specs.Held.{IsHeld};
+
+    ghost invariant = { λ s. IsHeld s.deframer };
+}
+
+impl Session {
+    /// A session of this subscriber that was fed nothing. The one refusal is `NoMemory`.
+    pub fn new(alloc: Global, sub: SubId) -> Result<Session, Refusal>
+        ensures state { IfOk result (λ s. s ≡ unheard sub) }
+        ensures shows { IfOk result (λ s. Shows s [] []) }
+        ensures memory { IfErr result (λ refusal. refusal ≡ Refusal.NoMemory) }
+    {
+        Ok(Session {
+            sub,
+            deframer: Deframer::new(alloc)?,
+            stats: PmuStats::new(),
+            alloc,
+            buffer: vec![in alloc; 0; DRAIN_BYTES]?,
+        })
+    }
+
+    /// Whose session it is.
+    pub fn sub(&self) -> SubId
+        ensures value { result ≡ self.now.sub }
+    {
+        self.sub
+    }
+
+    /// Gives out the buffer that it keeps for drains, of 16,384 bytes (own rule), so that no drain takes memory. Until one is
+    /// put back it keeps an empty one.
+    pub fn take_buffer(&mut self) -> Vec<u8>
+        ensures buffer { vec_len result ≡ self.old.buffer }
+        ensures state { self.new ≡ record self.old { buffer = 0 } }
+    {
+        std::mem::replace(&mut self.buffer, Vec::new(self.alloc))
+    }
+
+    /// Puts a buffer for drains in its place.
+    pub fn put_buffer(&mut self, buffer: Vec<u8>)
+        ensures state { self.new ≡ record self.old { buffer = vec_len buffer } }
+    {
+        self.buffer = buffer;
+    }
+
+    /// How many more bytes there is room for: 65,535 less the bytes that are held.
+    pub fn room(&self) -> usize
+        ensures value { result + length self.now.bytes.held ≡ 65535 }
+    {
+        self.deframer.room()
+    }
+
+    /// Takes the next piece of the subscriber's bytes, which is no longer than `room` tells. Behind a break it is dropped.
+    pub fn feed(&mut self, piece: &[u8])
+        requires { length self.old.bytes.held + length piece.now ≤ 65535 }
+        ensures state { self.new ≡ heard self.old piece.now }
+        // Whatever stream it was fed before, it is fed the piece after it.
+        ensures shows { (stream : List ℕ) (given : List Item) → Shows self.old stream given → Shows self.new (stream ++ piece.now) given }
+    {
+        self.deframer.feed(piece);
+    }
+
+    /// The next command, as soon as its frame is whole, or why a frame was ignored. Commands and ignored frames are counted.
+    pub fn next_command(&mut self) -> Next
+        ensures gives { Gives self.old result self.new }
+        ensures holds { Holds self.old result self.new }
+        ensures same { self.new.sub ≡ self.old.sub }
+    {
+        match self.deframer.next() {
+            Taken::Frame(frame) => {
+                let read = read_command(frame);
+                self.count(read)
+            }
+            Taken::Skipped(refusal) => self.count(Err(refusal)),
+            Taken::More => Next::More,
+            Taken::Broken(refusal) => Next::Broken(refusal),
+        }
+    }
+
+    /// Counts a command, or a frame that was ignored.
+    fn count(&mut self, read: Result<Command, Refusal>) -> Next
+        ensures answer { result ≡ next_of (item_read read) }
+        ensures counted { self.new ≡ record self.old { stats = with_item self.old.stats (item_read read) } }
+    {
+        match read {
+            Ok(command) => {
+                self.stats.count_taken();
+                Next::Cmd(command)
+            }
+            Err(refusal) => {
+                self.stats.count_refusal(refusal);
+                Next::Ignored(refusal)
+            }
+        }
+    }
+
+    /// What it counted: the commands that it gave, and the frames that it ignored by their reason.
+    pub fn stats(&self) -> &PmuStats
+        ensures value { result.now ≡ self.now.stats }
+    {
+        &self.stats
+    }
+}

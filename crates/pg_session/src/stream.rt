@@ -1,0 +1,338 @@
+//! One stream of a subscriber.
+
+ghost use Rattle.std.specs.Prelude.{◌≡◌, ◌+◌, ◌<◌, ◌≤◌, ◌^◌, ◌++◌, ◌∷◌, [], ℕ, List, length, map, drop, not, All, IfOk, IfErr, OnOk, IsOk, IsTrue, IsSome, option_map, if◌then◌else◌, true, false};
+ghost use Rattle.std.specs.Arc.{arc_value};
+ghost use Rattle.circular_buffer.specs.Buffer.{Buffer};
+ghost use Rattle.pg_data.specs.Shared.{Piece};
+ghost use Rattle.pg_stream.specs.Limits.{IsWithinLimits};
+ghost use Rattle.pg_align.specs.Slots.{none_open, with_shape, with_start, with_none};
+ghost use Rattle.pg_outcfg.specs.Listing.{config_at};
+ghost use Rattle.pg_outcfg.specs.Frames.{changed, header_frame, cfg1_frame, cfg2_frame};
+ghost use Rattle.pg_session.specs.Events.{samples_at};
+ghost use Rattle.pg_session.specs.Shape.{same_list, same_shape};
+ghost use Rattle.pg_session.specs.Changing.{IsOfParts, list_after};
+ghost use Rattle.pg_session.specs.Streams.{StreamOf, place_of, effective_in, reshape_turn, tick_turn, measure_turn};
+ghost use Rattle.pg_session.specs.Private.{stopped, started};
+ghost use Rattle.pg_session.specs.Sending.{Sending, Sends};
+ghost use Rattle.pg_session.specs.Kept.{by_slots, by_gaps};
+ghost use Rattle.pg_session.specs.Ready.{GoesOn};
+ghost use Rattle.pg_session.specs.Fields.{IsStream, AreListed, wanted_of, turn_stats, with_stats};
+
+use crate::accepting::after_members;
+use crate::arriving::{arrive_all_in, count_placed, pass_all};
+use crate::change::{Change, config_of};
+use crate::copying::copy_members;
+use crate::leaving::{flush_all, leave_all};
+use crate::output::Output;
+use circular_buffer::HeapCircularBuffer;
+use pg_align::Align;
+use pg_data::{DataFrame, SharedBlock};
+use pg_outcfg::{ConfigList, OutCfg, header};
+use pg_stream::{Definition, slot_of};
+use pg_wire::{PmuKey, Refusal, StreamId};
+use std::alloc::Global;
+use std::marker::Model;
+use std::sync::Arc;
+
+/// The most members of a stream.
+const MOST_MEMBERS: usize = 32;
+
+/// A stream: its definition, its open slots, and the count of changes of the CFG-1 list since its definition.
+#[derive(Drop)]
+pub(crate) struct Stream {
+    definition: Definition,
+    align: Align,
+    changes: OutCfg,
+}
+
+impl Model for Stream {
+    ghost use Rattle.pg_data.specs.Shared.{Piece};
+    ghost use Rattle.pg_align.specs.Slots.{Aligned};
+    ghost use Rattle.pg_session.specs.Streams.{StreamOf};
+    ghost use Rattle.pg_session.specs.Fields.{IsStream, AreListed, wanted_of, turn_stats, with_stats};
+
+    ghost Value = { StreamOf (Aligned Piece) };
+
+    ghost view = { λ s. record { definition = s.definition; slots = s.align; count = s.changes } };
+
+    ghost invariant = { λ s. IsStream (record { definition = s.definition; slots = s.align; count = s.changes }) };
+}
+
+/// Which members a CFG-1 list has.
+fn mark_listed(listed: &ConfigList, members: &[PmuKey], effective: &mut [bool])
+    requires { length effective.old ≡ length members.now }
+    ensures { effective.new ≡ effective_in listed.now members.now }
+{
+    for (i, key) in members.iter().enumerate() {
+        effective[i] = config_of(listed, key).is_some();
+    }
+}
+
+/// Which members a CFG-1 list has after a change.
+fn mark_changed<'a>(
+    listed: &'a ConfigList,
+    change: &'a Change<'a>,
+    members: &[PmuKey],
+    effective: &mut [bool],
+)
+    requires len { length effective.old ≡ length members.now }
+    requires places { IsOfParts change.now }
+    ensures { effective.new ≡ effective_in (list_after listed.now change.now) members.now }
+{
+    for (i, key) in members.iter().enumerate() {
+        effective[i] = change.after(listed, key).is_some();
+    }
+}
+
+/// The place of a PMU among the members of a stream.
+pub(crate) fn place_in(definition: &Definition, key: &PmuKey) -> Option<usize>
+    ensures { result ≡ place_of definition.now.members key.now }
+{
+    definition
+        .members
+        .as_slice()
+        .iter()
+        .position(|member| *member == *key)
+}
+
+/// Counts a change of the CFG-1 list, if it is one.
+fn count_if(changes: &mut OutCfg, counts: bool)
+    ensures { changes.new ≡ (if counts then changed changes.old else changes.old) }
+{
+    if counts {
+        changes.changed();
+    }
+}
+
+impl Stream {
+    /// A stream that is off, whose effective members are those that the CFG-1 list has. It asks for a definition within
+    /// the limits. The one refusal is `NoMemory`.
+    pub fn new(
+        alloc: Global,
+        definition: Definition,
+        listed: &ConfigList,
+    ) -> Result<Stream, Refusal>
+        requires limits { IsWithinLimits definition }
+        ensures stream { IfOk result (λ s. s ≡ record {
+          definition = definition;
+          slots = with_shape (none_open definition.window definition.wait (length definition.members)) (effective_in listed.now definition.members);
+          count = 0;
+        }) }
+        ensures memory { IfErr result (λ refusal. refusal ≡ Refusal.NoMemory) }
+    {
+        let mut align = Align::new(alloc, &definition)?;
+        let members = definition.members.as_slice();
+        let mut effective = [false; MOST_MEMBERS];
+        let effective = &mut effective[..members.len()];
+        mark_listed(listed, members, effective);
+        align.reshape(effective);
+        Ok(Stream {
+            definition,
+            align,
+            changes: OutCfg::new(),
+        })
+    }
+
+    /// Its number.
+    pub fn number(&self) -> StreamId
+        ensures { result ≡ self.now.definition.stream }
+    {
+        self.definition.stream
+    }
+
+    /// Whether it is on.
+    pub fn is_on(&self) -> bool
+        ensures { result ≡ self.now.slots.is_on }
+    {
+        self.align.is_on()
+    }
+
+    /// Switches it on, with no open slot. One that is on stays as it is.
+    pub fn start(&mut self)
+        ensures { self.new ≡ started by_slots by_gaps self.old }
+    {
+        self.align.start();
+    }
+
+    /// Switches it off, and discards its open slots.
+    pub fn stop(&mut self)
+        ensures { self.new ≡ stopped by_slots by_gaps self.old }
+    {
+        self.align.discard();
+    }
+
+    /// Whether a change of the CFG-1 list changes its effective members or their blocks, CFGCNT aside.
+    fn is_reshaped<'a>(&self, listed: &'a ConfigList, change: &'a Change<'a>) -> bool
+        requires places { IsOfParts change.now }
+        ensures { result ≡ not (same_shape self.now.definition.members listed.now (list_after listed.now change.now)) }
+    {
+        for key in self.definition.members.as_slice() {
+            if change.concerns(listed, key) {
+                return true;
+            }
+        }
+        false
+    }
+
+    /// The CFG-1 list is about to change. Where that changes the stream's effective blocks, its open slots all leave by the
+    /// list as it is. `counts` tells whether the list itself changes.
+    pub fn reshape<'a>(
+        &mut self,
+        alloc: Global,
+        listed: &'a ConfigList,
+        change: &'a Change<'a>,
+        counts: bool,
+        output: &mut Output,
+    )
+        requires places { IsOfParts change.now }
+        requires counts { counts ≡ not (same_list listed.now (list_after listed.now change.now)) }
+        requires few { output.old.kept ≤ output.old.made }
+        requires bounded { output.old.made < 2 ^ 31 }
+        ensures stream { self.new ≡ (reshape_turn by_slots listed.now (list_after listed.now change.now) self.old).stream }
+        ensures sends { Sends (reshape_turn by_slots listed.now (list_after listed.now change.now) self.old).frames output.old output.new }
+        ensures bounded { output.new.made ≤ output.old.made + 64 }
+    {
+        count_if(&mut self.changes, counts);
+        if self.is_reshaped(listed, change) {
+            flush_all(alloc, &self.definition, listed, &mut self.align, output);
+            let members = self.definition.members.as_slice();
+            let mut effective = [false; MOST_MEMBERS];
+            let effective = &mut effective[..members.len()];
+            mark_changed(listed, change, members, effective);
+            self.align.reshape(effective);
+        }
+    }
+
+    /// A tick: what is due then leaves. Nothing where it is off.
+    pub fn tick(&mut self, alloc: Global, listed: &ConfigList, output: &mut Output)
+        requires few { output.old.kept ≤ output.old.made }
+        requires bounded { output.old.made < 2 ^ 31 }
+        ensures stream { self.new ≡ (tick_turn by_slots listed.now self.old).stream }
+        ensures sends { Sends (tick_turn by_slots listed.now self.old).frames output.old output.new }
+        ensures bounded { output.new.made ≤ output.old.made + 64 }
+    {
+        if self.align.is_on() {
+            self.align.tick();
+            leave_all(alloc, &self.definition, listed, &mut self.align, output);
+        }
+    }
+
+    /// Those blocks of a data frame that are members' arrive, and then what is to leave leaves. Nothing where the stream is off,
+    /// or no block is a member's. The copies of these blocks are taken from the front of `blocks`.
+    pub fn measure(
+        &mut self,
+        alloc: Global,
+        listed: &ConfigList,
+        frame: &DataFrame,
+        places: &[usize],
+        blocks: &mut HeapCircularBuffer<SharedBlock>,
+        output: &mut Output,
+    )
+        requires places { All (λ i. i < length frame.now.config.parts) places.now }
+        requires few { length places.now ≤ 16 }
+        requires listed { AreListed listed.now (samples_at frame.now places.now) }
+        requires effective { self.old.slots.effective ≡ effective_in listed.now self.old.definition.members }
+        requires ready { blocks.old.items ≡ wanted_of self.old frame.now.quality (samples_at frame.now places.now)
+            ++ drop (length (wanted_of self.old frame.now.quality (samples_at frame.now places.now))) blocks.old.items }
+        requires kept { output.old.kept ≤ output.old.made }
+        requires bounded { output.old.made < 2 ^ 31 }
+        ensures stream { self.new ≡ (measure_turn by_slots listed.now frame.now.soc frame.now.quality frame.now.frac (samples_at frame.now places.now) self.old).stream }
+        ensures sends { Sends (measure_turn by_slots listed.now frame.now.soc frame.now.quality frame.now.frac (samples_at frame.now places.now) self.old).frames
+            (with_stats output.old (turn_stats (measure_turn by_slots listed.now frame.now.soc frame.now.quality frame.now.frac (samples_at frame.now places.now) self.old) output.old.output.stats))
+            output.new }
+        ensures blocks { blocks.new.items ≡ drop (length (wanted_of self.old frame.now.quality (samples_at frame.now places.now))) blocks.old.items }
+        ensures capacity { blocks.new.capacity ≡ blocks.old.capacity }
+        ensures bounded { output.new.made ≤ output.old.made + 80 }
+    {
+        if !self.align.is_on() {
+            return;
+        }
+        let count = count_placed(&self.definition, frame, places);
+        if count == 0 {
+            return;
+        }
+        match slot_of(self.definition.rate, frame.base(), frame.soc, frame.frac) {
+            Ok(slot) => {
+                arrive_all_in(
+                    &self.definition,
+                    frame,
+                    places,
+                    slot,
+                    &mut self.align,
+                    blocks,
+                    output,
+                );
+                leave_all(alloc, &self.definition, listed, &mut self.align, output);
+            }
+            Err(_) => pass_all(count, blocks, output),
+        }
+    }
+
+    /// Lays a copy of each of those blocks that it asks for: of its members', where it is on. The one refusal is `NoMemory`; some
+    /// copies may then lie there.
+    pub fn lay_copies(
+        &self,
+        frame: &Arc<DataFrame>,
+        places: &[usize],
+        blocks: &mut HeapCircularBuffer<SharedBlock>,
+    ) -> Result<(), Refusal>
+        requires places { All (λ i. i < length (arc_value frame.now).config.parts) places.now }
+        requires room { length blocks.old.items + length places.now ≤ blocks.old.capacity }
+        ensures laid { OnOk result (blocks.new.items ≡ blocks.old.items ++ wanted_of self.now (arc_value frame.now).quality (samples_at (arc_value frame.now) places.now)) }
+        ensures few { length blocks.new.items ≤ length blocks.old.items + length places.now }
+        ensures needless { wanted_of self.now (arc_value frame.now).quality (samples_at (arc_value frame.now) places.now) ≡ [] → IsOk result }
+        ensures capacity { blocks.new.capacity ≡ blocks.old.capacity }
+        ensures memory { IfErr result (λ refusal. refusal ≡ Refusal.NoMemory) }
+    {
+        if !self.align.is_on() {
+            return Ok(());
+        }
+        copy_members(&self.definition, frame, places, blocks)?;
+        Ok(())
+    }
+
+    /// Where the copies go on behind those that it asks for; or these do not lie next.
+    pub fn after_copies(
+        &self,
+        frame: &DataFrame,
+        places: &[usize],
+        blocks: &HeapCircularBuffer<SharedBlock>,
+        next: usize,
+    ) -> Option<usize>
+        requires places { All (λ i. i < length frame.now.config.parts) places.now }
+        requires within { next ≤ length blocks.now.items }
+        ensures { GoesOn blocks.now.items next (wanted_of self.now frame.now.quality (samples_at frame.now places.now)) result }
+    {
+        if !self.align.is_on() {
+            return Some(next);
+        }
+        after_members(&self.definition, frame, places, blocks, next)
+    }
+
+    /// Its header frame, with this SOC. The one refusal is `NoMemory`.
+    pub fn header(&self, alloc: Global, soc: u32) -> Result<Vec<u8>, Refusal>
+        ensures frame { IfOk result (λ v. v.items ≡ header_frame self.now.definition soc) }
+        ensures bytes { IfOk result (λ v. 0 < length v.items) }
+        ensures memory { IfErr result (λ refusal. refusal ≡ Refusal.NoMemory) }
+    {
+        header(alloc, &self.definition, soc)
+    }
+
+    /// Its CFG-1, with this SOC. The one refusal is `NoMemory`.
+    pub fn cfg1(&self, alloc: Global, soc: u32, listed: &ConfigList) -> Result<Vec<u8>, Refusal>
+        ensures frame { IfOk result (λ v. v.items ≡ cfg1_frame self.now.definition self.now.count soc listed.now) }
+        ensures bytes { IfOk result (λ v. 0 < length v.items) }
+        ensures memory { IfErr result (λ refusal. refusal ≡ Refusal.NoMemory) }
+    {
+        self.changes.cfg1(alloc, &self.definition, soc, listed)
+    }
+
+    /// Its CFG-2, with this SOC. The one refusal is `NoMemory`.
+    pub fn cfg2(&self, alloc: Global, soc: u32, listed: &ConfigList) -> Result<Vec<u8>, Refusal>
+        ensures frame { IfOk result (λ v. v.items ≡ cfg2_frame self.now.definition self.now.count soc listed.now) }
+        ensures bytes { IfOk result (λ v. 0 < length v.items) }
+        ensures memory { IfErr result (λ refusal. refusal ≡ Refusal.NoMemory) }
+    {
+        self.changes.cfg2(alloc, &self.definition, soc, listed)
+    }
+}
