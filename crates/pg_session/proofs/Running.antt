@@ -1,5 +1,5 @@
 -- Runs of private events, and what they are to the queue.
-use Rattle.std.proofs.Common.{◌≡◌, ℕ, zero, suc, ◌-◌, ◌<◌, ◌&&◌, nat_le, List, [], ◌∷◌, ◌++◌, length, fold, Bool, true, false, if◌then◌else◌, Option, Some, None, option_map, inl, inr, refl, sym, ap, ap₂, ◌∙◌, arith}
+use Rattle.std.proofs.Common.{◌≡◌, ◌⊎◌, ◌≤◌, MatchOption, ℕ, zero, suc, ◌-◌, ◌<◌, ◌&&◌, nat_le, List, [], ◌∷◌, ◌++◌, length, fold, Bool, true, false, if◌then◌else◌, Option, Some, None, option_map, inl, inr, refl, sym, ap, ap₂, ◌∙◌, arith}
 use Rattle.std.proofs.lemmas.List.{append_assoc}
 use Rattle.pg_data.specs.Shared.{Piece}
 use Rattle.pg_align.specs.Histories as align
@@ -9,13 +9,14 @@ use Rattle.pg_ring.specs.Fates as ring
 use Rattle.pg_ring.specs.Fates.{Call, History, longer, history_of, fates, one_if}
 use Rattle.pg_ring.proofs.Fates.{has_one_fate}
 use Rattle.pg_wire.specs.declared.refusal.Refusal.{Refusal}
+use Rattle.pg_wire.specs.declared.refusal.Refusal.TheVariants.{NoMemory}
 use Rattle.pg_session.specs.Streams.{Turn}
 use Rattle.pg_session.specs.Output.{Output, frames_made, turns_taken, ignored}
 use Rattle.pg_session.specs.Events.{Happening, Sample, grant, revoke, announce, measure, define, remove, tick, connect, hangup, command, drain}
-use Rattle.pg_session.specs.Private.{Told, done, refused, handed, May, next, frames_of, effect, turns_of, refused_at, with_reply, asks_reply, reply_frame, stream_at}
+use Rattle.pg_session.specs.Private.{Told, done, refused, handed, refusal, answer, takes_memory, May, next, frames_of, effect, turns_of, refused_at, with_reply, asks_reply, reply_frame, stream_at}
 use Rattle.pg_session.specs.ByAll.{by_arrivals, by_numbers}
 use Rattle.pg_session.specs.Shown.{Model, begin}
-use Rattle.pg_session.specs.Laws.{Run, after, handed_by, handed_in, frame_calls, turn_calls, reply_calls, calls_done, calls_of, calls_in}
+use Rattle.pg_session.specs.Laws.{Run, after, unless_refused, full_told, full_run, handed_by, handed_in, frame_calls, turn_calls, reply_calls, calls_done, calls_of, calls_in}
 
 pub state_append : (p : Model) (xs ys : Run) → after p (xs ++ ys) ≡ after (after p xs) ys
 state_append p [] ys = refl
@@ -25,6 +26,22 @@ pub handed_append : (xs ys : Run) → handed_in (xs ++ ys) ≡ handed_in xs ++ h
 handed_append [] ys = refl
 handed_append (x ∷ xs) ys =
     ap (λ hs. handed_by x.1 ++ hs) (handed_append xs ys) ∙ sym (append_assoc (handed_by x.1) (handed_in xs) (handed_in ys))
+
+pub replies_append : (p : Model) (es fs : List Happening) → full_run p (es ++ fs) ≡ full_run p es ++ full_run (after p (full_run p es)) fs
+replies_append p [] fs = refl
+replies_append p (e ∷ es) fs = ap (λ run. (e, full_told p e) ∷ run) (replies_append (next by_arrivals by_numbers p e (full_told p e)) es fs)
+
+-- the full reply may come
+pub full_may : (p : Model) (e : Happening) → May by_arrivals by_numbers p e false (full_told p e)
+full_may p e = by (refusal by_arrivals by_numbers p e)
+  where
+    by : (o : Option Refusal) → MatchOption o
+        (((kept : ℕ) × (kept ≤ length (frames_of by_arrivals by_numbers p e)) × (false ≡ true → kept ≡ 0)
+        × (unless_refused o (answer by_arrivals by_numbers p e (length (frames_of by_arrivals by_numbers p e))) ≡ answer by_arrivals by_numbers p e kept))
+        ⊎ ((unless_refused o (answer by_arrivals by_numbers p e (length (frames_of by_arrivals by_numbers p e))) ≡ refused NoMemory) × (takes_memory e ≡ true)))
+        (λ first. unless_refused o (answer by_arrivals by_numbers p e (length (frames_of by_arrivals by_numbers p e))) ≡ refused first)
+    by None = inl (length (frames_of by_arrivals by_numbers p e), omega arith, (λ h. absurd (cc h)), refl)
+    by (Some r) = refl
 
 -- the queue after calls
 abbrev called : Numbered → List Call → Numbered

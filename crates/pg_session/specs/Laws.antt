@@ -1,12 +1,13 @@
 -- What follows for whole runs of private events.
-use Rattle.std.specs.Prelude.{◌≡◌, ◌<◌, ◌&&◌, ℕ, zero, suc, ◌-◌, nat_le, Bool, if◌then◌else◌, List, [], ◌∷◌, ◌++◌, length, Option, Some, None, option_map}
+use Rattle.std.specs.Prelude.{◌≡◌, ◌<◌, ◌&&◌, ℕ, zero, suc, ◌-◌, nat_le, Bool, false, if◌then◌else◌, List, [], ◌∷◌, ◌++◌, length, Option, Some, None, option_map}
+use Rattle.pg_wire.specs.declared.refusal.Refusal.{Refusal}
 use Rattle.pg_entitle.specs.Grants.{has_key}
 use Rattle.pg_ring.specs.Fates.{Call, Push, Lose, Reply, Drain, HangUp, history_of, fates, one_if}
 use Rattle.pg_align.specs.Histories.{History}
 use Rattle.pg_data.specs.Shared.{Piece}
 use Rattle.pg_session.specs.Streams.{Turn}
 use Rattle.pg_session.specs.Events.{Happening, Sample, grant, revoke, announce, measure, define, remove, tick, connect, hangup, command, drain}
-use Rattle.pg_session.specs.Private.{Told, done, refused, handed, May, next, turns_of, frames_of, asks_reply, reply_frame, stream_at}
+use Rattle.pg_session.specs.Private.{Told, done, refused, handed, refusal, answer, May, next, turns_of, frames_of, asks_reply, reply_frame, stream_at}
 use Rattle.pg_session.specs.ByAll.{by_arrivals, by_numbers}
 use Rattle.pg_session.specs.Shown.{Model, begin}
 
@@ -18,6 +19,21 @@ Run = List (Happening × Told)
 abbrev pub after : Model → Run → Model
 after p [] = p
 after p (x ∷ xs) = after (next by_arrivals by_numbers p x.0 x.1) xs
+
+-- the reply where no memory is refused: the first refusal that holds, or the answer with all frames kept
+abbrev pub unless_refused : Option Refusal → Told → Told
+unless_refused None told = told
+unless_refused (Some r) told = refused r
+
+abbrev pub full_told : Model → Happening → Told
+full_told p e =
+    unless_refused (refusal by_arrivals by_numbers p e)
+    (answer by_arrivals by_numbers p e (length (frames_of by_arrivals by_numbers p e)))
+
+-- private events with the replies to them where no memory is refused
+abbrev pub full_run : Model → List Happening → Run
+full_run p [] = []
+full_run p (e ∷ es) = (e, full_told p e) ∷ full_run (next by_arrivals by_numbers p e (full_told p e)) es
 
 -- what the replies of a run hand out: the bytes, how many frames they begin, and the gaps before these
 abbrev pub handed_by : Told → List (List ℕ × ℕ × ℕ)
@@ -71,6 +87,9 @@ calls_in p (x ∷ xs) = calls_of p x.0 x.1 ++ calls_in (next by_arrivals by_numb
 
 -- A longer run goes on where the shorter one ends, and hands out the rest after what that handed.
 pub record RunsGoOn : Type 0 where
+  -- where no memory is refused the replies are a function of the events, each by the state that those before it leave
+  pub replies : (p : Model) (es fs : List Happening) → full_run p (es ++ fs) ≡ full_run p es ++ full_run (after p (full_run p es)) fs
+  pub may : (p : Model) (e : Happening) → May by_arrivals by_numbers p e false (full_told p e)
   pub state : (p : Model) (xs ys : Run) → after p (xs ++ ys) ≡ after (after p xs) ys
   pub handed : (xs ys : Run) → handed_in (xs ++ ys) ≡ handed_in xs ++ handed_in ys
 

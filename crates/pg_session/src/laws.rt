@@ -2,7 +2,8 @@
 
 ghost use Rattle.pg_session.specs.Laws.{NeedsNoMemory, NumbersAreKept, RunsGoOn};
 
-/// A longer run of private events goes on where the shorter one ends: in its state, and in what it hands out.
+/// A longer run of private events goes on where the shorter one ends: in its state, in its replies where no memory is refused, and
+/// in what it hands out.
 pub fn runs_go_on()
     ensures { RunsGoOn }
 {}
