@@ -1,16 +1,11 @@
 //! The program `pdcgw`.
 #![tactic(auto)]
 
-mod answers;
-mod lines;
-mod replay;
-mod streams;
-#[cfg(test)]
-mod tests;
+mod help;
 
-use crate::replay::{Fault, replay};
 use clap::error::ErrorKind;
 use clap::{ArgMatches, Command};
+use pg_replay::{Fault, replay};
 use std::alloc::{AllocError, Global};
 use std::io::BufWriter;
 use std::process::ExitCode;
@@ -19,30 +14,14 @@ use std::{env, io};
 
 /// The program's own words.
 fn program<'a>(alloc: Global) -> Result<Command<'a>, AllocError> {
-    let replay = Command::new(alloc, "replay").about(
-        "Reads a script from standard input, and prints the answer to each of its lines",
-    );
+    let replay = Command::new(alloc, "replay")
+        .about("Answers the lines of a script")
+        .after_help(help::REPLAY);
     Command::new(alloc, "pdcgw")
         .about("A phasor data concentrator gateway for many subscribers")
+        .after_help(help::PROGRAM)
         .subcommand_required(true)
         .subcommand(replay)
-}
-
-/// Does what the words ask for.
-fn do_words<R: Input + Print + Alloc<A = Global>>(
-    rt: &R,
-    matches: &ArgMatches<'_>,
-) -> Result<(), Fault> {
-    match matches.subcommand_name() {
-        Some("replay") => {
-            let alloc = rt.alloc();
-            let Ok(mut out) = BufWriter::new(alloc, io::writer(rt)) else {
-                return Err(Fault::NoMemory);
-            };
-            replay(alloc, rt.reader(), &mut out)
-        }
-        _ => Err(Fault::Read),
-    }
 }
 
 /// What the program comes to.
@@ -51,8 +30,29 @@ enum Outcome {
     Failed(Fault),
     /// `clap` refuses the words, and says why.
     Misused(clap::Error),
-    /// The arguments can't be had as text.
-    NotText,
+    /// The arguments can't be had as text, or name no work.
+    Unread,
+}
+
+/// Does what the words ask for.
+fn do_words<R: Input + Print + Alloc<A = Global>>(rt: &R, matches: &ArgMatches<'_>) -> Outcome {
+    let done = match matches.subcommand_name() {
+        Some("replay") => replay_input(rt),
+        _ => return Outcome::Unread,
+    };
+    match done {
+        Ok(()) => Outcome::Done,
+        Err(fault) => Outcome::Failed(fault),
+    }
+}
+
+/// Replays standard input.
+fn replay_input<R: Input + Print + Alloc<A = Global>>(rt: &R) -> Result<(), Fault> {
+    let alloc = rt.alloc();
+    let Ok(mut out) = BufWriter::new(alloc, io::writer(rt)) else {
+        return Err(Fault::NoMemory);
+    };
+    replay(alloc, rt.reader(), &mut out)
 }
 
 fn outcome_of<R: Input + Print + Env + Alloc<A = Global>>(rt: &R) -> Outcome {
@@ -62,17 +62,17 @@ fn outcome_of<R: Input + Print + Env + Alloc<A = Global>>(rt: &R) -> Outcome {
             Ok(words) => words,
             Err(_) => return Outcome::Failed(Fault::NoMemory),
         },
-        Err(_) => return Outcome::NotText,
+        Err(e) if e.kind() == io::ErrorKind::OutOfMemory => {
+            return Outcome::Failed(Fault::NoMemory);
+        }
+        Err(_) => return Outcome::Unread,
     };
     let command = match program(alloc) {
         Ok(command) => command,
         Err(_) => return Outcome::Failed(Fault::NoMemory),
     };
     match command.try_get_matches_from(words.as_slice()) {
-        Ok(matches) => match do_words(rt, &matches) {
-            Ok(()) => Outcome::Done,
-            Err(fault) => Outcome::Failed(fault),
-        },
+        Ok(matches) => do_words(rt, &matches),
         Err(error) => match error.kind() {
             ErrorKind::OutOfMemory => Outcome::Failed(Fault::NoMemory),
             _ => Outcome::Misused(error),
@@ -92,8 +92,8 @@ fn main(rt: HostRuntime) -> ExitCode {
             let _ = eprint!(rt; "{error}");
             ExitCode::from(2)
         }
-        Outcome::NotText => {
-            let _ = eprintln!(rt; "pdcgw: the arguments are not text");
+        Outcome::Unread => {
+            let _ = eprintln!(rt; "pdcgw: the arguments can't be read");
             ExitCode::from(2)
         }
     }

@@ -1,159 +1,308 @@
--- The gateway of one PMU and one subscriber: its state after events, and the replies to them.
-use Rattle.std.specs.Prelude.{◌≡◌, ◌≢◌, ◌⊎◌, ℕ, Bool, ◌==◌, if◌then◌else◌, List, length, take, slice_get, Option, Some, None, option_map, MatchOption, Result, Ok, Err}
-use Rattle.std.specs.Option.{option_and_then}
-use Rattle.std.specs.List.{position}
-use Rattle.std.specs.Arc.{arc_value}
+-- The shared machine: the registered PMUs, the subscribers, each a private gateway with an audit, and the last tick.
+use Rattle.std.specs.Prelude.{◌≡◌, ◌⊎◌, ℕ, ◌≤◌, ◌==◌, Bool, true, false, not, if◌then◌else◌, nat_eq, nat_le, is_some, List, [], ◌∷◌, ◌++◌, length, map, Option, Some, None, option_map, MatchOption}
+use Rattle.std.specs.Map.{lookup, remove_entry}
 use Rattle.pg_wire.specs.declared.refusal.Refusal.{Refusal}
-use Rattle.pg_wire.specs.declared.refusal.Refusal.TheVariants.{NoMemory, NoSuchPmu, NoConfig, StaleConfig, NoSuchSub}
-use Rattle.pg_config.specs.Parts.{Part, Source, block_id}
-use Rattle.pg_data.specs.Measurements.{Measurement, block_of}
-use Rattle.pg_first.specs.Private as session
-use Rattle.pg_first.specs.Private.{Sample, Private, PrivateEvent, begin, SubscriberValue, Shows, Told, done, refused, handed}
-use Rattle.pg_gateway.specs.declared.event.Event.{Event}
-use Rattle.pg_gateway.specs.declared.event.Event.TheVariants.{Announce, Measure, Command, Drain}
-use Rattle.pg_gateway.specs.declared.event.Reply.{Reply}
-use Rattle.pg_gateway.specs.declared.event.Reply.TheVariants.{Done, Refused, Drained}
-use Rattle.pg_first.specs.declared.outbox.Drained as outbox
-
--- what an event says, wherever it lies in memory
-pub data Happening : Type 0 where
-  -- a source's configuration came
-  announce : Source → Happening
-  -- a source's data frame came, with the configuration by which it was read
-  measure : Measurement → Happening
-  -- a subscriber's command, by its stream number and its word
-  command : ℕ → ℕ → ℕ → Happening
-  -- a subscriber's drain into a buffer of this length
-  drain : ℕ → ℕ → Happening
-
-abbrev pub happening : Event → Happening
-happening (Announce config) = announce (arc_value config)
-happening (Measure frame) = measure (arc_value frame)
-happening (Command sub asked) = command sub asked.stream asked.word
-happening (Drain sub buffer) = drain sub (length buffer.items)
-
--- what a drain's reply tells
-abbrev pub drain_told : List ℕ → Result outbox.Drained Refusal → Told
-drain_told buffer (Ok out) = handed (take out.len buffer) out.begun out.gap
-drain_told buffer (Err r) = refused r
-
-abbrev pub told : Reply → Told
-told (Done made kept) = done made kept
-told (Refused r) = refused r
-told (Drained buffer out) = drain_told buffer.items out
-
--- the registered PMU's source and its number there, and the subscriber's number
-abbrev pub registered_source : ℕ
-registered_source = 7
-
-abbrev pub registered_pmu : ℕ
-registered_pmu = 7
-
-abbrev pub subscriber_number : ℕ
-subscriber_number = 1
+use Rattle.pg_wire.specs.declared.refusal.Refusal.TheVariants.{NoMemory, NoSuchPmu, PmuExists, PmusFull, NoSuchSub, SubExists, SubsFull}
+use Rattle.pg_wire.specs.Number.{number_of}
+use Rattle.pg_wire.specs.declared.ids.PmuKey.{PmuKey}
+use Rattle.pg_wire.specs.Keys.{key_eq}
+use Rattle.pg_registry.specs.Registered.{Pmu, Pmus, pmu_of, has_key, config_in, unannounced}
+use Rattle.pg_audit.specs.Noting.{Noted, newest_at}
+use Rattle.pg_audit.specs.declared.audit.What.{What}
+use Rattle.pg_audit.specs.declared.audit.What.TheVariants.{AddSub, Grant, Revoke, Define, Remove, Connect, Hangup, Command}
+use Rattle.pg_data.specs.Measurements.{Measurement}
+use Rattle.pg_session.specs.Events as own
+use Rattle.pg_session.specs.Events.{Happening, Announcing, Sample}
+use Rattle.pg_session.specs.Private as private
+use Rattle.pg_session.specs.Private.{Told, done, refused, handed, refuse, frames_of}
+use Rattle.pg_session.specs.Shown.{Model, begin}
+use Rattle.pg_session.specs.ByAll.{by_arrivals, by_numbers}
+use Rattle.pg_gateway.specs.Occurrences.{Occurrence, add_pmu, drop_pmu, add_sub, drop_sub, grant, asks, announce, measure, tick, stats, pmu_stats, audit, Answer, tells, sub_counts, pmu_counts, entry}
+use Rattle.pg_gateway.specs.Judging.{registered_of, judged, taken_of, first_refusal, blocks_counted, all_announced, memory_counted}
+use Rattle.pg_gateway.specs.Sharing.{Seat, Seats, Offer, revokes, announces, measures, ticks, total, fan_out}
 
 pub record Shared : Type 0 where
-  -- what the registered PMU announced last
-  pub announced : Option Part
-  pub subscriber : Private
+  pub pmus : Pmus
+  pub subs : Seats
+  -- the SOC of the last tick
+  pub last_tick : Option ℕ
 
 abbrev pub opening : Shared
-opening = record { announced = None; subscriber = begin }
+opening = record { pmus = []; subs = []; last_tick = None }
 
--- a source's PMU has the registered PMU's number
-abbrev pub is_registered : Part → Bool
-is_registered p = block_id p.block == registered_pmu
+-- the subscriber of a number
+abbrev pub seat_of : ℕ → Seats → Option Seat
+seat_of u seats = lookup (nat_eq u) seats
 
--- where a source's frames have the registered PMU, if they do
-abbrev pub registered_place : Source → Option ℕ
-registered_place s = if s.source == registered_source then position is_registered s.parts else None
+abbrev pub own_of : ℕ → Shared → Option Model
+own_of u S = option_map (λ s. s.own) (seat_of u S.subs)
 
--- what a source says of the registered PMU
-abbrev pub registered_part : Source → Option Part
-registered_part s = option_and_then (slice_get s.parts) (registered_place s)
+-- a change of one subscriber
+abbrev pub at_seat : ℕ → (Seat → Seat) → Seats → Seats
+at_seat u change [] = []
+at_seat u change (s ∷ seats) = if nat_eq u s.0 then (s.0, change s.1) ∷ seats else s ∷ at_seat u change seats
 
--- what a data frame says of PMU i
-abbrev pub sample_at : Measurement → ℕ → Sample
-sample_at m i = record { soc = m.soc; quality = m.quality; frac = m.frac; block = block_of m i }
+-- the first refusal of an event for one subscriber, want of memory aside
+abbrev pub own_refusal : Option Seat → Happening → Option Refusal
+own_refusal None x = Some NoSuchSub
+own_refusal (Some s) x = private.refusal by_arrivals by_numbers s.own x
 
--- the part of an event that is the subscriber's: of a frame, the block of the PMU that is granted to it
-abbrev pub share : Happening → Option PrivateEvent
-share (announce s) = option_map session.announce (registered_part s)
-share (measure m) = option_map (λ i. session.measure (sample_at m i)) (registered_place m.config)
-share (command u stream word) = if u == subscriber_number then Some (session.command stream word) else None
-share (drain u n) = if u == subscriber_number then Some (session.drain n) else None
+abbrev pub grant_refusal : Option Seat → Bool → Happening → Option Refusal
+grant_refusal None registered x = Some NoSuchSub
+grant_refusal (Some s) registered x = refuse (not registered) NoSuchPmu (private.refusal by_arrivals by_numbers s.own x)
 
--- A measurement is done where the configuration by which its block was read is the one that was announced last.
-abbrev pub MayMeasure : Option Part → Option Part → Private → PrivateEvent → Told → Type 0
-MayMeasure None by p e r = r ≡ refused NoConfig
-MayMeasure (Some held) by p e r = ((by ≢ Some held) × (r ≡ refused StaleConfig)) ⊎ ((by ≡ Some held) × session.May p e r)
+-- an announcement is refused where no PMU of it is registered, a measurement where none of its blocks is taken
+abbrev pub announce_refusal : List Announcing → Option Refusal
+announce_refusal [] = Some NoSuchPmu
+announce_refusal (a ∷ list) = None
 
--- This reply may come to an event whose part this is.
-abbrev pub MayShare : Shared → Happening → PrivateEvent → Told → Type 0
-MayShare S (announce s) e r = (r ≡ refused NoMemory) ⊎ session.May S.subscriber e r
-MayShare S (measure m) e r = MayMeasure S.announced (registered_part m.config) S.subscriber e r
-MayShare S (command u stream word) e r = session.May S.subscriber e r
-MayShare S (drain u n) e r = session.May S.subscriber e r
+abbrev pub measure_refusal : List (PmuKey × Option Refusal) → List Sample → Option Refusal
+measure_refusal blocks [] = Some (first_refusal blocks)
+measure_refusal blocks (s ∷ taken) = None
 
--- the refusal of an event in which the subscriber has no part
-abbrev pub shareless : Happening → Refusal
-shareless (announce s) = NoSuchPmu
-shareless (measure m) = NoSuchPmu
-shareless (command u stream word) = NoSuchSub
-shareless (drain u n) = NoSuchSub
+module _ (S : Shared) where
+  abbrev pub taken_in : Measurement → List Sample
+  taken_in m = taken_of S.pmus S.last_tick m
 
--- This reply may come to the event in this state.
-abbrev pub May : Shared → Happening → Told → Type 0
-May S e r = MatchOption (share e) (r ≡ refused (shareless e)) (λ own. MayShare S e own r)
+  abbrev pub judged_in : Measurement → List (PmuKey × Option Refusal)
+  judged_in m = judged S.pmus S.last_tick m
 
--- what is announced after an event that was not refused
-abbrev pub announced_by : Happening → Option Part → Option Part
-announced_by (announce s) held = registered_part s
-announced_by (measure m) held = held
-announced_by (command u stream word) held = held
-announced_by (drain u n) held = held
+  -- a PMU is granted with what it has announced by then
+  abbrev pub granting : PmuKey → Happening
+  granting key = own.grant key (config_in S.pmus key)
 
--- the subscriber after its part
-abbrev pub after_share : Private → Option PrivateEvent → Told → Private
-after_share p None r = p
-after_share p (Some e) r = session.next p e r
+  -- the first refusal of an event that holds, want of memory aside
+  abbrev pub refusal : Occurrence → Option Refusal
+  refusal (add_pmu key) = refuse (has_key S.pmus key) PmuExists (refuse (nat_le 256 (length S.pmus)) PmusFull None)
+  refusal (drop_pmu key) = refuse (not (has_key S.pmus key)) NoSuchPmu None
+  refusal (add_sub u size bytes) = refuse (is_some (seat_of u S.subs)) SubExists (refuse (nat_le 64 (length S.subs)) SubsFull None)
+  refusal (drop_sub u) = refuse (not (is_some (seat_of u S.subs))) NoSuchSub None
+  refusal (grant u key) = grant_refusal (seat_of u S.subs) (has_key S.pmus key) (granting key)
+  refusal (asks u x) = own_refusal (seat_of u S.subs) x
+  refusal (announce config) = announce_refusal (registered_of S.pmus config)
+  refusal (measure m) = measure_refusal (judged_in m) (taken_in m)
+  refusal (tick soc) = None
+  refusal (stats u) = refuse (not (is_some (seat_of u S.subs))) NoSuchSub None
+  refusal (pmu_stats key) = refuse (not (has_key S.pmus key)) NoSuchPmu None
+  refusal (audit u index) = refuse (not (is_some (seat_of u S.subs))) NoSuchSub None
 
--- the state after an event and its reply: a refusal changes nothing
-abbrev pub next : Shared → Happening → Told → Shared
-next S e (refused r) = S
-next S e (done made kept) = record { announced = announced_by e S.announced; subscriber = after_share S.subscriber (share e) (done made kept) }
-next S e (handed bytes begun gap) = record { announced = S.announced; subscriber = after_share S.subscriber (share e) (handed bytes begun gap) }
+-- events that may be refused for want of memory
+abbrev pub takes_memory : Occurrence → Bool
+takes_memory (add_pmu key) = true
+takes_memory (drop_pmu key) = false
+takes_memory (add_sub u size bytes) = true
+takes_memory (drop_sub u) = false
+takes_memory (grant u key) = true
+takes_memory (asks u x) = private.takes_memory x
+takes_memory (announce config) = true
+takes_memory (measure m) = true
+takes_memory (tick soc) = false
+takes_memory (stats u) = false
+takes_memory (pmu_stats key) = false
+takes_memory (audit u index) = false
 
--- what is kept of a gateway
-pub record GatewayValue : Type 0 where
-  pub announced : Option Part
-  pub subscriber : SubscriberValue
+-- whom an event reaches, and as what
+pub data Reach : Type 0 where
+  to_all : Offer → Reach
+  to_one : ℕ → Happening → Reach
+  -- a subscriber is added: its number, ring size, ring bytes, and the last tick
+  adds : ℕ → ℕ → ℕ → Option ℕ → Reach
+  drops : ℕ → Reach
+  to_none : Reach
 
--- The value shows this state.
-pub record GatewayShows (v : GatewayValue) (S : Shared) : Type 0 where
-  pub announced : v.announced ≡ S.announced
-  pub subscriber : Shows v.subscriber S.subscriber
+-- whom it reaches where it is not refused
+abbrev pub unless : Option Refusal → Reach → Reach
+unless None reach = reach
+unless (Some r) reach = to_none
 
--- This reply may come to the event in this state, and the value then shows the state's successor.
-pub record Steps (S : Shared) (e : Happening) (r : Told) (v : GatewayValue) : Type 0 where
-  pub may : May S e r
-  pub shows : GatewayShows v (next S e r)
+abbrev pub reach : Shared → Occurrence → Reach
+reach S (add_pmu key) = to_none
+reach S (drop_pmu key) = unless (refusal S (drop_pmu key)) (to_all (revokes key))
+reach S (add_sub u size bytes) = unless (refusal S (add_sub u size bytes)) (adds u size bytes S.last_tick)
+reach S (drop_sub u) = unless (refusal S (drop_sub u)) (drops u)
+reach S (grant u key) = if has_key S.pmus key then to_one u (granting S key) else to_none
+reach S (asks u x) = to_one u x
+reach S (announce config) = unless (refusal S (announce config)) (to_all (announces (registered_of S.pmus config)))
+reach S (measure m) = unless (refusal S (measure m)) (to_all (measures m.soc m.quality m.frac (taken_in S m)))
+reach S (tick soc) = to_all (ticks soc)
+reach S (stats u) = to_none
+reach S (pmu_stats key) = to_none
+reach S (audit u index) = to_none
 
--- Whatever state the value shows before the event, the reply follows from that state.
-abbrev pub Goes : GatewayValue → Happening → Told → GatewayValue → Type 0
-Goes old e r new = (S : Shared) → GatewayShows old S → Steps S e r new
+-- the frames that an event makes for the one that it reaches, or for all
+abbrev pub own_frames : Option Seat → Happening → ℕ
+own_frames None x = 0
+own_frames (Some s) x = length (frames_of by_arrivals by_numbers s.own x)
 
--- a reply without a buffer
-abbrev pub IsPlain : Reply → Type 0
-IsPlain (Done made kept) = Unit {0}
-IsPlain (Refused r) = Unit {0}
-IsPlain (Drained back out) = ⊥
+abbrev pub frames_reached : Reach → Seats → ℕ
+frames_reached (to_all o) seats = total o seats
+frames_reached (to_one u x) seats = own_frames (seat_of u seats) x
+frames_reached (adds u size bytes last) seats = 0
+frames_reached (drops u) seats = 0
+frames_reached to_none seats = 0
 
--- A drain's buffer comes back as long as it was, and just a drain has one.
-abbrev pub KeepsBuffer : Event → Reply → Type 0
-KeepsBuffer (Drain sub buffer) (Drained back out) = length back.items ≡ length buffer.items
-KeepsBuffer (Drain sub buffer) (Done made kept) = ⊥
-KeepsBuffer (Drain sub buffer) (Refused r) = ⊥
-KeepsBuffer (Announce config) r = IsPlain r
-KeepsBuffer (Measure frame) r = IsPlain r
-KeepsBuffer (Command sub asked) r = IsPlain r
+abbrev pub made : Shared → Occurrence → ℕ
+made S e = frames_reached (reach S e) S.subs
+
+-- the reply to an event that is not refused, with k of the frames made kept
+abbrev pub own_answer : Option Seat → Happening → ℕ → Told
+own_answer None x k = refused NoSuchSub
+own_answer (Some s) x k = private.answer by_arrivals by_numbers s.own x k
+
+abbrev pub reached_answer : Reach → Seats → ℕ → Told
+reached_answer (to_all o) seats k = done (total o seats) k
+reached_answer (to_one u x) seats k = own_answer (seat_of u seats) x k
+reached_answer (adds u size bytes last) seats k = done 0 k
+reached_answer (drops u) seats k = done 0 k
+reached_answer to_none seats k = done 0 k
+
+abbrev pub stats_answer : Option Seat → Answer
+stats_answer None = tells (refused NoSuchSub)
+stats_answer (Some s) = sub_counts s.own.output.stats
+
+abbrev pub pmu_answer : Option Pmu → Answer
+pmu_answer None = tells (refused NoSuchPmu)
+pmu_answer (Some pmu) = pmu_counts pmu.stats
+
+abbrev pub audit_answer : Option Seat → ℕ → Answer
+audit_answer None index = tells (refused NoSuchSub)
+audit_answer (Some s) index = entry (newest_at s.noted index)
+
+abbrev pub answer : Shared → Occurrence → ℕ → Answer
+answer S (add_pmu key) k = tells (reached_answer (reach S (add_pmu key)) S.subs k)
+answer S (drop_pmu key) k = tells (reached_answer (reach S (drop_pmu key)) S.subs k)
+answer S (add_sub u size bytes) k = tells (reached_answer (reach S (add_sub u size bytes)) S.subs k)
+answer S (drop_sub u) k = tells (reached_answer (reach S (drop_sub u)) S.subs k)
+answer S (grant u key) k = tells (reached_answer (reach S (grant u key)) S.subs k)
+answer S (asks u x) k = tells (reached_answer (reach S (asks u x)) S.subs k)
+answer S (announce config) k = tells (reached_answer (reach S (announce config)) S.subs k)
+answer S (measure m) k = tells (reached_answer (reach S (measure m)) S.subs k)
+answer S (tick soc) k = tells (reached_answer (reach S (tick soc)) S.subs k)
+answer S (stats u) k = stats_answer (seat_of u S.subs)
+answer S (pmu_stats key) k = pmu_answer (pmu_of S.pmus key)
+answer S (audit u index) k = audit_answer (seat_of u S.subs) index
+
+-- This answer may come to the event: its first refusal, or the reply with some of the frames made kept, or want of memory.
+abbrev pub May : Shared → Occurrence → Answer → Type 0
+May S e a = MatchOption (refusal S e)
+    (((k : ℕ) × (k ≤ made S e) × (a ≡ answer S e k)) ⊎ ((a ≡ tells (refused NoMemory)) × (takes_memory e ≡ true)))
+    (λ first. a ≡ tells (refused first))
+
+abbrev pub is_refusal : Told → Bool
+is_refusal (done made kept) = false
+is_refusal (refused r) = true
+is_refusal (handed bytes begun gap) = false
+
+-- refused for want of memory
+abbrev pub wants_memory : Told → Bool
+wants_memory (done made kept) = false
+wants_memory (refused r) = number_of r == 1
+wants_memory (handed bytes begun gap) = false
+
+abbrev pub kept_of : Told → ℕ
+kept_of (done made kept) = kept
+kept_of (refused r) = 0
+kept_of (handed bytes begun gap) = 0
+
+-- the subscribers after a reply
+abbrev pub moved : Happening → Told → Seat → Seat
+moved x t s = record s { own = private.next by_arrivals by_numbers s.own x t }
+
+abbrev pub added : ℕ → ℕ → Option ℕ → Seat
+added size bytes last = record { own = begin size bytes last; noted = [] }
+
+abbrev pub seats_after : Reach → Told → Seats → Seats
+seats_after (to_all o) t seats = if is_refusal t then seats else fan_out o seats (kept_of t)
+seats_after (to_one u x) t seats = at_seat u (moved x t) seats
+seats_after (adds u size bytes last) t seats = if is_refusal t then seats else seats ++ (u, added size bytes last) ∷ []
+seats_after (drops u) t seats = if is_refusal t then seats else remove_entry (nat_eq u) seats
+seats_after to_none t seats = seats
+
+-- The events that are noted at the subscriber that they name, and as what. A drain is not.
+abbrev pub noted_as : Happening → Option What
+noted_as (own.grant key config) = Some Grant
+noted_as (own.revoke key) = Some Revoke
+noted_as (own.announce list) = None
+noted_as (own.measure soc quality frac samples) = None
+noted_as (own.define definition) = Some Define
+noted_as (own.remove number) = Some Remove
+noted_as (own.tick soc) = None
+noted_as own.connect = Some Connect
+noted_as own.hangup = Some Hangup
+noted_as (own.command number word) = Some Command
+noted_as (own.drain n) = None
+
+abbrev pub names : Occurrence → Option (ℕ × What)
+names (add_pmu key) = None
+names (drop_pmu key) = None
+names (add_sub u size bytes) = Some (u, AddSub)
+names (drop_sub u) = None
+names (grant u key) = Some (u, Grant)
+names (asks u x) = option_map (λ what. (u, what)) (noted_as x)
+names (announce config) = None
+names (measure m) = None
+names (tick soc) = None
+names (stats u) = None
+names (pmu_stats key) = None
+names (audit u index) = None
+
+-- why it was refused, or None
+abbrev pub code_of : Told → Option Refusal
+code_of (done made kept) = None
+code_of (refused r) = Some r
+code_of (handed bytes begun gap) = None
+
+-- the subscriber that an event names, if it is there once the event is over, has it noted
+abbrev pub with_note : Noted → Seat → Seat
+with_note n s = record s { noted = s.noted ++ n ∷ [] }
+
+abbrev pub seats_noted : Option (ℕ × What) → Told → Seats → Seats
+seats_noted None t seats = seats
+seats_noted (Some named) t seats = at_seat named.0 (with_note (named.1, code_of t)) seats
+
+-- the registered PMUs after a reply, with what each announced and with its counters
+abbrev pub pmus_after : Shared → Occurrence → Told → Pmus
+pmus_after S (add_pmu key) t = if is_refusal t then S.pmus else S.pmus ++ (key, unannounced) ∷ []
+pmus_after S (drop_pmu key) t = if is_refusal t then S.pmus else remove_entry (key_eq key) S.pmus
+pmus_after S (add_sub u size bytes) t = S.pmus
+pmus_after S (drop_sub u) t = S.pmus
+pmus_after S (grant u key) t = S.pmus
+pmus_after S (asks u x) t = S.pmus
+pmus_after S (announce config) t =
+    if is_refusal t
+    then memory_counted S.pmus (map (λ a. a.key) (registered_of S.pmus config))
+    else all_announced S.pmus (registered_of S.pmus config)
+pmus_after S (measure m) t =
+    if wants_memory t
+    then memory_counted S.pmus (map (λ b. b.0) (judged_in S m))
+    else blocks_counted S.pmus (judged_in S m)
+pmus_after S (tick soc) t = S.pmus
+pmus_after S (stats u) t = S.pmus
+pmus_after S (pmu_stats key) t = S.pmus
+pmus_after S (audit u index) t = S.pmus
+
+abbrev pub tick_after : Option ℕ → Occurrence → Option ℕ
+tick_after last (add_pmu key) = last
+tick_after last (drop_pmu key) = last
+tick_after last (add_sub u size bytes) = last
+tick_after last (drop_sub u) = last
+tick_after last (grant u key) = last
+tick_after last (asks u x) = last
+tick_after last (announce config) = last
+tick_after last (measure m) = last
+tick_after last (tick soc) = Some soc
+tick_after last (stats u) = last
+tick_after last (pmu_stats key) = last
+tick_after last (audit u index) = last
+
+-- the state after an event and its answer
+abbrev pub next : Shared → Occurrence → Answer → Shared
+next S e (tells t) =
+    record {
+      pmus = pmus_after S e t;
+      subs = seats_noted (names e) t (seats_after (reach S e) t S.subs);
+      last_tick = tick_after S.last_tick e;
+    }
+next S e (sub_counts s) = S
+next S e (pmu_counts s) = S
+next S e (entry found) = S

@@ -1,164 +1,112 @@
-//! The gateway of one PMU and one subscriber.
+//! The gateway, as its callers know it.
 
-ghost use Rattle.std.specs.Prelude.{◌≡◌, ◌<◌, length, take, IfOk, IfErr, IfSome, true};
-ghost use Rattle.std.specs.List.{position};
-ghost use Rattle.std.specs.Arc.{arc_value};
-ghost use Rattle.pg_first.specs.Private.{told as private_told};
-ghost use Rattle.pg_gateway.specs.Shared.{opening, is_registered, registered_place, happening, told, GatewayShows, Goes, IsPlain, KeepsBuffer, announce, measure, command, drain};
+ghost use Rattle.std.specs.Prelude.{◌≡◌, nat_eq, nat_le, length, is_some, option_map, false, IfOk, IfErr};
+ghost use Rattle.std.specs.Map.{lookup};
+ghost use Rattle.std.specs.Option.{option_map_or};
+ghost use Rattle.pg_registry.specs.Registered.{has_source};
+ghost use Rattle.pg_gateway.specs.Occurrences.{occurrence, told};
+ghost use Rattle.pg_gateway.specs.Shared.{Shared, opening, seat_of, own_of};
+ghost use Rattle.pg_gateway.specs.Shown.{SeatValue, GatewayShows, Goes, IsWithinLimits};
+ghost use Rattle.pg_gateway.specs.Alike.{LeavesAlike, TakesOwnBlocks};
+ghost use Rattle.pg_gateway.specs.Frugal.{Frugal};
+ghost use Rattle.pg_gateway.specs.Posting.{Answers};
+ghost use Rattle.pg_gateway.specs.Consistent.{IsPosted};
 
 use crate::event::{Event, Reply};
-use pg_command::Command;
-use pg_config::{PmuConfig, SourceConfig};
-use pg_data::DataFrame;
-use pg_first::{PrivateReply, Subscriber};
-use pg_wire::{Refusal, SubId};
+use crate::kernel::Kernel;
+use crate::seat::announced;
+use pg_ring::OutQueue;
+use pg_wire::{PmuId, Refusal, SubId};
 use std::alloc::Global;
 use std::marker::Model;
-use std::sync::Arc;
 
-/// The registered PMU's source.
-pub const SOURCE: u16 = 7;
-
-/// The registered PMU's number at its source.
-const PMU: u16 = 7;
-
-/// The subscriber's number.
-pub const SUBSCRIBER: u16 = 1;
-
-/// The gateway of one thread.
+/// The gateway of one thread: at most 256 registered PMUs and 64 subscribers (own rule).
 #[derive(Drop)]
 pub struct Gateway {
-    announced: Option<Arc<PmuConfig>>,
-    subscriber: Subscriber,
+    kernel: Kernel,
 }
 
 impl Model for Gateway {
-    ghost use Rattle.std.specs.Prelude.{option_map};
-    ghost use Rattle.std.specs.Arc.{arc_value};
-    ghost use Rattle.pg_gateway.specs.Shared.{GatewayValue};
+    ghost use Rattle.pg_gateway.specs.Shown.{GatewayValue};
+    ghost use Rattle.pg_gateway.specs.Consistent.{IsReached};
 
     ghost Value = { GatewayValue };
 
-    ghost view = { λ g. record { announced = option_map arc_value g.announced; subscriber = g.subscriber } };
+    ghost view = { λ g. g.kernel };
+
+    ghost invariant = { λ g. IsReached g.kernel };
 }
 
-/// Which of a source's PMUs has the registered PMU's number, if one does.
-fn place_among(parts: &[Arc<PmuConfig>]) -> Option<usize>
-    ensures { result ≡ position (λ part. is_registered (arc_value part)) parts.now }
+/// What an event says was read, where a source announced it.
+fn posted(event: &Event)
+    ensures { IsPosted (occurrence event.now) }
 {
-    parts.iter().position(|part| part.id() == PMU)
-}
-
-/// Where a source's frames have the registered PMU, if they do.
-fn place_in(config: &SourceConfig) -> Option<usize>
-    ensures place { result ≡ registered_place config.now }
-    ensures within { IfSome result (λ i. i < length config.now.parts) }
-{
-    if config.source.get() != SOURCE {
-        return None;
-    }
-    place_among(&config.parts)
-}
-
-/// The reply to a private event.
-fn reply_of(reply: PrivateReply) -> Reply
-    ensures told { told result ≡ private_told reply }
-    ensures plain { IsPlain result }
-{
-    match reply {
-        PrivateReply::Done { made, kept } => Reply::Done { made, kept },
-        PrivateReply::Refused(refusal) => Reply::Refused(refusal),
+    if let Event::Announce(config) = event {
+        let _count = announced(config).count();
     }
 }
 
 impl Gateway {
-    /// The gateway at its fixed setup: nothing is announced, and the stream is off. The one refusal is `NoMemory`.
+    /// No PMUs and no subscribers, with room reserved for 256 and 64. The one refusal is `NoMemory`.
     pub fn new(alloc: Global) -> Result<Gateway, Refusal>
         ensures shows { IfOk result (λ g. GatewayShows g opening) }
         ensures memory { IfErr result (λ refusal. refusal ≡ Refusal.NoMemory) }
     {
         Ok(Gateway {
-            announced: None,
-            subscriber: Subscriber::new(alloc)?,
+            kernel: Kernel::new(alloc)?,
         })
     }
 
-    /// One atomic step. Whatever state the gateway shows before it, the reply may come there, and the gateway shows
-    /// that state's successor after it.
+    /// Takes one event: an atomic step of the shared machine.
+    ///
+    /// A drain is answered with a drain's reply, and a buffer as long as the event's; all other events without a buffer.
     pub fn step(&mut self, event: Event) -> Reply
-        ensures goes { Goes self.old (happening event) (told result) self.new }
-        ensures buffer { KeepsBuffer event result }
+        ensures goes { Goes self.old (occurrence event) (told result) self.new }
+        ensures alike { LeavesAlike self.old (occurrence event) (told result) }
+        ensures own_blocks { TakesOwnBlocks self.old (occurrence event) (told result) }
+        ensures frugal { Frugal self.old (occurrence event) (told result) }
+        ensures answers { Answers event result }
+        ensures limits { IsWithinLimits self.new }
     {
-        match event {
-            Event::Announce(config) => self.announce(&config),
-            Event::Measure(frame) => self.measure(&frame),
-            Event::Command(sub, asked) => self.command(sub, asked),
-            Event::Drain(sub, buf) => self.drain(sub, buf),
-        }
+        posted(&event);
+        let reply = self.kernel.step(event);
+        self.kernel.tell_limits();
+        reply
     }
 
-    /// A source announced a configuration. Both copies of it are made before anything changes.
-    fn announce(&mut self, config: &SourceConfig) -> Reply
-        ensures goes { Goes self.old (announce config.now) (told result) self.new }
-        ensures plain { IsPlain result }
+    /// Whether a subscriber is there.
+    pub fn has_sub(&self, sub: SubId) -> bool
+        ensures value { (S : Shared) → GatewayShows self.now S → result ≡ is_some (seat_of sub S.subs) }
     {
-        let Some(i) = place_in(config) else {
-            return Reply::Refused(Refusal::NoSuchPmu);
-        };
-        let Ok(held) = Arc::try_clone(&config.parts[i]) else {
-            return Reply::Refused(Refusal::NoMemory);
-        };
-        let Ok(lent) = Arc::try_clone(&config.parts[i]) else {
-            return Reply::Refused(Refusal::NoMemory);
-        };
-        self.announced = Some(held);
-        reply_of(self.subscriber.announce(lent))
+        self.kernel.has_sub(sub)
     }
 
-    /// A source sent a data frame. The registered PMU's block has to be read by what that PMU announced last.
-    fn measure(&mut self, frame: &DataFrame) -> Reply
-        ensures goes { Goes self.old (measure frame.now) (told result) self.new }
-        ensures plain { IsPlain result }
+    /// Whether a subscriber is there and connected.
+    pub fn is_connected(&self, sub: SubId) -> bool
+        ensures value { (S : Shared) → GatewayShows self.now S → result ≡ option_map_or (λ p. p.connected) (own_of sub S) false }
     {
-        let Some(i) = place_in(&frame.config) else {
-            return Reply::Refused(Refusal::NoSuchPmu);
-        };
-        let Some(held) = &self.announced else {
-            return Reply::Refused(Refusal::NoConfig);
-        };
-        if !held.is_same(&frame.config.parts[i]) {
-            return Reply::Refused(Refusal::StaleConfig);
-        }
-        reply_of(self.subscriber.measure(frame, i))
+        self.kernel.is_connected(sub)
     }
 
-    /// A subscriber sent a command.
-    fn command(&mut self, sub: SubId, asked: Command) -> Reply
-        ensures goes { Goes self.old (command sub asked.stream asked.word) (told result) self.new }
-        ensures plain { IsPlain result }
+    /// Whether a PMU of a source is registered. It looks through the keys.
+    pub fn has_source(&self, source: PmuId) -> bool
+        ensures value { (S : Shared) → GatewayShows self.now S → result ≡ has_source S.pmus source }
     {
-        if sub.get() != SUBSCRIBER {
-            return Reply::Refused(Refusal::NoSuchSub);
-        }
-        reply_of(self.subscriber.command(asked))
+        self.kernel.has_source(source)
     }
 
-    /// A subscriber's bytes are handed out.
-    fn drain(&mut self, sub: SubId, buf: Vec<u8>) -> Reply
-        ensures goes { Goes self.old (drain sub (length buf.items)) (told result) self.new }
-        ensures buffer { KeepsBuffer (Event.Drain sub buf) result }
+    /// Whether 256 PMUs are registered, so that there is no room for another.
+    pub fn is_full(&self) -> bool
+        ensures value { (S : Shared) → GatewayShows self.now S → result ≡ nat_le 256 (length S.pmus) }
     {
-        if sub.get() != SUBSCRIBER {
-            return Reply::Drained {
-                buf,
-                out: Err(Refusal::NoSuchSub),
-            };
-        }
-        let mut buf = buf;
-        let drained = self.subscriber.drain(&mut buf);
-        Reply::Drained {
-            buf,
-            out: Ok(drained),
-        }
+        self.kernel.is_full()
+    }
+
+    /// What waits to be handed out to a subscriber, where it is there.
+    pub fn queue(&self, sub: SubId) -> Option<&OutQueue>
+        ensures value { option_map (λ queue. queue.now) result
+            ≡ option_map (λ (s : SeatValue). s.subscriber.own.output.queue) (lookup (nat_eq sub) self.now.subs) }
+    {
+        self.kernel.queue(sub)
     }
 }

@@ -1,14 +1,28 @@
-//! The gateway: what happens to it, and what it answers. One event is one atomic step.
-//!
-//! It begins with a fixed setup: PMU 7 of source 7 is registered and granted to subscriber 1, which is connected and
-//! has the stream 101 of that one member, off.
+//! The gateway: which PMUs are registered, and the subscribers, each a private gateway of its own. One event is one atomic
+//! step.
 #![tactic(auto)]
 
+mod announcing;
+mod asking;
+mod blocks;
 mod edit;
 mod event;
+mod fan;
+mod gate;
 mod gateway;
+mod kernel;
+mod laws;
+mod machine;
+mod seat;
 
 pub use edit::Edit;
 pub use event::{Event, Reply};
-pub use gateway::{Gateway, SOURCE, SUBSCRIBER};
-pub use pg_first::Drained;
+pub use gate::Gate;
+pub use gateway::Gateway;
+pub use laws::{
+    each_goes_by_its_view, equal_views_leave_alike, nothing_lost_is_full, own_blocks_alone,
+};
+pub use pg_ring::Drained;
+
+#[cfg(test)]
+mod tests;

@@ -9,7 +9,7 @@ mod table;
 mod verb;
 pub mod words;
 
-pub use line::parse_line;
+pub use line::{parse_line, words_of};
 pub use setup::{Setup, read_setup};
 
 #[cfg(test)]

@@ -49,7 +49,11 @@ pub fn parse_line(alloc: Global, line: &str) -> Result<Edit, Refusal>
 }
 
 /// The words of a line: what stands between spaces.
-fn words_of<'a>(alloc: Global, line: &'a str) -> Result<Vec<&'a str>, AllocError>
+///
+/// # Errors
+///
+/// `AllocError` where there is no memory for their list.
+pub fn words_of<'a>(alloc: Global, line: &'a str) -> Result<Vec<&'a str>, AllocError>
     ensures { IfOk result (λ v. map (λ w. w.now) v.items ≡ words_of line.now) }
 {
     line.split(' ')

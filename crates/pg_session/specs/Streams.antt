@@ -117,7 +117,7 @@ module _ {A : Type 0} (by : Alignment A) where
       let answer = by.answer a slot p.place in
       record others { late = is_late answer + others.late; twice = is_twice answer + others.twice }
 
-  -- all arrive first, and only then do slots leave
+  -- All arrive first, and only then do slots leave. An error is TimeEnd: no data frame that was read has a BadFraction.
   abbrev pub arrival_turn : Listing → StreamOf A → List Placed → Result ℕ Refusal → Turn A
   arrival_turn listed s blocks (Err r) = record (still s) { past = length blocks }
   arrival_turn listed s blocks (Ok slot) =

@@ -128,6 +128,13 @@ impl Subscriber {
         self.grants.holds(key)
     }
 
+    /// Whether the subscriber is connected.
+    pub fn is_connected(&self) -> bool
+        ensures value { result ≡ self.now.own.connected }
+    {
+        self.connected
+    }
+
     /// How many PMUs are granted: at most 32 (own rule).
     pub fn grant_count(&self) -> usize
         ensures value { result ≡ length self.now.own.grants }

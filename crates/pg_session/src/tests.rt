@@ -332,13 +332,49 @@ fn wait_and_window(rt: HostRuntime) -> Result<(), Fail> {
     Ok(())
 }
 
-// Row counts-and-flush: with PMU 7's slot open a revoke of PMU 8 makes a frame, and the count is then 3.
+// The reply at this place is a configuration of this many bytes and PMUs, of which PMU 7 is the first, with this CFGCNT.
+fn lists(rt: &impl Abort, sub: &Subscriber, place: usize, size: usize, pmus: u8, count: u8) {
+    match sub.queue().reply_at(place) {
+        Some(bytes) => {
+            assert!(rt; bytes.len() == size);
+            assert!(rt; bytes.len() >= 74);
+            assert!(rt; bytes[18..20] == [0, pmus]);
+            assert!(rt; bytes[36..38] == [0, 7]);
+            assert!(rt; bytes[68..70] == [0, count]);
+        }
+        None => panic!(rt; "no reply"),
+    }
+}
+
+// Row counts-and-flush, a grant: what PMU 7 announced before it stands in CFG-1, with count 1.
+#[test]
+fn grant_brings_what_was_announced(rt: HostRuntime) -> Result<(), Fail> {
+    let alloc = rt.alloc();
+    let source = source_7(&rt, alloc)?;
+    let mut sub = subscriber(&rt, alloc)?;
+    let definition = stream(alloc, 101, 0, 4, &[key(7)?])?;
+    done(
+        &rt,
+        give(&rt, &mut sub, PrivateEvent::Define(definition)),
+        0,
+    );
+    let grant = PrivateEvent::Grant(key(7)?, source.parts.first());
+    done(&rt, give(&rt, &mut sub, grant), 0);
+    done(&rt, give(&rt, &mut sub, command(101, 4)), 0);
+    lists(&rt, &sub, 0, 74, 1, 1);
+    Ok(())
+}
+
+// Row counts-and-flush: the count is 2 when both have announced. With PMU 7's slot open a revoke of PMU 8 makes a frame, and
+// the count is then 3.
 #[test]
 fn counts_and_flush(rt: HostRuntime) -> Result<(), Fail> {
     let alloc = rt.alloc();
     let first = source_7(&rt, alloc)?;
     let second = source_8(&rt, alloc)?;
     let mut sub = with_two(&rt, alloc, &first, &second, 2, 4)?;
+    done(&rt, give(&rt, &mut sub, command(102, 5)), 0);
+    lists(&rt, &sub, 0, 364, 2, 2);
     let frame = measured(&rt, alloc, &first, 100, 33_333, &DATA_7)?;
     done(
         &rt,
@@ -351,15 +387,7 @@ fn counts_and_flush(rt: HostRuntime) -> Result<(), Fail> {
         None => panic!(rt; "no frame"),
     }
     done(&rt, give(&rt, &mut sub, command(102, 5)), 0);
-    match sub.queue().reply_at(0) {
-        Some(bytes) => {
-            assert!(rt; bytes.len() == 74);
-            // NUM_PMU, and CFGCNT of the one block.
-            assert!(rt; bytes[18..20] == [0, 1]);
-            assert!(rt; bytes[68..70] == [0, 3]);
-        }
-        None => panic!(rt; "no reply"),
-    }
+    lists(&rt, &sub, 1, 74, 1, 3);
     Ok(())
 }
 

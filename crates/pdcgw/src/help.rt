@@ -1,0 +1,75 @@
+//! What `--help` tells beside the usage.
+
+/// Of the program.
+pub const PROGRAM: &str = "\
+Exit status:
+  0  done
+  1  a fault, told on standard error as `pdcgw: N NAME`: 1 NoMemory; 39 ReadFault, standard input can't be read;
+     40 WriteFault, standard output can't be written
+  2  other words than those above, or help; this text goes to standard error
+
+`pdcgw replay --help` tells the lines of a script and the answers to them.";
+
+/// Of `replay`.
+pub const REPLAY: &str = "\
+A script is read from standard input, and the answers to its lines are written to standard output, in their order. Words
+are separated by spaces; an empty line, and one whose first word begins with #, gives nothing.
+
+Lines of an operator:
+  addpmu P                 registers the PMU P; at most 256
+  droppmu P                drops it, and revokes it from each subscriber
+  addsub U RING [BYTES]    adds the subscriber U; at most 64. At most RING data frames wait for it, and at most BYTES bytes
+                           of them (16777216 where not given): the oldest give way
+  dropsub U                drops it
+  grant U P, revoke U P    lets U have P in its streams, or no longer; at most 32 PMUs each
+  define U STREAM RATE BASE WAIT WINDOW HEADER MEMBER..
+                           defines a stream of U with 1 to 32 members; at most 8 streams each. It is off until command 2.
+                           A frame leaves when all members have come that U may have, WAIT ticks after the first of them,
+                           or when more than WINDOW frames are open
+  remove U STREAM          removes it
+  stats U, pmustats P      prints the counters of U, or of P
+  audit U I                prints an entry of the audit of U: 0 the newest, at most 63
+
+Lines of the outer world:
+  linkup S                 the connection to the source S is up
+  pmu S HEX                bytes of the source S have come: frames of C37.118.2, cut in any way
+  connect U, hangup U      U connects, or hangs up
+  sub U HEX                bytes of the subscriber U have come: command frames of C37.118.2 (1 stop and 2 start a stream,
+                           3 send its header, 4 its CFG-1, 5 its CFG-2), cut in any way
+  drain U N                hands out what waits for U, at most N bytes
+  tick SOC                 the clock ticks
+
+Lines that change nothing:
+  queue U                  prints what waits for U
+  linkstats S, sessionstats U
+                           prints what was counted of the bytes of S, or of U
+
+Words:
+  S                        a source: 1 to 65534
+  P, MEMBER                a PMU: S/N, the PMU N of the source S; or N alone, which is N/N. N is 1 to 65534
+  U                        a subscriber: 1 to 65535
+  RING, BYTES              1 to 1024 frames; 16 to 16777216 bytes
+  STREAM                   the IDCODE of the stream's frames: 1 to 65534
+  RATE                     frames per second: 1 to 120
+  BASE                     TIME_BASE, parts of a second: from RATE to 16777215
+  WAIT, WINDOW             0 to 60000 ticks; 1 to 64 frames
+  HEADER                   the ASCII text of the stream's HDR frame in hexadecimal, at most 1024 bytes; none for the empty text
+  N                        0 to 65535 bytes
+  SOC                      seconds since 1970-01-01 00:00 UTC: 0 to 4294967295
+  HEX                      bytes in hexadecimal, of either case; with + at the end the CHK of these bytes follows them
+
+Answers:
+  done MADE KEPT           done; MADE data frames were made for all subscribers, of which KEPT found memory
+  refused N NAME           refused, for the reason N; 36 BadLine where the line has none of the forms above
+  ignored N NAME           a frame was left out
+  closed N NAME            the bytes broke; those of a source are dropped until linkup, and a subscriber is hung up
+  send HEX                 this command frame is to be sent to the source
+  drained LEN BEGUN GAP HEX
+                           LEN bytes were handed out; they begin BEGUN frames, before which GAP data frames were lost
+  stats, pmustats, linkstats, sessionstats
+                           counters, then N:COUNT for each reason N that was counted
+  audit TURN WHAT RESULT   TURN counts from 1. WHAT is 1 addsub, 2 grant, 3 revoke, 4 define, 5 remove, 6 connect, 7 hangup,
+                           8 a command. RESULT is 0 where it was done, else the reason; audit none where there is no entry
+  rest HEX, reply HEX, frame GAP HEX, pending N
+                           of queue: what is left of the frame in hand, the answers to commands, each data frame with the
+                           number of those lost directly before it, and the number of those lost after them";

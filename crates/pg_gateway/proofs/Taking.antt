@@ -1,0 +1,133 @@
+-- One subscriber takes its share of an event for all.
+use Rattle.std.proofs.Common.{◌≡◌, ℕ, ◌<◌, ◌≤◌, ◌⊎◌, Bool, true, true≢false, List, [], ◌∷◌, ◌++◌, length, filter, Option, Some, None, refl, sym, ap, subst, ◌∙◌, arith, inl, inr}
+use Rattle.std.specs.Prelude.{slice_get}
+use Rattle.pg_wire.specs.declared.refusal.Refusal.TheVariants.{NoMemory}
+use Rattle.pg_wire.specs.declared.ids.PmuKey.{PmuKey}
+use Rattle.pg_entitle.specs.Grants.{has_key}
+use Rattle.pg_config.specs.Parts.{Source}
+use Rattle.pg_data.specs.Measurements.{Measurement}
+use Rattle.pg_audit.specs.Noting as audit
+use Rattle.pg_session.specs.Events as event
+use Rattle.pg_session.specs.Events.{Happening, Announcing, Sample, announced_at, samples_at}
+use Rattle.pg_session.specs.Private.{Told, done, refused, takes_memory, answer, frames_of, effect, next}
+use Rattle.pg_session.specs.Shown.{Own, SubscriberValue, Takes, Follows, Shows, OwnShows}
+use Rattle.pg_session.specs.ByAll.{by_arrivals, by_numbers}
+use Rattle.pg_session.specs.Ready.{AreRising, IsFor, IsReady, NeedsNone}
+use Rattle.pg_session.specs.Steps.{HasNoCopies}
+use Rattle.pg_gateway.specs.Sharing.{Seat, Offer, announces, some_announced, some_measured, share, notes_of, frames_in_share, after_share}
+use Rattle.pg_gateway.specs.Shown.{SeatValue, SeatShows}
+use Rattle.pg_gateway.specs.Taking.{measured, part_passes, IsFit, IsLaid, NeedsNoCopy, Awaits, Fits, TakesShare, counts_of}
+use Rattle.pg_gateway.proofs.Places.{announced-filter, samples-filter, announced-some, samples-some}
+use Rattle.pg_gateway.proofs.ShareLaws.{Quiet, share_quiet}
+
+-- of some places those that are granted make a subscriber's share
+pub announced_none : (config : Source) (ps held : List ℕ) (grants : List PmuKey) → held ≡ filter (λ i. part_passes (has_key grants) config (slice_get config.parts i)) ps
+    → length held ≡ 0 → share (announces (announced_at config ps)) grants ≡ None
+announced_none config ps held grants is none = by held is none
+  where
+    by : (held : List ℕ) → held ≡ filter (λ i. part_passes (has_key grants) config (slice_get config.parts i)) ps → length held ≡ 0 → share (announces (announced_at config ps)) grants ≡ None
+    by [] is none = ap some_announced (sym (announced-filter (has_key grants) config ps)) ∙ ap (λ l. some_announced (announced_at config l)) (sym is)
+    by (p ∷ ps) is none = absurd (omega arith)
+
+pub announced_share : (config : Source) (ps held : List ℕ) (grants : List PmuKey) → held ≡ filter (λ i. part_passes (has_key grants) config (slice_get config.parts i)) ps
+    → AreRising 0 (length config.parts) held → 0 < length held → share (announces (announced_at config ps)) grants ≡ Some (event.announce (announced_at config held))
+announced_share config ps held grants is rising some =
+    ap some_announced (sym (announced-filter (has_key grants) config ps)) ∙ ap (λ l. some_announced (announced_at config l)) (sym is)
+    ∙ (let there = announced-some config 0 held rising some in rw there.2 refl)
+
+pub measured_none : (m : Measurement) (ps held : List ℕ) (grants : List PmuKey) → held ≡ filter (λ i. part_passes (has_key grants) m.config (slice_get m.config.parts i)) ps
+    → length held ≡ 0 → share (measured m ps) grants ≡ None
+measured_none m ps held grants is none = by held is none
+  where
+    by : (held : List ℕ) → held ≡ filter (λ i. part_passes (has_key grants) m.config (slice_get m.config.parts i)) ps → length held ≡ 0 → share (measured m ps) grants ≡ None
+    by [] is none = ap (some_measured m.soc m.quality m.frac) (sym (samples-filter (has_key grants) m ps)) ∙ ap (λ l. some_measured m.soc m.quality m.frac (samples_at m l)) (sym is)
+    by (p ∷ ps) is none = absurd (omega arith)
+
+pub measured_share : (m : Measurement) (ps held : List ℕ) (grants : List PmuKey) → held ≡ filter (λ i. part_passes (has_key grants) m.config (slice_get m.config.parts i)) ps
+    → AreRising 0 (length m.config.parts) held → 0 < length held
+    → share (measured m ps) grants ≡ Some (event.measure m.soc m.quality m.frac (samples_at m held))
+measured_share m ps held grants is rising some =
+    ap (some_measured m.soc m.quality m.frac) (sym (samples-filter (has_key grants) m ps)) ∙ ap (λ l. some_measured m.soc m.quality m.frac (samples_at m l)) (sym is)
+    ∙ (let there = samples-some m 0 held rising some in rw there.2 refl)
+
+-- a subscriber that has no share
+pub none_taken : (o : Offer) (lost : Bool) (v : SeatValue) (s : Seat) → SeatShows v s → share o v.subscriber.own.grants ≡ None → TakesShare o lost 0 0 s v
+none_taken o lost v s shown none =
+    let same : share o s.own.grants ≡ None = ap (share o) (sym shown.subscriber.grants) ∙ none in
+    record {
+      count = ap (λ x. frames_in_share x s.own) (sym same);
+      none_kept = λ _. refl;
+      shows = subst (λ x. SeatShows v (after_share x (notes_of o) s 0)) (sym same) shown;
+    }
+
+-- and one that has taken it
+pub some_taken : (o : Offer) (lost : Bool) (old new : SeatValue) (x : Happening) (r : Told) (s : Seat) → SeatShows old s → share o old.subscriber.own.grants ≡ Some x
+    → Takes old.subscriber x lost r new.subscriber → audit.Shows new.audit (s.noted ++ notes_of o) → TakesShare o lost (counts_of r).0 (counts_of r).1 s new
+some_taken o lost old new x r s shown some takes noted = by r (rw q.allowed at follows.may) follows.shows
+  where
+    same : share o s.own.grants ≡ Some x
+    same = ap (share o) (sym shown.subscriber.grants) ∙ some
+
+    q : Quiet s.own x
+    q = share_quiet o s.own x same
+
+    follows : Follows s.own x lost r new.subscriber
+    follows = takes s.own shown.subscriber
+
+    n : ℕ
+    n = length (frames_of by_arrivals by_numbers s.own x)
+
+    at_done : (k : ℕ) → (lost ≡ true → k ≡ 0) → OwnShows new.subscriber.own (effect by_arrivals by_numbers s.own x k)
+        → TakesShare o lost (length (frames_of by_arrivals by_numbers s.own x)) k s new
+    at_done k none shows =
+        record {
+          count = ap (λ y. frames_in_share y s.own) (sym same);
+          none_kept = none;
+          shows = subst (λ y. SeatShows new (after_share y (notes_of o) s k)) (sym same) (record { subscriber = shows; audit = noted });
+        }
+
+    by : (t : Told) → (((k : ℕ) × (k ≤ length (frames_of by_arrivals by_numbers s.own x)) × (lost ≡ true → k ≡ 0) × (t ≡ answer by_arrivals by_numbers s.own x k)) ⊎ ((t ≡ refused NoMemory) × (takes_memory x ≡ true)))
+        → Shows new.subscriber (next by_arrivals by_numbers s.own x t) → TakesShare o lost (counts_of t).0 (counts_of t).1 s new
+    by t (inl a) shows =
+        let is : t ≡ done (length (frames_of by_arrivals by_numbers s.own x)) a.0 = a.3 ∙ q.frames a.0 in
+        subst (λ t. TakesShare o lost (counts_of t).0 (counts_of t).1 s new) (sym is) (at_done a.0 a.2 (subst (λ t. Shows new.subscriber (next by_arrivals by_numbers s.own x t)) is shows))
+    by t (inr b) shows = absurd (true≢false (sym b.1 ∙ q.no_memory))
+
+-- what a subscriber's share asks of it, at the share that it is
+pub fit_at : (v : SubscriberValue) (o : Option Happening) (x : Happening) → o ≡ Some x → IsFit v o → IsFor v.own x
+fit_at v o x is fit = subst (λ o. IsFit v o) is fit
+
+pub laid_at : (v : SubscriberValue) (o : Option Happening) (x : Happening) → o ≡ Some x → IsLaid v o → IsReady v x
+laid_at v o x is laid = subst (λ o. IsLaid v o) is laid
+
+pub laid_none : (v : SubscriberValue) (o : Option Happening) → o ≡ None → IsLaid v o → HasNoCopies v
+laid_none v o is laid = subst (λ o. IsLaid v o) is laid
+
+pub lays : (v : SubscriberValue) (o : Option Happening) (x : Happening) → o ≡ Some x → IsReady v x → IsLaid v o
+lays v o x is ready = subst (λ o. IsLaid v o) (sym is) ready
+
+pub lays_none : (v : SubscriberValue) (o : Option Happening) → o ≡ None → HasNoCopies v → IsLaid v o
+lays_none v o is none = subst (λ o. IsLaid v o) (sym is) none
+
+pub needless_at : (v : SubscriberValue) (o : Option Happening) (x : Happening) → o ≡ Some x → NeedsNoCopy v o → NeedsNone v x
+needless_at v o x is needs = subst (λ o. NeedsNoCopy v o) is needs
+
+-- what is no part of a subscriber's own state says nothing of it
+fit_same : (v w : SubscriberValue) (o : Option Happening) → w.own ≡ v.own → IsFit v o → IsFit w o
+fit_same v w None same fit = tt
+fit_same v w (Some x) same fit = subst (λ own. IsFor own x) (sym same) fit
+
+pub awaits_laid : (o : Offer) (v w : SeatValue) → w.subscriber.own ≡ v.subscriber.own → Fits o v → IsLaid w.subscriber (share o v.subscriber.own.grants) → Awaits o w
+awaits_laid o v w same fit laid =
+    let grants : v.subscriber.own.grants ≡ w.subscriber.own.grants = ap (λ (own : Own). own.grants) (sym same) in
+    record {
+      fit = subst (λ g. IsFit w.subscriber (share o g)) grants (fit_same v.subscriber w.subscriber (share o v.subscriber.own.grants) same fit);
+      laid = subst (λ g. IsLaid w.subscriber (share o g)) grants laid;
+    }
+
+pub shows_kept : (v w : SeatValue) (s : Seat) → w.subscriber.own ≡ v.subscriber.own → w.audit ≡ v.audit → SeatShows v s → SeatShows w s
+shows_kept v w s own noted shown =
+    record {
+      subscriber = subst (λ p. OwnShows p s.own) (sym own) shown.subscriber;
+      audit = subst (λ a. audit.Shows a s.noted) (sym noted) shown.audit;
+    }

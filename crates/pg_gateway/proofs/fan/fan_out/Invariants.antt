@@ -1,0 +1,20 @@
+use Rattle.std.proofs.Common.{◌≡◌, ◌≤◌, ◌*◌, ◌++◌, false, take, drop, vec_capacity}
+use Rattle.indexmap.specs.IndexMap.{index_map_len}
+use Rattle.pg_gateway.specs.Related.{Related}
+use Rattle.pg_gateway.specs.Sharing.{Seats, fan_out, total}
+use Rattle.pg_gateway.specs.Shown.{SeatShows}
+use Rattle.pg_gateway.specs.Taking.{offered, Awaits, AllSeats, HasNone}
+use Rattle.pg_gateway.proofs.fan.fan_out.Given as goal
+
+abbrev pub invariant-loop-i : goal.invariant-loop-i
+invariant-loop-i l = record {
+  len : index_map_len l.subs ≡ index_map_len l.fn.subs;
+  few : l.made ≤ 640 * l.i;
+  kept : l.kept ≤ l.made;
+  all : l.lost ≡ false → l.kept ≡ l.made;
+  room : 16 ≤ vec_capacity l.held;
+  awaits : AllSeats (Awaits (offered l.event l.places)) (drop l.i l.subs.entries);
+  none : AllSeats HasNone (take l.i l.subs.entries);
+  count : (seats : Seats) → Related SeatShows l.fn.subs.entries seats → l.made ≡ total (offered l.event l.places) (take l.i seats);
+  shows : (seats : Seats) → Related SeatShows l.fn.subs.entries seats → Related SeatShows l.subs.entries (fan_out (offered l.event l.places) (take l.i seats) l.kept ++ drop l.i seats);
+}

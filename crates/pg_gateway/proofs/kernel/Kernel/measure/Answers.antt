@@ -1,0 +1,68 @@
+use Rattle.std.proofs.Common.{sym, ap, subst, ◌∙◌}
+use Rattle.std.specs.Arc.{arc_value}
+use Rattle.pg_session.specs.Events.{samples_at}
+use Rattle.pg_gateway.specs.Sharing.{measures}
+use Rattle.pg_gateway.specs.Judging.{samples_in}
+use Rattle.pg_gateway.specs.Placing.{placed_counted, placed_refusal, placed_memory}
+use Rattle.pg_gateway.specs.Taking.{AllSeats, Fits, FansOut}
+use Rattle.pg_gateway.proofs.Places.{samples-some}
+use Rattle.pg_gateway.proofs.Counted.{placed_within, counted_placed, memory_placed, refusal_placed}
+use Rattle.pg_gateway.proofs.Fitting.{all_fit_measured}
+use Rattle.pg_gateway.proofs.MeasureLaws.{measured_refused, measured_memory, measured_goes, judged_shown, taken_shown, no_samples}
+use Rattle.pg_gateway.proofs.kernel.Kernel.measure.Goals as goal
+
+pub count_blocks-requires : goal.count_blocks-requires
+count_blocks-requires c = record { within = rw c.deref.ensures.value (placed_within _ _ _ c.judge_shared-some.ensures.blocks) }
+
+pub count_memory-requires : goal.count_memory-requires
+count_memory-requires c = record { within = rw c.deref-in-Err.ensures.value (placed_within _ _ _ c.judge_shared-some.ensures.blocks) }
+
+pub count_blocks-requires-2 : goal.count_blocks-requires-2
+count_blocks-requires-2 c = record { within = rw c.deref-3.ensures.value (placed_within _ _ _ c.judge_shared-some.ensures.blocks) }
+
+pub lay_copies-requires-clause-fits : goal.lay_copies-requires-clause-fits
+lay_copies-requires-clause-fits c =
+    let m = arc_value c.args.frame.now in
+    let reached = c.requires.reached in
+    let S = reached.state in
+    let shown = rw (← c.self.view_is) at reached.shows in
+    let taken = taken_shown m S _ c.judge_shared-some.new.taken.items shown c.judge_shared-some.ensures.taken in
+    subst (λ o. AllSeats (Fits o) c.self.inside.subs.entries)
+    (sym (c.requires.event c.deref-2.result.now ∙ ap (λ l. measures m.soc m.quality m.frac l) (ap (samples_at m) c.deref-2.ensures.value ∙ taken)))
+    (all_fit_measured S.pmus S.last_tick m.soc m.quality m.frac (samples_in m) c.self.inside.subs.entries S.subs shown.subs reached.consistent.agree)
+
+pub returns-then-not-some-clause-goes : goal.returns-then-not-some-clause-goes
+returns-then-not-some-clause-goes c = λ S h.
+    let m = arc_value c.args.frame.now in
+    let items = c.judge_shared-some.new.blocks.items in
+    let shown = rw (← c.self.view_is) at h in
+    let placed = judged_shown m S _ items shown c.judge_shared-some.ensures.blocks in
+    let none = sym (taken_shown m S _ c.judge_shared-some.new.taken.items shown c.judge_shared-some.ensures.taken) ∙ no_samples m _ (c.judge_shared-some.ensures.none c.if-not-some.true) in
+    let counted = c.count_blocks.ensures ∙ ap (placed_counted c.self.inside.registry) c.deref.ensures.value ∙ ap (λ pmus. placed_counted pmus items) shown.pmus ∙ counted_placed S.pmus items _ placed in
+    let first = c.first_refusal.ensures ∙ ap placed_refusal c.deref-then-not-some.ensures.value ∙ refusal_placed S.pmus items _ placed in
+    rw first (measured_refused m S _ c.count_blocks.new.registry shown none counted)
+
+pub returns-in-Err-clause-goes : goal.returns-in-Err-clause-goes
+returns-in-Err-clause-goes c = λ S h.
+    let m = arc_value c.args.frame.now in
+    let items = c.judge_shared-some.new.blocks.items in
+    let shown = rw (← c.self.view_is) at h in
+    let placed = judged_shown m S _ items shown c.judge_shared-some.ensures.blocks in
+    let there = samples-some m 0 c.judge_shared-some.new.taken.items c.judge_shared-some.ensures.rising (c.judge_shared-some.ensures.some c.if-not-some.false) in
+    let some = sym (taken_shown m S _ c.judge_shared-some.new.taken.items shown c.judge_shared-some.ensures.taken) ∙ there.2 in
+    let counted = c.count_memory.ensures ∙ ap (placed_memory c.self.inside.registry) c.deref-in-Err.ensures.value ∙ ap (λ pmus. placed_memory pmus items) shown.pmus ∙ memory_placed S.pmus items _ placed in
+    rw c.in-Err.ensures.memory (measured_memory m S _ c.count_memory.new.registry c.lay_copies.new.subs.entries there.0 there.1 shown some (c.lay_copies.ensures.shows S.subs shown.subs) counted)
+
+pub returns-clause-goes : goal.returns-clause-goes
+returns-clause-goes c = λ S h.
+    let m = arc_value c.args.frame.now in
+    let items = c.judge_shared-some.new.blocks.items in
+    let shown = rw (← c.self.view_is) at h in
+    let placed = judged_shown m S _ items shown c.judge_shared-some.ensures.blocks in
+    let taken = taken_shown m S _ c.judge_shared-some.new.taken.items shown c.judge_shared-some.ensures.taken in
+    let there = samples-some m 0 c.judge_shared-some.new.taken.items c.judge_shared-some.ensures.rising (c.judge_shared-some.ensures.some c.if-not-some.false) in
+    let some = sym taken ∙ there.2 in
+    let counted = c.count_blocks-2.ensures ∙ ap (placed_counted c.self.inside.registry) c.deref-3.ensures.value ∙ ap (λ pmus. placed_counted pmus items) shown.pmus ∙ counted_placed S.pmus items _ placed in
+    let offer = c.requires.event c.deref-4.result.now ∙ ap (λ l. measures m.soc m.quality m.frac l) (ap (samples_at m) c.deref-4.ensures.value ∙ taken) in
+    let fans = subst (λ o. FansOut o c.fan_out-made.result.0 c.fan_out-made.result.1 S.subs c.fan_out-made.new.subs.entries) offer (c.fan_out-made.ensures.fans_out S.subs (c.lay_copies.ensures.shows S.subs shown.subs)) in
+    measured_goes m S _ c.count_blocks-2.new.registry c.fan_out-made.new.subs.entries c.fan_out-made.result.0 c.fan_out-made.result.1 there.0 there.1 shown some fans c.fan_out-made.ensures.kept counted

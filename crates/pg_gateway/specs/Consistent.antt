@@ -1,0 +1,68 @@
+-- What holds of the states that events leave: the registry and the CFG-1 lists agree.
+use Rattle.std.specs.Prelude.{◌≡◌, if◌then◌else◌, [], ◌∷◌, None, IfSome}
+use Rattle.pg_wire.specs.declared.ids.PmuKey.{PmuKey}
+use Rattle.pg_config.specs.Parts.{IsSource, block_id}
+use Rattle.pg_entitle.specs.Grants.{has_key, IsGrantList}
+use Rattle.pg_outcfg.specs.Listing.{config_at}
+use Rattle.pg_registry.specs.Registered.{Pmus, IsRegistry, config_in}
+use Rattle.pg_session.specs.Events as own
+use Rattle.pg_session.specs.Events.{Happening}
+use Rattle.pg_session.specs.Shown.{Model}
+use Rattle.pg_gateway.specs.Occurrences.{Occurrence, add_pmu, drop_pmu, add_sub, drop_sub, grant, asks, announce, measure, tick, stats, pmu_stats, audit}
+use Rattle.pg_gateway.specs.Sharing.{Seats}
+use Rattle.pg_gateway.specs.Shared.{Shared}
+use Rattle.pg_gateway.specs.Shown.{GatewayValue, GatewayShows}
+
+-- A subscriber's CFG-1 list has of the keys that it is granted just what their PMUs announced last.
+pub record AgreesWith (pmus : Pmus) (p : Model) : Type 0 where
+  pub grants : IsGrantList p.grants
+  pub listed : (key : PmuKey) → config_at p.listed key ≡ (if has_key p.grants key then config_in pmus key else None)
+
+abbrev pub AllAgree : Pmus → Seats → Type 0
+AllAgree pmus [] = Unit {0}
+AllAgree pmus (s ∷ seats) = AgreesWith pmus s.1.own × AllAgree pmus seats
+
+-- what a PMU announced is of that PMU
+abbrev pub AreKeyed : Pmus → Type 0
+AreKeyed [] = Unit {0}
+AreKeyed (p ∷ pmus) = IfSome p.1.config (λ c. block_id c.block ≡ p.0.pmu) × AreKeyed pmus
+
+pub record IsConsistent (S : Shared) : Type 0 where
+  pub registered : IsRegistry S.pmus
+  pub keyed : AreKeyed S.pmus
+  pub agree : AllAgree S.pmus S.subs
+
+-- The value shows a state that is so.
+pub record IsReached (v : GatewayValue) : Type 0 where
+  pub state : Shared
+  pub shows : GatewayShows v state
+  pub consistent : IsConsistent state
+
+-- what one subscriber is asked for itself alone
+abbrev pub IsOwn : Happening → Type 0
+IsOwn (own.grant key config) = ⊥
+IsOwn (own.announce list) = ⊥
+IsOwn (own.measure soc quality frac samples) = ⊥
+IsOwn (own.tick soc) = ⊥
+IsOwn (own.revoke key) = Unit {0}
+IsOwn (own.define definition) = Unit {0}
+IsOwn (own.remove number) = Unit {0}
+IsOwn own.connect = Unit {0}
+IsOwn own.hangup = Unit {0}
+IsOwn (own.command number word) = Unit {0}
+IsOwn (own.drain n) = Unit {0}
+
+-- An event of the code is so: what a source announced was read, and what is for one subscriber alone is of these seven.
+abbrev pub IsPosted : Occurrence → Type 0
+IsPosted (announce config) = IsSource config
+IsPosted (asks u x) = IsOwn x
+IsPosted (add_pmu key) = Unit {0}
+IsPosted (drop_pmu key) = Unit {0}
+IsPosted (add_sub u size bytes) = Unit {0}
+IsPosted (drop_sub u) = Unit {0}
+IsPosted (grant u key) = Unit {0}
+IsPosted (measure m) = Unit {0}
+IsPosted (tick soc) = Unit {0}
+IsPosted (stats u) = Unit {0}
+IsPosted (pmu_stats key) = Unit {0}
+IsPosted (audit u index) = Unit {0}

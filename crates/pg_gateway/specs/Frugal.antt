@@ -1,0 +1,50 @@
+-- Which events take no memory, so that none of them is refused for want of it.
+use Rattle.std.specs.Prelude.{◌≡◌, nat_eq, false, None, IfSome}
+use Rattle.std.specs.Map.{lookup}
+use Rattle.pg_wire.specs.declared.refusal.Refusal.TheVariants.{NoMemory}
+use Rattle.pg_registry.specs.Registered.{config_in}
+use Rattle.pg_session.specs.Events as own
+use Rattle.pg_session.specs.Private as private
+use Rattle.pg_session.specs.Private.{refused}
+use Rattle.pg_session.specs.Ready.{NeedsNone}
+use Rattle.pg_gateway.specs.Occurrences.{Occurrence, add_pmu, drop_pmu, add_sub, drop_sub, grant, asks, announce, measure, tick, stats, pmu_stats, audit, Answer, tells}
+use Rattle.pg_gateway.specs.Sharing.{measures}
+use Rattle.pg_gateway.specs.Judging.{taken_of}
+use Rattle.pg_gateway.specs.Shared.{Shared, refusal}
+use Rattle.pg_gateway.specs.Shown.{GatewayValue, GatewayShows}
+use Rattle.pg_gateway.specs.Taking.{AllSeats, Spares}
+
+-- The event needs no copy and fills nothing new. A grant needs none of a PMU that is granted already or has announced nothing; a
+-- measurement none where no block that was taken is a member's of an on stream of a subscriber that it is granted to.
+abbrev pub NeedsNoMemory : GatewayValue → Occurrence → Type 0
+NeedsNoMemory v (grant u key) = IfSome (lookup (nat_eq u) v.subs) (λ s. NeedsNone s.subscriber (own.grant key (config_in v.pmus key)))
+NeedsNoMemory v (measure m) = AllSeats (Spares (measures m.soc m.quality m.frac (taken_of v.pmus v.last_tick m))) v.subs
+NeedsNoMemory v (asks u x) = private.takes_memory x ≡ false
+NeedsNoMemory v (add_pmu key) = ⊥
+NeedsNoMemory v (add_sub u size bytes) = ⊥
+NeedsNoMemory v (announce config) = ⊥
+NeedsNoMemory v (drop_pmu key) = Unit {0}
+NeedsNoMemory v (drop_sub u) = Unit {0}
+NeedsNoMemory v (tick soc) = Unit {0}
+NeedsNoMemory v (stats u) = Unit {0}
+NeedsNoMemory v (pmu_stats key) = Unit {0}
+NeedsNoMemory v (audit u index) = Unit {0}
+
+-- Where no other refusal holds, such an event is not refused for want of memory.
+abbrev pub Frugal : GatewayValue → Occurrence → Answer → Type 0
+Frugal v e a = (S : Shared) → GatewayShows v S → refusal S e ≡ None → NeedsNoMemory v e → a ≡ tells (refused NoMemory) → ⊥
+
+-- events whose copies of a PMU's configuration or block may be needed or not
+abbrev pub MayCopy : Occurrence → Type 0
+MayCopy (grant u key) = Unit {0}
+MayCopy (measure m) = Unit {0}
+MayCopy (asks u x) = ⊥
+MayCopy (add_pmu key) = ⊥
+MayCopy (add_sub u size bytes) = ⊥
+MayCopy (announce config) = ⊥
+MayCopy (drop_pmu key) = ⊥
+MayCopy (drop_sub u) = ⊥
+MayCopy (tick soc) = ⊥
+MayCopy (stats u) = ⊥
+MayCopy (pmu_stats key) = ⊥
+MayCopy (audit u index) = ⊥

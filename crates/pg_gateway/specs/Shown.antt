@@ -1,0 +1,44 @@
+-- What is kept of the gateway, what it shows of the shared machine, and one step of the two.
+use Rattle.std.specs.Prelude.{◌≡◌, ◌≤◌, ℕ, List, length, Option}
+use Rattle.pg_registry.specs.Registered.{Pmus}
+use Rattle.pg_audit.specs.Noting as audit
+use Rattle.pg_audit.specs.Noting.{AuditValue}
+use Rattle.pg_session.specs.Shown as session
+use Rattle.pg_session.specs.Shown.{SubscriberValue}
+use Rattle.pg_gateway.specs.Occurrences.{Occurrence, Answer}
+use Rattle.pg_gateway.specs.Sharing.{Seat}
+use Rattle.pg_gateway.specs.Shared.{Shared, May, next}
+use Rattle.pg_gateway.specs.Related.{Related}
+
+pub record SeatValue : Type 0 where
+  pub subscriber : SubscriberValue
+  pub audit : AuditValue
+
+pub record GatewayValue : Type 0 where
+  pub pmus : Pmus
+  pub subs : List (ℕ × SeatValue)
+  pub last_tick : Option ℕ
+
+-- at most 256 registered PMUs and 64 subscribers
+abbrev pub IsWithinLimits : GatewayValue → Type 0
+IsWithinLimits v = (length v.pmus ≤ 256) × (length v.subs ≤ 64)
+
+-- The value shows this subscriber.
+pub record SeatShows (v : SeatValue) (s : Seat) : Type 0 where
+  pub subscriber : session.Shows v.subscriber s.own
+  pub audit : audit.Shows v.audit s.noted
+
+-- The value shows this state.
+pub record GatewayShows (v : GatewayValue) (S : Shared) : Type 0 where
+  pub pmus : v.pmus ≡ S.pmus
+  pub subs : Related SeatShows v.subs S.subs
+  pub last_tick : v.last_tick ≡ S.last_tick
+
+-- This answer may come to the event in this state, and the value then shows the state's successor.
+pub record Steps (S : Shared) (e : Occurrence) (a : Answer) (v : GatewayValue) : Type 0 where
+  pub may : May S e a
+  pub shows : GatewayShows v (next S e a)
+
+-- Whatever state the value shows before the event, the answer follows from that state.
+abbrev pub Goes : GatewayValue → Occurrence → Answer → GatewayValue → Type 0
+Goes old e a new = (S : Shared) → GatewayShows old S → Steps S e a new

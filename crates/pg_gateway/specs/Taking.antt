@@ -1,0 +1,204 @@
+-- How an event for all is lent to each subscriber, and how that goes on.
+use Rattle.std.specs.Prelude.{◌≡◌, ◌⊎◌, ◌≤◌, ℕ, Bool, true, false, List, [], ◌∷◌, length, drop, Option, Some, None}
+use Rattle.std.specs.Arc.{arc_value}
+use Rattle.pg_wire.specs.declared.ids.PmuKey.{PmuKey}
+use Rattle.pg_config.specs.Parts.{Part, Source}
+use Rattle.pg_data.specs.Measurements.{Measurement}
+use Rattle.pg_session.specs.Events.{Happening, drain, announced_at, samples_at, key_in}
+use Rattle.pg_wire.specs.declared.refusal.Refusal.TheVariants.{NoSuchSub, NoMemory}
+use Rattle.pg_session.specs.declared.event.PrivateEvent.{PrivateEvent}
+use Rattle.pg_session.specs.declared.event.PrivateEvent.TheVariants as private
+use Rattle.pg_session.specs.Private.{refusal, Told, done, refused, handed, May}
+use Rattle.pg_session.specs.ByAll.{by_arrivals, by_numbers}
+use Rattle.pg_session.specs.Shown.{SubscriberValue}
+use Rattle.pg_session.specs.Steps.{HasNoCopies}
+use Rattle.pg_session.specs.Ready.{IsReady, IsFor, NeedsNone, AreRising, handed_len}
+use Rattle.pg_gateway.specs.declared.event.Event.{Event}
+use Rattle.pg_gateway.specs.declared.event.Event.TheVariants as event
+use Rattle.pg_gateway.specs.Sharing.{Seat, Seats, Offer, revokes, announces, measures, ticks, share, frames_for, shared_to, total, fan_out}
+use Rattle.pg_audit.specs.declared.audit.What.{What}
+use Rattle.pg_audit.specs.declared.audit.What.TheVariants as audited
+use Rattle.pg_gateway.specs.Occurrences.{asks, Answer, tells}
+use Rattle.pg_gateway.specs.declared.event.Reply.{Reply}
+use Rattle.pg_gateway.specs.declared.event.Reply.TheVariants as reply
+use Rattle.pg_gateway.specs.Shared.{seat_of, at_seat, moved, names, with_note, code_of, seats_noted}
+use Rattle.pg_gateway.specs.Related.{Related}
+use Rattle.pg_gateway.specs.Shown.{SeatValue, SeatShows}
+
+-- the blocks of a frame at some places
+abbrev pub measured : Measurement → List ℕ → Offer
+measured m places = measures m.soc m.quality m.frac (samples_at m places)
+
+-- What an event is to all subscribers, with these places of a frame's PMUs. The others are nothing to them.
+abbrev pub offered : Event → List ℕ → Offer
+offered (event.DropPmu key) places = revokes key
+offered (event.Announce config) places = announces (announced_at (arc_value config) places)
+offered (event.Measure frame) places = measured (arc_value frame) places
+offered (event.Tick soc) places = ticks soc
+offered (event.AddPmu key) places = announces []
+offered (event.AddSub u size bytes) places = announces []
+offered (event.DropSub u) places = announces []
+offered (event.Grant u key) places = announces []
+offered (event.Revoke u key) places = announces []
+offered (event.Define u definition) places = announces []
+offered (event.Remove u number) places = announces []
+offered (event.Connect u) places = announces []
+offered (event.Hangup u) places = announces []
+offered (event.Command u asked) places = announces []
+offered (event.Drain u buf) places = announces []
+offered (event.Stats u) places = announces []
+offered (event.PmuStats key) places = announces []
+offered (event.Audit u index) places = announces []
+
+-- these are places of the frame's PMUs, and rise
+abbrev pub IsRising : Event → List ℕ → Type 0
+IsRising (event.Announce config) places = AreRising 0 (length (arc_value config).parts) places
+IsRising (event.Measure frame) places = AreRising 0 (length (arc_value frame).config.parts) places
+IsRising (event.DropPmu key) places = Unit {0}
+IsRising (event.Tick soc) places = Unit {0}
+IsRising (event.AddPmu key) places = Unit {0}
+IsRising (event.AddSub u size bytes) places = Unit {0}
+IsRising (event.DropSub u) places = Unit {0}
+IsRising (event.Grant u key) places = Unit {0}
+IsRising (event.Revoke u key) places = Unit {0}
+IsRising (event.Define u definition) places = Unit {0}
+IsRising (event.Remove u number) places = Unit {0}
+IsRising (event.Connect u) places = Unit {0}
+IsRising (event.Hangup u) places = Unit {0}
+IsRising (event.Command u asked) places = Unit {0}
+IsRising (event.Drain u buf) places = Unit {0}
+IsRising (event.Stats u) places = Unit {0}
+IsRising (event.PmuStats key) places = Unit {0}
+IsRising (event.Audit u index) places = Unit {0}
+
+-- the PMU at a place passes a test of its key
+abbrev pub part_passes : (PmuKey → Bool) → Source → Option Part → Bool
+part_passes test config None = false
+part_passes test config (Some part) = test (key_in config part)
+
+-- The subscriber may take its share, where it has one: the copies lie ready, and it is as the subscriber asks it to be.
+abbrev pub IsFit : SubscriberValue → Option Happening → Type 0
+IsFit v None = Unit {0}
+IsFit v (Some x) = IsFor v.own x
+
+abbrev pub IsLaid : SubscriberValue → Option Happening → Type 0
+IsLaid v None = HasNoCopies v
+IsLaid v (Some x) = IsReady v x
+
+-- its share needs no copy
+abbrev pub NeedsNoCopy : SubscriberValue → Option Happening → Type 0
+NeedsNoCopy v None = Unit {0}
+NeedsNoCopy v (Some x) = NeedsNone v x
+
+pub record Awaits (o : Offer) (v : SeatValue) : Type 0 where
+  pub fit : IsFit v.subscriber (share o v.subscriber.own.grants)
+  pub laid : IsLaid v.subscriber (share o v.subscriber.own.grants)
+
+-- One subscriber took its share.
+pub record TakesShare (o : Offer) (lost : Bool) (made kept : ℕ) (s : Seat) (v : SeatValue) : Type 0 where
+  pub count : made ≡ frames_for o s
+  pub none_kept : lost ≡ true → kept ≡ 0
+  pub shows : SeatShows v (shared_to o s kept)
+
+-- All subscribers took their shares.
+pub record FansOut (o : Offer) (made kept : ℕ) (seats : Seats) (entries : List (ℕ × SeatValue)) : Type 0 where
+  pub count : made ≡ total o seats
+  pub shows : Related SeatShows entries (fan_out o seats kept)
+
+-- what a reply counts
+abbrev pub counts_of : Told → ℕ × ℕ
+counts_of (done made kept) = (made, kept)
+counts_of (refused r) = (0, 0)
+counts_of (handed bytes begun gap) = (0, 0)
+
+-- each subscriber is so
+abbrev pub AllSeats : (SeatValue → Type 0) → List (ℕ × SeatValue) → Type 0
+AllSeats P [] = Unit {0}
+AllSeats P (e ∷ entries) = P e.1 × AllSeats P entries
+
+-- no copies lie ready; its share is as it asks it to be; its share needs no copy
+abbrev pub HasNone : SeatValue → Type 0
+HasNone v = HasNoCopies v.subscriber
+
+abbrev pub Fits : Offer → SeatValue → Type 0
+Fits o v = IsFit v.subscriber (share o v.subscriber.own.grants)
+
+abbrev pub Spares : Offer → SeatValue → Type 0
+Spares o v = NeedsNoCopy v.subscriber (share o v.subscriber.own.grants)
+
+-- events of one subscriber that need no copy
+abbrev pub AsksNothing : PrivateEvent → Type 0
+AsksNothing (private.Grant key config) = ⊥
+AsksNothing (private.Announce config places) = ⊥
+AsksNothing (private.Measure frame places) = ⊥
+AsksNothing (private.Revoke key) = Unit {0}
+AsksNothing (private.Define definition) = Unit {0}
+AsksNothing (private.Remove number) = Unit {0}
+AsksNothing (private.Tick soc) = Unit {0}
+AsksNothing private.Connect = Unit {0}
+AsksNothing private.Hangup = Unit {0}
+AsksNothing (private.Command asked) = Unit {0}
+AsksNothing (private.Drain buf) = Unit {0}
+
+-- this may come to an event for the subscriber, which may not be there
+abbrev pub OwnMay : Option Seat → Happening → Told → Type 0
+OwnMay None x t = t ≡ refused NoSuchSub
+OwnMay (Some s) x t = May by_arrivals by_numbers s.own x false t
+
+-- The subscriber of a number took an event for it alone, which is noted where such are.
+pub record TakesAt (u : ℕ) (x : Happening) (t : Told) (seats : Seats) (entries : List (ℕ × SeatValue)) : Type 0 where
+  pub may : OwnMay (seat_of u seats) x t
+  pub shows : Related SeatShows entries (seats_noted (names (asks u x)) t (at_seat u (moved x t) seats))
+
+-- A subscriber took an event for it alone, which is noted as this, or not.
+abbrev pub noted_by : Option What → Told → Seat → Seat
+noted_by None t s = s
+noted_by (Some what) t s = with_note (what, code_of t) s
+
+pub record Asks (s : Seat) (x : Happening) (t : Told) (named : Option What) (v : SeatValue) : Type 0 where
+  pub may : May by_arrivals by_numbers s.own x false t
+  pub shows : SeatShows v (noted_by named t (moved x t s))
+
+-- a reply without a buffer
+abbrev pub IsPlain : Reply → Type 0
+IsPlain (reply.Done made kept) = Unit {0}
+IsPlain (reply.Refused r) = Unit {0}
+IsPlain (reply.Drained buf out) = ⊥
+IsPlain (reply.Stats s) = Unit {0}
+IsPlain (reply.PmuStats s) = Unit {0}
+IsPlain (reply.Audit e) = Unit {0}
+
+-- The buffer comes back as long as it was, and past what was handed out as it was.
+abbrev pub KeepsBuffer : List ℕ → Reply → Type 0
+KeepsBuffer bytes (reply.Drained back out) =
+    (handed_len out ≤ length bytes) × (length back.items ≡ length bytes) × (drop (handed_len out) back.items
+    ≡ drop (handed_len out) bytes)
+KeepsBuffer bytes (reply.Done made kept) = ⊥
+KeepsBuffer bytes (reply.Refused r) = ⊥
+KeepsBuffer bytes (reply.Stats s) = ⊥
+KeepsBuffer bytes (reply.PmuStats s) = ⊥
+KeepsBuffer bytes (reply.Audit e) = ⊥
+
+-- The subscriber of a number was drained.
+pub record DrainsAt (u n : ℕ) (a : Answer) (seats : Seats) (entries : List (ℕ × SeatValue)) : Type 0 where
+  pub t : Told
+  pub is : a ≡ tells t
+  pub takes : TakesAt u (drain n) t seats entries
+
+-- A subscriber took a grant, or memory was refused before it did.
+pub record Grants (s : Seat) (x : Happening) (t : Told) (v : SeatValue) : Type 0 where
+  pub may : May by_arrivals by_numbers s.own x false t ⊎ ((refusal by_arrivals by_numbers s.own x ≡ None) × (t ≡ refused NoMemory))
+  pub shows : SeatShows v (moved x t s)
+
+pub record GrantsNoted (s : Seat) (x : Happening) (t : Told) (v : SeatValue) : Type 0 where
+  pub may : May by_arrivals by_numbers s.own x false t ⊎ ((refusal by_arrivals by_numbers s.own x ≡ None) × (t ≡ refused NoMemory))
+  pub shows : SeatShows v (with_note (audited.Grant, code_of t) (moved x t s))
+
+-- this may come to a grant of a registered PMU to the subscriber, which may not be there
+abbrev pub GrantMay : Option Seat → Happening → Told → Type 0
+GrantMay None x t = t ≡ refused NoSuchSub
+GrantMay (Some s) x t = May by_arrivals by_numbers s.own x false t ⊎ ((refusal by_arrivals by_numbers s.own x ≡ None) × (t ≡ refused NoMemory))
+
+pub record GrantsAt (u : ℕ) (x : Happening) (t : Told) (seats : Seats) (entries : List (ℕ × SeatValue)) : Type 0 where
+  pub may : GrantMay (seat_of u seats) x t
+  pub shows : Related SeatShows entries (at_seat u (with_note (audited.Grant, code_of t)) (at_seat u (moved x t) seats))

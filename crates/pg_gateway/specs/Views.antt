@@ -1,0 +1,143 @@
+-- What a subscriber sees of the events, and the private gateway that sees nothing else, where no memory is refused.
+use Rattle.std.specs.Prelude.{◌≢◌, ℕ, ◌≤◌, ◌&&◌, nat_eq, if◌then◌else◌, is_some, List, [], ◌∷◌, ◌++◌, length, Option, Some, None}
+use Rattle.pg_wire.specs.declared.refusal.Refusal.{Refusal}
+use Rattle.pg_wire.specs.declared.refusal.Refusal.TheVariants.{NoMemory}
+use Rattle.pg_session.specs.Events.{Happening}
+use Rattle.pg_session.specs.Private as session
+use Rattle.pg_session.specs.Private.{Told, done, refused, handed, frames_of}
+use Rattle.pg_session.specs.Shown.{Model, begin}
+use Rattle.pg_session.specs.ByAll.{by_arrivals, by_numbers}
+use Rattle.pg_gateway.specs.Occurrences.{Occurrence, add_pmu, drop_pmu, add_sub, drop_sub, grant, asks, announce, measure, tick, stats, pmu_stats, audit, Answer, tells, sub_counts, pmu_counts, entry}
+use Rattle.pg_gateway.specs.Sharing.{Offer, share}
+use Rattle.pg_gateway.specs.Shared.{Shared, own_of, refusal, Reach, to_all, to_one, adds, drops, to_none, reach, made, answer, next}
+
+-- what a private gateway is told
+pub data Seen : Type 0 where
+  -- the subscriber is added: ring size, ring bytes, and the last tick or none
+  begins : ℕ → ℕ → Option ℕ → Seen
+  -- it is dropped
+  ends : Seen
+  takes : Happening → Seen
+
+-- the reply of a private gateway that lacks no memory: all frames are kept
+abbrev pub unless_refused : Option Refusal → Told → Told
+unless_refused None told = told
+unless_refused (Some r) told = refused r
+
+abbrev pub full_told : Model → Happening → Told
+full_told p x =
+    unless_refused (session.refusal by_arrivals by_numbers p x)
+    (session.answer by_arrivals by_numbers p x (length (frames_of by_arrivals by_numbers p x)))
+
+-- one step of the private gateway; before its beginning and after its end nothing is there
+abbrev pub private_step : Option Model → Seen → Option Model
+private_step o (begins size bytes last) = Some (begin size bytes last)
+private_step o ends = None
+private_step None (takes x) = None
+private_step (Some p) (takes x) = Some (session.next by_arrivals by_numbers p x (full_told p x))
+
+abbrev pub private_run : Option Model → List Seen → Option Model
+private_run o [] = o
+private_run o (x ∷ xs) = private_run (private_step o x) xs
+
+-- what a drain hands out: the bytes, how many frames they begin, and the sum of the gaps before these
+abbrev pub Handed : Type 0
+Handed = List ℕ × ℕ × ℕ
+
+abbrev pub handed_by : Told → List Handed
+handed_by (done made kept) = []
+handed_by (refused r) = []
+handed_by (handed bytes begun gap) = (bytes, begun, gap) ∷ []
+
+abbrev pub handed_at : Option Model → Seen → List Handed
+handed_at o (begins size bytes last) = []
+handed_at o ends = []
+handed_at None (takes x) = []
+handed_at (Some p) (takes x) = handed_by (full_told p x)
+
+-- all that the private gateway hands out
+abbrev pub handed_in : Option Model → List Seen → List Handed
+handed_in o [] = []
+handed_in o (x ∷ xs) = handed_at o x ++ handed_in (private_step o x) xs
+
+-- the answer of the shared machine where no memory is refused
+abbrev pub full_by : Option Refusal → Answer → Answer
+full_by None a = a
+full_by (Some r) a = tells (refused r)
+
+abbrev pub full_answer : Shared → Occurrence → Answer
+full_answer S e = full_by (refusal S e) (answer S e (made S e))
+
+abbrev pub shared_step : Shared → Occurrence → Shared
+shared_step S e = next S e (full_answer S e)
+
+abbrev pub shared_run : Shared → List Occurrence → Shared
+shared_run S [] = S
+shared_run S (e ∷ es) = shared_run (shared_step S e) es
+
+abbrev pub full_answers : Shared → List Occurrence → List Answer
+full_answers S [] = []
+full_answers S (e ∷ es) = full_answer S e ∷ full_answers (shared_step S e) es
+
+abbrev pub as_seen : Option Happening → List Seen
+as_seen None = []
+as_seen (Some x) = takes x ∷ []
+
+abbrev pub share_seen : Offer → Option Model → List Seen
+share_seen o None = []
+share_seen o (Some p) = as_seen (share o p.grants)
+
+-- what u, which is this private gateway or not there, sees of an event that reaches so far
+abbrev pub part_of : ℕ → Option Model → Reach → List Seen
+part_of u own (to_all o) = share_seen o own
+part_of u own (to_one w x) = if nat_eq u w && is_some own then takes x ∷ [] else []
+part_of u own (adds w size bytes last) = if nat_eq u w then begins size bytes last ∷ [] else []
+part_of u own (drops w) = if nat_eq u w then ends ∷ [] else []
+part_of u own to_none = []
+
+abbrev pub part : ℕ → Shared → Occurrence → List Seen
+part u S e = part_of u (own_of u S) (reach S e)
+
+-- all that u sees of the events, each at the state that those before it leave
+abbrev pub view : ℕ → Shared → List Occurrence → List Seen
+view u S [] = []
+view u S (e ∷ es) = part u S e ++ view u (shared_step S e) es
+
+-- what these answers hand to u
+abbrev pub handed_out : Answer → List Handed
+handed_out (tells t) = handed_by t
+handed_out (sub_counts s) = []
+handed_out (pmu_counts s) = []
+handed_out (entry found) = []
+
+abbrev pub handed_one : ℕ → Occurrence → Answer → List Handed
+handed_one u (add_pmu key) a = []
+handed_one u (drop_pmu key) a = []
+handed_one u (add_sub w size bytes) a = []
+handed_one u (drop_sub w) a = []
+handed_one u (grant w key) a = []
+handed_one u (asks w x) a = if nat_eq u w then handed_out a else []
+handed_one u (announce config) a = []
+handed_one u (measure m) a = []
+handed_one u (tick soc) a = []
+handed_one u (stats w) a = []
+handed_one u (pmu_stats key) a = []
+handed_one u (audit w index) a = []
+
+abbrev pub handed_to : ℕ → List Occurrence → List Answer → List Handed
+handed_to u [] answers = []
+handed_to u (e ∷ es) [] = []
+handed_to u (e ∷ es) (a ∷ answers) = handed_one u e a ++ handed_to u es answers
+
+-- the answer tells no loss and no want of memory
+abbrev pub Lossless : Answer → Type 0
+Lossless (tells (done made kept)) = made ≤ kept
+Lossless (tells (refused r)) = r ≢ NoMemory
+Lossless (tells (handed bytes begun gap)) = Unit {0}
+Lossless (sub_counts s) = Unit {0}
+Lossless (pmu_counts s) = Unit {0}
+Lossless (entry found) = Unit {0}
+
+abbrev pub AllLossless : List Answer → Type 0
+AllLossless [] = Unit {0}
+AllLossless (a ∷ answers) = Lossless a × AllLossless answers

@@ -1,0 +1,146 @@
+//! What a source's registered PMUs announced is put into the registry.
+
+ghost use Rattle.std.specs.Prelude.{◌≡◌, ◌+◌, ◌<◌, ◌≤◌, ◌++◌, [], ◌∷◌, length, map, vec_capacity, OnOk, IfOk, IfErr};
+ghost use Rattle.std.specs.Arc.{arc_value};
+ghost use Rattle.indexmap.specs.IndexMap.{index_map_len};
+ghost use Rattle.pg_registry.specs.Registered.{announcing, changed, refusing, taking};
+ghost use Rattle.pg_session.specs.Events.{announced_at, config_of};
+ghost use Rattle.pg_session.specs.Ready.{AreRising};
+ghost use Rattle.pg_gateway.specs.Judging.{all_announced, memory_counted};
+ghost use Rattle.pg_gateway.specs.Related.{Related};
+ghost use Rattle.pg_gateway.specs.Sharing.{Seats};
+ghost use Rattle.pg_gateway.specs.Shown.{SeatShows};
+ghost use Rattle.pg_gateway.specs.Taking.{offered, IsRising, Awaits, AllSeats, HasNone, Fits};
+
+use crate::event::Event;
+use crate::fan::lay_copies;
+use crate::seat::Seat;
+use circular_buffer::HeapCircularBuffer;
+use indexmap::IndexMap;
+use pg_config::{PmuConfig, SourceConfig};
+use pg_registry::Registry;
+use pg_wire::{PmuKey, Refusal, SubId};
+use std::sync::Arc;
+
+/// Lays a copy of a configuration behind those that lie there. The one refusal is `NoMemory`.
+fn lay_config(
+    config: &Arc<PmuConfig>,
+    copies: &mut HeapCircularBuffer<Arc<PmuConfig>>,
+) -> Result<(), Refusal>
+    requires room { length copies.old.items < copies.old.capacity }
+    ensures laid { OnOk result (map arc_value copies.new.items ≡ map arc_value copies.old.items ++ arc_value config.now ∷ []) }
+    ensures long { OnOk result (length copies.new.items ≡ length copies.old.items + 1) }
+    ensures capacity { copies.new.capacity ≡ copies.old.capacity }
+    ensures memory { IfErr result (λ refusal. refusal ≡ Refusal.NoMemory) }
+{
+    let copy = Arc::try_clone(config)?;
+    let Ok(()) = copies.try_push_back(copy) else {
+        unreachable!();
+    };
+    Ok(())
+}
+
+/// Lays a copy of what a source says of each of those PMUs, in the place of what lay there. The one refusal is `NoMemory`; some
+/// copies may then lie there.
+fn copy_parts(
+    config: &SourceConfig,
+    places: &[usize],
+    copies: &mut HeapCircularBuffer<Arc<PmuConfig>>,
+) -> Result<(), Refusal>
+    requires rising { AreRising 0 (length config.now.parts) places.now }
+    requires room { copies.old.capacity ≡ 16 }
+    ensures laid { OnOk result (map arc_value copies.new.items ≡ map config_of (announced_at config.now places.now)) }
+    ensures capacity { copies.new.capacity ≡ copies.old.capacity }
+    ensures memory { IfErr result (λ refusal. refusal ≡ Refusal.NoMemory) }
+{
+    copies.clear();
+    let _count = config.count();
+    for place in places {
+        lay_config(&config.parts[*place], copies)?;
+    }
+    Ok(())
+}
+
+/// Makes all copies that an announcement needs: of what each of those PMUs announced, for the registry, and those that the
+/// subscribers' shares need. Nothing that they show changes.
+///
+/// # Errors
+///
+/// `NoMemory`, and then no subscriber's copies lie ready.
+pub(crate) fn copy_announced(
+    subs: &mut IndexMap<SubId, Seat>,
+    event: &Event,
+    config: &SourceConfig,
+    places: &[usize],
+    held: &mut Vec<usize>,
+    copies: &mut HeapCircularBuffer<Arc<PmuConfig>>,
+) -> Result<(), Refusal>
+    requires event { IsRising event.now places.now }
+    requires rising { AreRising 0 (length config.now.parts) places.now }
+    requires room { 16 ≤ vec_capacity held.old }
+    requires capacity { copies.old.capacity ≡ 16 }
+    requires none { AllSeats HasNone subs.old.entries }
+    requires fits { AllSeats (Fits (offered event.now places.now)) subs.old.entries }
+    ensures copied { OnOk result (map arc_value copies.new.items ≡ map config_of (announced_at config.now places.now)) }
+    ensures laid { IfOk result (λ u. AllSeats (Awaits (offered event.now places.now)) subs.new.entries) }
+    ensures none { IfErr result (λ refusal. AllSeats HasNone subs.new.entries) }
+    ensures memory { IfErr result (λ refusal. refusal ≡ Refusal.NoMemory) }
+    ensures shows { (seats : Seats) → Related SeatShows subs.old.entries seats → Related SeatShows subs.new.entries seats }
+    ensures len { index_map_len subs.new ≡ index_map_len subs.old }
+    ensures room { 16 ≤ vec_capacity held.new }
+    ensures capacity { copies.new.capacity ≡ 16 }
+{
+    copy_parts(config, places, copies)?;
+    lay_copies(subs, event, places, held)?;
+    Ok(())
+}
+
+/// A PMU announced a configuration, which counts as taken. Nothing changes where it is not registered.
+fn announce_one(registry: &mut Registry, key: &PmuKey, config: Arc<PmuConfig>)
+    ensures { registry.new ≡ changed taking key.now (changed (announcing (arc_value config)) key.now registry.old) }
+{
+    let _listed = registry.announce(*key, config);
+    if let Some(place) = registry.place_of(*key) {
+        registry.count_taken_at(place);
+    }
+}
+
+/// Each of those PMUs announced what lies ready for it, which counts as taken.
+pub(crate) fn announce_all(
+    registry: &mut Registry,
+    config: &SourceConfig,
+    places: &[usize],
+    copies: &mut HeapCircularBuffer<Arc<PmuConfig>>,
+)
+    requires rising { AreRising 0 (length config.now.parts) places.now }
+    requires copied { map arc_value copies.old.items ≡ map config_of (announced_at config.now places.now) }
+    ensures announced { registry.new ≡ all_announced registry.old (announced_at config.now places.now) }
+    ensures capacity { copies.new.capacity ≡ copies.old.capacity }
+{
+    for place in places {
+        let key = config.key(*place);
+        let Some(copy) = copies.pop_front() else {
+            unreachable!();
+        };
+        announce_one(registry, &key, copy);
+    }
+}
+
+/// Counts at a PMU that memory was refused. Nothing changes where it is not registered.
+fn count_memory_of(registry: &mut Registry, key: &PmuKey)
+    ensures { registry.new ≡ changed (refusing Refusal.NoMemory) key.now registry.old }
+{
+    if let Some(place) = registry.place_of(*key) {
+        registry.count_refusal_at(place, Refusal::NoMemory);
+    }
+}
+
+/// Counts at the first of those PMUs that memory was refused.
+pub(crate) fn count_first(registry: &mut Registry, config: &SourceConfig, places: &[usize])
+    requires rising { AreRising 0 (length config.now.parts) places.now }
+    ensures { registry.new ≡ memory_counted registry.old (map (λ a. a.key) (announced_at config.now places.now)) }
+{
+    if let Some(first) = places.first() {
+        count_memory_of(registry, &config.key(*first));
+    }
+}

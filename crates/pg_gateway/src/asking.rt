@@ -1,0 +1,168 @@
+//! Events for one subscriber alone.
+
+ghost use Rattle.std.specs.Prelude.{◌≡◌, ◌≤◌, ◌+◌, ◌++◌, [], ◌∷◌, false, Some, None, nat_eq, length, ℕ, List, IfOk, IfErr};
+ghost use Rattle.std.specs.Prelude.{◌≢◌, true, option_map, IfSome};
+ghost use Rattle.std.specs.Map.{lookup};
+ghost use Rattle.std.specs.Arc.{arc_value};
+ghost use Rattle.pg_config.specs.Parts.{block_id};
+ghost use Rattle.pg_session.specs.Events.{grant};
+ghost use Rattle.pg_session.specs.Ready.{IsPlain as PlainReply, NeedsNone};
+ghost use Rattle.pg_gateway.specs.Taking.{GrantsAt};
+ghost use Rattle.indexmap.specs.IndexMap.{index_map_len, get};
+ghost use Rattle.pg_session.specs.Events.{happening, drain};
+ghost use Rattle.pg_session.specs.Ready.{ReturnsBuffer};
+ghost use Rattle.pg_session.specs.Private.{told as private_told, refused};
+ghost use Rattle.pg_gateway.specs.Occurrences.{told, tells};
+ghost use Rattle.pg_gateway.specs.Related.{Related};
+ghost use Rattle.pg_gateway.specs.Sharing.{Seats};
+ghost use Rattle.pg_gateway.specs.Shared.{noted_as, code_of, at_seat, with_note, added, seat_of, grant_refusal};
+ghost use Rattle.pg_gateway.specs.Shown.{SeatShows};
+ghost use Rattle.pg_gateway.specs.Taking.{AsksNothing, IsPlain, TakesAt, DrainsAt, AllSeats, HasNone, KeepsBuffer};
+
+use crate::event::Reply;
+use crate::seat::Seat;
+use indexmap::IndexMap;
+use pg_audit::What;
+use pg_config::PmuConfig;
+use pg_ring::{RingBytes, RingSize};
+use pg_session::{PrivateEvent, PrivateReply};
+use pg_wire::{PmuKey, Refusal, SubId};
+use std::alloc::Global;
+use std::sync::Arc;
+
+/// Why an event was refused, if it was.
+pub(crate) fn code(reply: &PrivateReply) -> Option<Refusal>
+    ensures { result ≡ code_of (private_told reply.now) }
+{
+    match reply {
+        PrivateReply::Refused(refusal) => Some(*refusal),
+        PrivateReply::Drained {
+            out: Err(refusal),
+            ..
+        } => Some(*refusal),
+        _ => None,
+    }
+}
+
+/// The subscriber of a number takes an event for it alone, and has it noted.
+pub(crate) fn ask_at(
+    subs: &mut IndexMap<SubId, Seat>,
+    sub: SubId,
+    what: What,
+    event: PrivateEvent<'_>,
+) -> PrivateReply
+    requires own { AsksNothing event }
+    requires noted { noted_as (happening event) ≡ Some what }
+    requires none { AllSeats HasNone subs.old.entries }
+    ensures takes { (seats : Seats) → Related SeatShows subs.old.entries seats
+        → TakesAt sub (happening event.entry) (private_told result) seats subs.new.entries }
+    ensures plain { PlainReply result }
+    ensures none { AllSeats HasNone subs.new.entries }
+    ensures len { index_map_len subs.new ≡ index_map_len subs.old }
+{
+    match subs.get_mut(&sub) {
+        None => PrivateReply::Refused(Refusal::NoSuchSub),
+        Some(seat) => seat.ask(what, event),
+    }
+}
+
+/// What the gateway answers, where one subscriber answered this.
+pub(crate) fn reply_of(reply: PrivateReply) -> Reply
+    ensures told { told result ≡ tells (private_told reply) }
+    ensures plain { PlainReply reply → IsPlain result }
+    ensures buffer { (bytes : List ℕ) → ReturnsBuffer bytes reply → KeepsBuffer bytes result }
+{
+    match reply {
+        PrivateReply::Done { made, kept } => Reply::Done { made, kept },
+        PrivateReply::Refused(refusal) => Reply::Refused(refusal),
+        PrivateReply::Drained { buf, out } => Reply::Drained { buf, out },
+    }
+}
+
+/// The bytes of the subscriber of a number are handed out.
+pub(crate) fn drain_at(subs: &mut IndexMap<SubId, Seat>, sub: SubId, buf: Vec<u8>) -> Reply
+    requires none { AllSeats HasNone subs.old.entries }
+    ensures takes { (seats : Seats) → Related SeatShows subs.old.entries seats
+        → DrainsAt sub (length buf.items) (told result) seats subs.new.entries }
+    ensures buffer { KeepsBuffer buf.items result }
+    ensures none { AllSeats HasNone subs.new.entries }
+    ensures len { index_map_len subs.new ≡ index_map_len subs.old }
+{
+    match subs.get_mut(&sub) {
+        None => Reply::Drained {
+            buf,
+            out: Err(Refusal::NoSuchSub),
+        },
+        Some(seat) => reply_of(seat.drain(buf)),
+    }
+}
+
+/// The subscriber of a number, where there is one, has something noted.
+pub(crate) fn note_at(
+    subs: &mut IndexMap<SubId, Seat>,
+    sub: SubId,
+    what: What,
+    code: Option<Refusal>,
+)
+    requires none { AllSeats HasNone subs.old.entries }
+    ensures notes { (seats : Seats) → Related SeatShows subs.old.entries seats
+        → Related SeatShows subs.new.entries (at_seat sub (with_note (what, code)) seats) }
+    ensures none { AllSeats HasNone subs.new.entries }
+    ensures len { index_map_len subs.new ≡ index_map_len subs.old }
+{
+    match subs.get_mut(&sub) {
+        None => {}
+        Some(seat) => seat.note(what, code),
+    }
+}
+
+/// A new subscriber stands last, and that it was added is noted. The one refusal is `NoMemory`, and nothing changes then.
+pub(crate) fn insert_new(
+    alloc: Global,
+    subs: &mut IndexMap<SubId, Seat>,
+    sub: SubId,
+    ring: RingSize,
+    bytes: RingBytes,
+    last: Option<u32>,
+) -> Result<(), Refusal>
+    requires new { get nat_eq subs.old sub ≡ None }
+    requires none { AllSeats HasNone subs.old.entries }
+    ensures added { IfOk result (λ u. (seats : Seats) → Related SeatShows subs.old.entries seats
+        → Related SeatShows subs.new.entries (seats ++ (sub, with_note (What.AddSub, None) (added ring bytes last)) ∷ [])) }
+    ensures refused { IfErr result (λ refusal. subs.new.entries ≡ subs.old.entries) }
+    ensures memory { IfErr result (λ refusal. refusal ≡ Refusal.NoMemory) }
+    ensures none { AllSeats HasNone subs.new.entries }
+    ensures len { index_map_len subs.new ≤ index_map_len subs.old + 1 }
+{
+    let mut seat = Seat::new(alloc, ring, bytes, last)?;
+    seat.note(What::AddSub, None);
+    match subs.insert(sub, seat) {
+        Ok(_) => Ok(()),
+        Err(_) => Err(Refusal::NoMemory),
+    }
+}
+
+/// A PMU is granted to the subscriber of a number, with what it has announced.
+pub(crate) fn grant_at(
+    subs: &mut IndexMap<SubId, Seat>,
+    sub: SubId,
+    key: &PmuKey,
+    config: Option<&Arc<PmuConfig>>,
+) -> PrivateReply
+    requires none { AllSeats HasNone subs.old.entries }
+    requires keyed { IfSome (option_map (λ c. arc_value c.now) config) (λ c. block_id c.block ≡ key.now.pmu) }
+    ensures takes { (seats : Seats) → Related SeatShows subs.old.entries seats
+        → GrantsAt sub (grant key.now (option_map (λ c. arc_value c.now) config.entry)) (private_told result) seats subs.new.entries }
+    ensures frugal { (seats : Seats) → Related SeatShows subs.old.entries seats
+        → grant_refusal (seat_of sub seats) true (grant key.now (option_map (λ c. arc_value c.now) config.entry)) ≡ None
+        → IfSome (lookup (nat_eq sub) subs.old.entries) (λ v. NeedsNone v.subscriber (grant key.now (option_map (λ c. arc_value c.now) config.entry)))
+        → private_told result ≢ refused Refusal.NoMemory }
+    ensures plain { PlainReply result }
+    ensures none { AllSeats HasNone subs.new.entries }
+    ensures len { index_map_len subs.new ≡ index_map_len subs.old }
+{
+    match subs.get_mut(&sub) {
+        None => PrivateReply::Refused(Refusal::NoSuchSub),
+        Some(seat) => seat.grant_noted(key, config),
+    }
+}

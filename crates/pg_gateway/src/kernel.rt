@@ -1,0 +1,399 @@
+//! The gateway of one thread: one method for each event.
+
+ghost use Rattle.std.specs.Prelude.{◌≡◌, ◌+◌, ◌≤◌, [], ℕ, Some, None, true, false, nat_eq, length, vec_len, nat_le, is_some, option_map, IfOk, IfErr};
+ghost use Rattle.indexmap.specs.IndexMap.{index_map_len, get};
+ghost use Rattle.pg_session.specs.Events.{announced_at, happening, drain};
+ghost use Rattle.pg_session.specs.Private.{told as private_told};
+ghost use Rattle.pg_gateway.specs.Related.{Related};
+ghost use Rattle.pg_gateway.specs.Sharing.{Seats, announces, revokes, ticks};
+ghost use Rattle.pg_gateway.specs.Occurrences.{occurrence, told, tells, add_pmu, drop_pmu, add_sub, drop_sub, asks, tick, stats, pmu_stats, audit, announce, measure, grant};
+ghost use Rattle.std.specs.Map.{lookup};
+ghost use Rattle.std.specs.Option.{option_map_or};
+ghost use Rattle.pg_registry.specs.Registered.{has_source};
+ghost use Rattle.pg_gateway.specs.Shared.{Shared, added, noted_as, seat_of, own_of};
+ghost use Rattle.pg_gateway.specs.Shown.{SeatShows, SeatValue, GatewayShows, Goes, IsWithinLimits};
+ghost use Rattle.pg_gateway.specs.Taking.{offered, IsRising, AsksNothing, AllSeats, HasNone, IsPlain, KeepsBuffer, measured};
+ghost use Rattle.pg_gateway.specs.Frugal.{Frugal, MayCopy};
+ghost use Rattle.pg_gateway.specs.Consistent.{IsReached};
+ghost use Rattle.pg_gateway.specs.Posting.{Answers, IsForAll};
+ghost use Rattle.pg_session.specs.Ready.{AreRising};
+ghost use Rattle.std.specs.Arc.{arc_value};
+ghost use Rattle.std.specs.Prelude.{List};
+
+use crate::announcing::{announce_all, copy_announced, count_first};
+use crate::asking::{ask_at, drain_at, grant_at, insert_new, note_at, reply_of};
+use crate::blocks::{count_blocks, count_memory, first_refusal, has_registered, judge_shared};
+use crate::event::{Event, Reply};
+use crate::fan::{fan_out, lay_copies};
+use crate::seat::{Seat, announced};
+use circular_buffer::HeapCircularBuffer;
+use indexmap::IndexMap;
+use pg_audit::What;
+use pg_config::{PmuConfig, SourceConfig};
+use pg_data::DataFrame;
+use pg_registry::Registry;
+use pg_ring::{OutQueue, RingBytes, RingSize};
+use pg_session::PrivateEvent;
+use pg_wire::{PmuId, PmuKey, Refusal, SubId};
+use std::alloc::Global;
+use std::marker::Model;
+use std::sync::Arc;
+
+/// The most registered PMUs.
+const MOST_PMUS: usize = 256;
+
+/// The most subscribers.
+const MOST_SUBS: usize = 64;
+
+/// The most blocks of a frame.
+const MOST_BLOCKS: usize = 16;
+
+/// The gateway of one thread, without what its callers need not know.
+#[derive(Drop)]
+pub(crate) struct Kernel {
+    alloc: Global,
+    registry: Registry,
+    subs: IndexMap<SubId, Seat>,
+    last_tick: Option<u32>,
+    // Room for the places of a frame's blocks: those that were taken, and of them those that a subscriber holds.
+    taken: Vec<usize>,
+    held: Vec<usize>,
+    // And for what became of them: where their PMUs stand in the registry, and why a block is refused, if it is.
+    judged: Vec<(usize, Option<Refusal>)>,
+    // And for the copies of what they announce, on their way to the registry.
+    copies: HeapCircularBuffer<Arc<PmuConfig>>,
+}
+
+impl Model for Kernel {
+    ghost use Rattle.std.specs.Prelude.{◌≡◌, ◌≤◌, vec_capacity};
+    ghost use Rattle.indexmap.specs.IndexMap.{index_map_len};
+    ghost use Rattle.pg_gateway.specs.Shown.{GatewayValue};
+    ghost use Rattle.pg_gateway.specs.Taking.{AllSeats, HasNone};
+
+    ghost Value = { GatewayValue };
+
+    ghost view = { λ g. record { pmus = g.registry; subs = g.subs.entries; last_tick = g.last_tick } };
+
+    ghost invariant = { λ g. (index_map_len g.subs ≤ 64) × AllSeats HasNone g.subs.entries × (16 ≤ vec_capacity g.taken) × (16 ≤ vec_capacity g.held) × (16 ≤ vec_capacity g.judged) × (g.copies.capacity ≡ 16) };
+}
+
+impl Kernel {
+    /// No PMUs and no subscribers, with room reserved for 256 and 64. The one refusal is `NoMemory`.
+    pub(crate) fn new(alloc: Global) -> Result<Kernel, Refusal>
+        ensures empty { IfOk result (λ core. core ≡ record { pmus = []; subs = []; last_tick = None }) }
+        ensures memory { IfErr result (λ refusal. refusal ≡ Refusal.NoMemory) }
+    {
+        Ok(Kernel {
+            alloc,
+            registry: Registry::new(alloc)?,
+            subs: IndexMap::with_capacity(alloc, MOST_SUBS)?,
+            last_tick: None,
+            taken: Vec::with_capacity(alloc, MOST_BLOCKS)?,
+            held: Vec::with_capacity(alloc, MOST_BLOCKS)?,
+            judged: Vec::with_capacity(alloc, MOST_BLOCKS)?,
+            copies: HeapCircularBuffer::with_capacity(alloc, MOST_BLOCKS)?,
+        })
+    }
+
+    /// One event.
+    pub(crate) fn step(&mut self, event: Event) -> Reply
+        requires reached { IsReached self.old }
+        ensures goes { Goes self.old (occurrence event) (told result) self.new }
+        ensures copies { MayCopy (occurrence event) → Frugal self.old (occurrence event) (told result) }
+        ensures answers { Answers event result }
+    {
+        match event {
+            Event::AddPmu(key) => self.add_pmu(key),
+            Event::AddSub(sub, ring, bytes) => self.add_sub(sub, ring, bytes),
+            Event::DropSub(sub) => self.drop_sub(sub),
+            Event::Grant(sub, key) => self.grant(sub, &key),
+            Event::Revoke(sub, key) => self.ask(sub, What::Revoke, PrivateEvent::Revoke(key)),
+            Event::Define(sub, definition) => {
+                self.ask(sub, What::Define, PrivateEvent::Define(definition))
+            }
+            Event::Remove(sub, stream) => self.ask(sub, What::Remove, PrivateEvent::Remove(stream)),
+            Event::Connect(sub) => self.ask(sub, What::Connect, PrivateEvent::Connect),
+            Event::Hangup(sub) => self.ask(sub, What::Hangup, PrivateEvent::Hangup),
+            Event::Command(sub, asked) => {
+                self.ask(sub, What::Command, PrivateEvent::Command(asked))
+            }
+            Event::Drain(sub, buf) => self.drain(sub, buf),
+            Event::Stats(sub) => self.stats(sub),
+            Event::PmuStats(key) => self.pmu_stats(key),
+            Event::Audit(sub, index) => self.audit(sub, index),
+            for_all => self.step_all(&for_all),
+        }
+    }
+
+    /// An event for all: a PMU is dropped, an announcement, a measurement, a tick. There is no reply to another.
+    fn step_all(&mut self, event: &Event) -> Reply
+        requires all { IsForAll event.now }
+        requires reached { IsReached self.old }
+        ensures goes { Goes self.old (occurrence event.now) (told result) self.new }
+        ensures copies { MayCopy (occurrence event.now) → Frugal self.old (occurrence event.now) (told result) }
+        ensures answers { Answers event.now result }
+    {
+        match event {
+            Event::DropPmu(key) => self.drop_pmu(event, key),
+            Event::Announce(config) => {
+                let config = announced(config);
+                self.announce(event, config)
+            }
+            Event::Measure(frame) => self.measure(event, frame),
+            Event::Tick(soc) => self.tick(event, *soc),
+            _ => unreachable!(),
+        }
+    }
+
+    /// Whether a subscriber is there.
+    pub(crate) fn has_sub(&self, sub: SubId) -> bool
+        ensures value { (S : Shared) → GatewayShows self.now S → result ≡ is_some (seat_of sub S.subs) }
+    {
+        self.subs.contains_key(&sub)
+    }
+
+    /// Whether a subscriber is there and connected.
+    pub(crate) fn is_connected(&self, sub: SubId) -> bool
+        ensures value { (S : Shared) → GatewayShows self.now S → result ≡ option_map_or (λ p. p.connected) (own_of sub S) false }
+    {
+        match self.subs.get(&sub) {
+            None => false,
+            Some(seat) => seat.subscriber.is_connected(),
+        }
+    }
+
+    /// Whether a PMU of a source is registered.
+    pub(crate) fn has_source(&self, source: PmuId) -> bool
+        ensures value { result ≡ has_source self.now.pmus source }
+    {
+        self.registry.has_source(source)
+    }
+
+    /// Whether no more PMUs can be registered.
+    pub(crate) fn is_full(&self) -> bool
+        ensures value { result ≡ nat_le 256 (length self.now.pmus) }
+    {
+        self.registry.len() >= MOST_PMUS
+    }
+
+    /// What waits to be handed out to a subscriber, where it is there.
+    pub(crate) fn queue(&self, sub: SubId) -> Option<&OutQueue>
+        ensures value { option_map (λ queue. queue.now) result
+            ≡ option_map (λ (s : SeatValue). s.subscriber.own.output.queue) (lookup (nat_eq sub) self.now.subs) }
+    {
+        match self.subs.get(&sub) {
+            None => None,
+            Some(seat) => Some(seat.subscriber.queue()),
+        }
+    }
+
+    /// It does nothing but tell the limits.
+    pub(crate) fn tell_limits(&self)
+        ensures within { IsWithinLimits self.now }
+    {
+        let _pmus = self.registry.len();
+        let _subs = self.subs.len();
+    }
+
+    /// A PMU is registered.
+    pub(crate) fn add_pmu(&mut self, key: PmuKey) -> Reply
+        ensures goes { Goes self.old (add_pmu key) (told result) self.new }
+        ensures plain { IsPlain result }
+    {
+        match self.registry.add(key) {
+            Err(refusal) => return Reply::Refused(refusal),
+            Ok(_) => {}
+        }
+        Reply::Done { made: 0, kept: 0 }
+    }
+
+    /// A subscriber is added, or is there already.
+    pub(crate) fn add_sub(&mut self, sub: SubId, ring: RingSize, bytes: RingBytes) -> Reply
+        ensures goes { Goes self.old (add_sub sub ring bytes) (told result) self.new }
+        ensures plain { IsPlain result }
+    {
+        if self.subs.contains_key(&sub) {
+            note_at(&mut self.subs, sub, What::AddSub, Some(Refusal::SubExists));
+            return Reply::Refused(Refusal::SubExists);
+        }
+        if self.subs.len() >= MOST_SUBS {
+            return Reply::Refused(Refusal::SubsFull);
+        }
+        match insert_new(self.alloc, &mut self.subs, sub, ring, bytes, self.last_tick) {
+            Err(refusal) => return Reply::Refused(refusal),
+            Ok(_) => {}
+        }
+        Reply::Done { made: 0, kept: 0 }
+    }
+
+    /// A subscriber leaves.
+    pub(crate) fn drop_sub(&mut self, sub: SubId) -> Reply
+        ensures goes { Goes self.old (drop_sub sub) (told result) self.new }
+        ensures plain { IsPlain result }
+    {
+        if !self.subs.contains_key(&sub) {
+            return Reply::Refused(Refusal::NoSuchSub);
+        }
+        self.subs.shift_remove(&sub);
+        Reply::Done { made: 0, kept: 0 }
+    }
+
+    /// A PMU is granted to a subscriber. The copy that it needs is made before anything changes.
+    pub(crate) fn grant(&mut self, sub: SubId, key: &PmuKey) -> Reply
+        requires reached { IsReached self.old }
+        ensures goes { Goes self.old (grant sub key.now) (told result) self.new }
+        ensures frugal { Frugal self.old (grant sub key.now) (told result) }
+        ensures plain { IsPlain result }
+    {
+        if !self.registry.has(*key) {
+            if !self.subs.contains_key(&sub) {
+                return Reply::Refused(Refusal::NoSuchSub);
+            }
+            note_at(&mut self.subs, sub, What::Grant, Some(Refusal::NoSuchPmu));
+            return Reply::Refused(Refusal::NoSuchPmu);
+        }
+        let config = self.registry.config_of(*key);
+        reply_of(grant_at(&mut self.subs, sub, key, config))
+    }
+
+    /// An event for one subscriber alone, which is noted.
+    pub(crate) fn ask(&mut self, sub: SubId, what: What, event: PrivateEvent<'_>) -> Reply
+        requires own { AsksNothing event }
+        requires noted { noted_as (happening event) ≡ Some what }
+        ensures goes { Goes self.old (asks sub (happening event.entry)) (told result) self.new }
+        ensures plain { IsPlain result }
+    {
+        reply_of(ask_at(&mut self.subs, sub, what, event))
+    }
+
+    /// A subscriber's bytes are handed out.
+    pub(crate) fn drain(&mut self, sub: SubId, buf: Vec<u8>) -> Reply
+        ensures goes { Goes self.old (asks sub (drain (length buf.items))) (told result) self.new }
+        ensures buffer { KeepsBuffer buf.items result }
+    {
+        drain_at(&mut self.subs, sub, buf)
+    }
+
+    /// A tick.
+    fn tick(&mut self, event: &Event, soc: u32) -> Reply
+        requires event { offered event.now [] ≡ ticks soc }
+        requires rising { IsRising event.now [] }
+        ensures goes { Goes self.old (tick soc) (told result) self.new }
+        ensures plain { IsPlain result }
+    {
+        let (made, kept) = fan_out(&mut self.subs, event, &[], &mut self.held);
+        self.last_tick = Some(soc);
+        Reply::Done { made, kept }
+    }
+
+    /// A PMU leaves the registry, and is revoked from each subscriber that holds it.
+    fn drop_pmu(&mut self, event: &Event, key: &PmuKey) -> Reply
+        requires event { offered event.now [] ≡ revokes key.now }
+        requires rising { IsRising event.now [] }
+        ensures goes { Goes self.old (drop_pmu key.now) (told result) self.new }
+        ensures plain { IsPlain result }
+    {
+        if !self.registry.has(*key) {
+            return Reply::Refused(Refusal::NoSuchPmu);
+        }
+        let _dropped = self.registry.drop_pmu(*key);
+        let (made, kept) = fan_out(&mut self.subs, event, &[], &mut self.held);
+        Reply::Done { made, kept }
+    }
+
+    /// A source announced a configuration. All copies are made before anything changes.
+    fn announce(&mut self, event: &Event, config: &SourceConfig) -> Reply
+        requires event { (places : List ℕ) → offered event.now places ≡ announces (announced_at config.now places) }
+        requires rising { (places : List ℕ) → AreRising 0 (length config.now.parts) places → IsRising event.now places }
+        ensures goes { Goes self.old (announce config.now) (told result) self.new }
+        ensures plain { IsPlain result }
+    {
+        if !has_registered(config, &self.registry, &mut self.taken) {
+            return Reply::Refused(Refusal::NoSuchPmu);
+        }
+        match copy_announced(
+            &mut self.subs,
+            event,
+            config,
+            &self.taken,
+            &mut self.held,
+            &mut self.copies,
+        ) {
+            Err(refusal) => {
+                self.copies.clear();
+                count_first(&mut self.registry, config, &self.taken);
+                return Reply::Refused(refusal);
+            }
+            Ok(_) => {}
+        }
+        announce_all(&mut self.registry, config, &self.taken, &mut self.copies);
+        let (made, kept) = fan_out(&mut self.subs, event, &self.taken, &mut self.held);
+        Reply::Done { made, kept }
+    }
+
+    /// A source sent a data frame. All copies are made before anything changes.
+    fn measure(&mut self, event: &Event, frame: &Arc<DataFrame>) -> Reply
+        requires event { (places : List ℕ) → offered event.now places ≡ measured (arc_value frame.now) places }
+        requires rising { (places : List ℕ) → AreRising 0 (length (arc_value frame.now).config.parts) places
+            → IsRising event.now places }
+        requires reached { IsReached self.old }
+        ensures goes { Goes self.old (measure (arc_value frame.now)) (told result) self.new }
+        ensures frugal { Frugal self.old (measure (arc_value frame.now)) (told result) }
+        ensures plain { IsPlain result }
+    {
+        let some = judge_shared(
+            frame,
+            &self.registry,
+            self.last_tick,
+            &mut self.judged,
+            &mut self.taken,
+        );
+        if !some {
+            count_blocks(&mut self.registry, &self.judged);
+            return Reply::Refused(first_refusal(&self.judged));
+        }
+        match lay_copies(&mut self.subs, event, &self.taken, &mut self.held) {
+            Err(refusal) => {
+                count_memory(&mut self.registry, &self.judged);
+                return Reply::Refused(refusal);
+            }
+            Ok(_) => {}
+        }
+        count_blocks(&mut self.registry, &self.judged);
+        let (made, kept) = fan_out(&mut self.subs, event, &self.taken, &mut self.held);
+        Reply::Done { made, kept }
+    }
+
+    /// A subscriber's counters are asked for.
+    pub(crate) fn stats(&self, sub: SubId) -> Reply
+        ensures goes { Goes self.now (stats sub) (told result) self.now }
+        ensures plain { IsPlain result }
+    {
+        match self.subs.get(&sub) {
+            None => Reply::Refused(Refusal::NoSuchSub),
+            Some(seat) => Reply::Stats(*seat.stats()),
+        }
+    }
+
+    /// A registered PMU's counters are asked for.
+    pub(crate) fn pmu_stats(&self, key: PmuKey) -> Reply
+        ensures goes { Goes self.now (pmu_stats key) (told result) self.now }
+        ensures plain { IsPlain result }
+    {
+        match self.registry.stats_of(key) {
+            None => Reply::Refused(Refusal::NoSuchPmu),
+            Some(stats) => Reply::PmuStats(*stats),
+        }
+    }
+
+    /// An entry of a subscriber's audit is asked for.
+    pub(crate) fn audit(&self, sub: SubId, index: u8) -> Reply
+        ensures goes { Goes self.now (audit sub index) (told result) self.now }
+        ensures plain { IsPlain result }
+    {
+        match self.subs.get(&sub) {
+            None => Reply::Refused(Refusal::NoSuchSub),
+            Some(seat) => Reply::Audit(seat.noted(index)),
+        }
+    }
+}

@@ -1,0 +1,35 @@
+//! The gateway as a machine that seats share, and as a gate.
+
+ghost use Rattle.pg_gateway.specs.Occurrences.{occurrence, told};
+ghost use Rattle.pg_gateway.specs.Posting.{Answers};
+ghost use Rattle.pg_gateway.specs.Shown.{Goes};
+
+use crate::event::{Event, Reply};
+use crate::gate::Gate;
+use crate::gateway::Gateway;
+use pg_turn::Machine;
+
+impl Machine for Gateway {
+    ghost use Rattle.pg_gateway.specs.Histories.{ShowsCalls, MayCall};
+
+    type Event = Event;
+
+    type Reply = Reply;
+
+    ghost shows = { λ g calls. ShowsCalls g calls };
+
+    ghost may = { λ calls event reply. MayCall calls event reply };
+
+    fn step(&mut self, event: Event) -> Reply {
+        Gateway::step(self, event)
+    }
+}
+
+impl Gate for Gateway {
+    fn post(&mut self, event: Event) -> Reply
+        ensures goes { Goes self.old (occurrence event) (told result) self.new }
+        ensures answers { Answers event result }
+    {
+        Gateway::step(self, event)
+    }
+}

@@ -1,0 +1,81 @@
+//! A client of the world, by the public clauses of `pg_serve` alone: two worlds whose inputs differ only in inputs that name
+//! other subscribers queue the same for a subscriber, and hand it the same bytes.
+#![tactic(auto)]
+
+ghost use Rattle.std.specs.Prelude.{◌≡◌, ◌≤◌, IfOk, IfErr};
+ghost use Rattle.pg_serve.specs.Inputs.{facts, outcomes};
+ghost use Rattle.pg_serve.specs.Shown.{queue_shown};
+ghost use Rattle.pg_serve.specs.Full.{HasAnswered, AllLossless, Headline, handed_over};
+ghost use Rattle.pg_serve.specs.Others.{without_others, adds_in};
+
+use pg_ring::OutQueue;
+use pg_serve::{Input, Output, World, neighbours_change_nothing};
+use pg_wire::{Refusal, SubId};
+use std::alloc::Global;
+
+/// A world after a run, and what it answered.
+#[derive(Drop)]
+pub struct Ran {
+    /// The world.
+    pub world: World,
+    /// One output for each input.
+    pub outputs: Vec<Output>,
+}
+
+/// A new world takes these inputs. The one refusal is `NoMemory`.
+pub fn run_anew(alloc: Global, inputs: &[Input]) -> Result<Ran, Refusal>
+    ensures answers { IfOk result (λ ran. HasAnswered ran.world (facts inputs.now) (outcomes ran.outputs.items)) }
+    ensures isolates { IfOk result (λ ran. AllLossless (outcomes ran.outputs.items)
+        → Headline ran.world (facts inputs.now) (outcomes ran.outputs.items)) }
+    ensures memory { IfErr result (λ refusal. refusal ≡ Refusal.NoMemory) }
+{
+    let mut world = World::new(alloc)?;
+    let outputs = world.run(inputs)?;
+    Ok(Ran { world, outputs })
+}
+
+/// Two worlds after their runs.
+#[derive(Drop)]
+pub struct Pair {
+    /// The one.
+    pub mine: Ran,
+    /// The other.
+    pub other: Ran,
+}
+
+/// Runs two lists of inputs, each in a world of its own. Where they differ only in inputs that name other subscribers, neither
+/// adds subscribers more than 64 times, and no output tells a loss or want of memory, the subscriber's queue shows the same in
+/// both worlds, and both handed it the same. The one refusal is `NoMemory`.
+pub fn compare(alloc: Global, sub: SubId, mine: &[Input], other: &[Input]) -> Result<Pair, Refusal>
+    ensures mine { IfOk result (λ pair. HasAnswered pair.mine.world (facts mine.now) (outcomes pair.mine.outputs.items)) }
+    ensures other { IfOk result (λ pair. HasAnswered pair.other.world (facts other.now) (outcomes pair.other.outputs.items)) }
+    ensures queued { IfOk result (λ pair. AllLossless (outcomes pair.mine.outputs.items)
+        → AllLossless (outcomes pair.other.outputs.items)
+        → adds_in (facts mine.now) ≤ 64 → adds_in (facts other.now) ≤ 64
+        → without_others sub (facts mine.now) ≡ without_others sub (facts other.now)
+        → queue_shown sub pair.mine.world ≡ queue_shown sub pair.other.world) }
+    ensures handed { IfOk result (λ pair. AllLossless (outcomes pair.mine.outputs.items)
+        → AllLossless (outcomes pair.other.outputs.items)
+        → adds_in (facts mine.now) ≤ 64 → adds_in (facts other.now) ≤ 64
+        → without_others sub (facts mine.now) ≡ without_others sub (facts other.now)
+        → handed_over sub (facts mine.now) (outcomes pair.mine.outputs.items)
+        ≡ handed_over sub (facts other.now) (outcomes pair.other.outputs.items)) }
+{
+    neighbours_change_nothing();
+    let first = run_anew(alloc, mine)?;
+    let second = run_anew(alloc, other)?;
+    Ok(Pair {
+        mine: first,
+        other: second,
+    })
+}
+
+/// What waits for the subscriber in both worlds: the same, where their queues show the same. The one refusal is `NoSuchSub`.
+pub fn queues(pair: &Pair, sub: SubId) -> Result<(&OutQueue, &OutQueue), Refusal>
+    ensures same { IfOk result (λ both. queue_shown sub pair.now.mine.world ≡ queue_shown sub pair.now.other.world
+        → both.0.now ≡ both.1.now) }
+{
+    let mine = pair.mine.world.queue(sub)?;
+    let other = pair.other.world.queue(sub)?;
+    Ok((mine, other))
+}

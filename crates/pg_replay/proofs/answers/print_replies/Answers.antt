@@ -1,0 +1,11 @@
+use Rattle.std.proofs.Common.{sym, subst}
+use Rattle.std.specs.Io.KnownBytes.{Appends}
+use Rattle.pg_replay.specs.Printing.{reply_line}
+use Rattle.pg_replay.proofs.PrintLaws.{appends_more, flat_taken}
+use Rattle.pg_replay.proofs.answers.print_replies.Goals as goal
+
+pub loop-i-preserved : goal.loop-i-preserved
+loop-i-preserved g c =
+    subst (λ t. Appends (g.W.Write.contents c.args.out.now) (g.W.Write.contents c.print_hex.new.out) t)
+    (sym (flat_taken reply_line c.args.queue.now.replies c.loop-i.i c.in-Some.reply.now (sym c.in-Some.ensures)))
+    (appends_more _ _ _ _ _ c.loop-i.invariant (appends_more _ _ _ _ _ c.in_ok-write.ensures.bytes c.in_ok-print_hex.ensures.prints))

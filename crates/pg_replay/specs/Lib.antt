@@ -1,0 +1,4 @@
+-- Definitions that the contracts of the replay cite.
+pub mod Lines
+pub mod Printing
+pub mod Replaying

@@ -1,0 +1,10 @@
+//! The replay of a script: each of its lines is read, handed to a world, and answered by the lines that it prints.
+#![tactic(auto)]
+
+mod answers;
+mod lines;
+mod script;
+#[cfg(test)]
+mod tests;
+
+pub use script::{Fault, replay};

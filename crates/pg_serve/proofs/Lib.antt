@@ -1,0 +1,11 @@
+-- Lemmas of the world.
+pub mod Doing
+pub mod Owed
+pub mod Lines
+pub mod Taking
+pub mod Running
+pub mod Determined
+pub mod Belonging
+pub mod Neighbours
+pub mod Handing
+pub mod Isolating

@@ -1,0 +1,213 @@
+-- What inputs make where no memory is refused, and what holds of each subscriber then.
+use Rattle.std.specs.Prelude.{◌≡◌, ◌≢◌, ℕ, Bool, false, if◌then◌else◌, nat_eq, is_some, List, [], ◌∷◌, ◌++◌, length, drop, Option, Some, None, option_map}
+use Rattle.std.specs.List.{flat_map}
+use Rattle.std.specs.Map.{lookup}
+use Rattle.std.specs.Option.{option_map_or}
+use Rattle.pg_wire.specs.declared.refusal.Refusal.TheVariants.{NoMemory}
+use Rattle.pg_ring.specs.Shown.{Queue}
+use Rattle.pg_audit.specs.declared.counters.PmuStats.{PmuStats}
+use Rattle.pg_data.specs.Measurements.{Measurement}
+use Rattle.pg_ring.specs.Numbers.{shown_of}
+use Rattle.pg_session.specs.Shown.{Model}
+use Rattle.pg_session.specs.Shown as session
+use Rattle.pg_session.specs.Commands.{items_of, stats_of as session_stats}
+use Rattle.pg_ingest.specs.Items as link
+use Rattle.pg_ingest.specs.Items.{told_of, break_in}
+use Rattle.pg_ingest.specs.Linking.{stats_of as link_stats}
+use Rattle.pg_gateway.specs.Occurrences.{Occurrence, add_pmu, drop_pmu, add_sub, drop_sub, grant, asks, announce, measure, tick, stats, pmu_stats, audit, Answer}
+use Rattle.pg_gateway.specs.Shared.{Shared, opening as shared_opening, seat_of, own_of, refusal}
+use Rattle.pg_gateway.specs.Views.{Seen, full_answer, shared_step, view, private_run, Handed, handed_out, handed_in, Lossless}
+use Rattle.pg_gateway.specs.Laws.{after, events_of, answers_of, AgreeOn}
+use Rattle.pg_gateway.specs.Shown.{SeatValue}
+use Rattle.pg_serve.specs.Inputs.{Fact, link_up, pmu_bytes, sub_bytes, names, Noted, replied, ignored, closed, Outcome}
+use Rattle.pg_serve.specs.Dues.{Due, posts, ignores_frame, closes, refuses, Deed, answered, ignored_frame, closed_at, refused, pairs_of, link_due}
+use Rattle.pg_serve.specs.Moments.{LinePast, Moment, opening, Turn, Turns, after_turn, after_turns, all_outcomes, inputs_of, history_of, has_source, heard_due, up_due}
+use Rattle.pg_serve.specs.Shown.{WorldValue, queue_shown, link_counted, session_counted, ShowsTurns}
+
+-- ---- the turn that an input is
+
+abbrev pub full_deed : Shared → Due → Deed
+full_deed S (posts e) = answered e (full_answer S e)
+full_deed S (ignores_frame r) = ignored_frame r
+full_deed S (closes r) = closed_at r
+full_deed S (refuses r) = refused r
+
+abbrev pub after_due : Shared → Due → Shared
+after_due S (posts e) = shared_step S e
+after_due S (ignores_frame r) = S
+after_due S (closes r) = S
+after_due S (refuses r) = S
+
+abbrev pub full_deeds : Shared → List Due → List Deed
+full_deeds S [] = []
+full_deeds S (d ∷ ds) = full_deed S d ∷ full_deeds (after_due S d) ds
+
+-- what is told of a source's bytes more by a piece
+abbrev pub told_more : List ℕ → Option LinePast → List link.Item
+told_more piece None = []
+told_more piece (Some line) =
+    drop (length (told_of line.link.source line.link.stream)) (told_of line.link.source (line.link.stream ++ piece))
+
+abbrev pub full_told : Moment → Fact → List link.Item
+full_told m (link_up s) = []
+full_told m (pmu_bytes s piece) = told_more piece (lookup (nat_eq s) m.lines)
+full_told m (sub_bytes u piece) = []
+full_told m (names e) = []
+
+abbrev pub told_dues : List ℕ → Option LinePast → List Due
+told_dues piece None = up_due None
+told_dues piece (Some line) = link_due (told_more piece (Some line)) (break_in (line.link.stream ++ piece))
+
+-- what an input makes, by looking back over the bytes that came before
+abbrev pub dues_of : Moment → Fact → List Due
+dues_of m (link_up s) = up_due (lookup (nat_eq s) m.lines)
+dues_of m (pmu_bytes s piece) = told_dues piece (lookup (nat_eq s) m.lines)
+dues_of m (sub_bytes u piece) = heard_due u piece (is_some (seat_of u m.shared.subs)) (lookup (nat_eq u) m.fed)
+dues_of m (names e) = posts e ∷ []
+
+abbrev pub full_turn : Moment → Fact → Turn
+full_turn m f = record { input = f; deeds = full_deeds m.shared (dues_of m f); told = full_told m f }
+
+abbrev pub full_turns : Moment → List Fact → Turns
+full_turns m [] = []
+full_turns m (f ∷ fs) = full_turn m f ∷ full_turns (after_turn m (full_turn m f)) fs
+
+-- the moment that inputs lead to
+abbrev pub moment_of : List Fact → Moment
+moment_of inputs = after_turns opening (full_turns opening inputs)
+
+-- the events that the inputs make, and their answers
+abbrev pub events_made : List Fact → List Occurrence
+events_made inputs = events_of (history_of (full_turns opening inputs))
+
+abbrev pub answers_made : List Fact → List Answer
+answers_made inputs = answers_of (history_of (full_turns opening inputs))
+
+-- the events that one input more makes
+abbrev pub events_at : List Fact → Fact → List Occurrence
+events_at inputs f = events_of (pairs_of (full_turn (moment_of inputs) f).deeds)
+
+-- all that a subscriber sees of the inputs
+abbrev pub view_of : ℕ → List Fact → List Seen
+view_of u inputs = view u shared_opening (events_made inputs)
+
+-- what is answered to the inputs
+abbrev pub full_outcomes : List Fact → List Outcome
+full_outcomes inputs = all_outcomes opening (full_turns opening inputs)
+
+-- the input asks something for u, or is of its bytes
+abbrev pub is_asked : ℕ → Occurrence → Bool
+is_asked u (add_pmu key) = false
+is_asked u (drop_pmu key) = false
+is_asked u (add_sub w size bytes) = false
+is_asked u (drop_sub w) = false
+is_asked u (grant w key) = false
+is_asked u (asks w x) = nat_eq u w
+is_asked u (announce config) = false
+is_asked u (measure m) = false
+is_asked u (tick soc) = false
+is_asked u (stats w) = false
+is_asked u (pmu_stats key) = false
+is_asked u (audit w index) = false
+
+abbrev pub is_for : ℕ → Fact → Bool
+is_for u (link_up s) = false
+is_for u (pmu_bytes s piece) = false
+is_for u (sub_bytes w piece) = nat_eq u w
+is_for u (names e) = is_asked u e
+
+-- what a note hands out: of a drain's reply the bytes, how many frames they begin, and the sum of the gaps before these
+abbrev pub handed_note : Noted → List Handed
+handed_note (replied a) = handed_out a
+handed_note (ignored r) = []
+handed_note (closed r) = []
+
+-- what the outputs of these inputs hand to u
+abbrev pub handed_at : ℕ → Fact → List Noted → List Handed
+handed_at u f notes = if is_for u f then flat_map handed_note notes else []
+
+abbrev pub handed_over : ℕ → List Fact → List Outcome → List Handed
+handed_over u [] outcomes = []
+handed_over u (f ∷ inputs) [] = []
+handed_over u (f ∷ inputs) (o ∷ outcomes) = handed_at u f o.notes ++ handed_over u inputs outcomes
+
+-- what a source's link counts: what is told of the bytes that it was given since it was made, where the source has a link
+abbrev pub link_counts_of : ℕ → List Fact → Option PmuStats
+link_counts_of s inputs =
+    option_map (λ line. link_stats (line.link.earlier ++ told_of line.link.source line.link.stream))
+    (lookup (nat_eq s) (moment_of inputs).lines)
+
+-- what a subscriber's session counts: what its bytes since its Connect make, where it has a session
+abbrev pub session_counts_of : ℕ → List Fact → Option PmuStats
+session_counts_of u inputs = option_map (λ stream. session_stats (items_of stream)) (lookup (nat_eq u) (moment_of inputs).fed)
+
+-- ---- the headline
+
+-- No note tells want of memory or a loss.
+abbrev pub NotesLossless : List Noted → Type 0
+NotesLossless [] = Unit {0}
+NotesLossless (replied a ∷ notes) = Lossless a × NotesLossless notes
+NotesLossless (ignored r ∷ notes) = (r ≢ NoMemory) × NotesLossless notes
+NotesLossless (closed r ∷ notes) = NotesLossless notes
+
+abbrev pub AllLossless : List Outcome → Type 0
+AllLossless [] = Unit {0}
+AllLossless (o ∷ outcomes) = NotesLossless o.notes × AllLossless outcomes
+
+-- The world may have taken these inputs since it was new, in one call or several, and answered so.
+pub record HasAnswered (w : WorldValue) (inputs : List Fact) (told : List Outcome) : Type 0 where
+  pub turns : Turns
+  pub taken : inputs_of turns ≡ inputs
+  pub outcomes : told ≡ all_outcomes opening turns
+  pub shows : ShowsTurns w turns
+
+-- a subscriber, or none, is what a private gateway is, or none
+abbrev pub OwnShows : Option SeatValue → Option Model → Type 0
+OwnShows None None = Unit {0}
+OwnShows (Some v) (Some p) = session.Shows v.subscriber p
+OwnShows None (Some p) = ⊥
+OwnShows (Some v) None = ⊥
+
+-- what of a private gateway its queue's readers show
+abbrev pub queue_of : Option Model → Option Queue
+queue_of p = option_map (λ p. shown_of p.output.queue) p
+
+abbrev pub is_connected : Option Model → Bool
+is_connected p = option_map_or (λ p. p.connected) p false
+
+-- Each subscriber is what a private gateway makes of its view of the inputs alone: so its queue shows that one's (frames and
+-- their gaps, replies, what is in hand, pending), and the outputs handed it what that one hands out (bytes, frames begun, gaps).
+-- The outputs are the replies to the events that the inputs make, with the notes of what was ignored or closed. Links and
+-- sessions count what they were fed; a source has a link just where a PMU of it is registered, and a subscriber a session just
+-- where it is connected.
+pub record Headline (w : WorldValue) (inputs : List Fact) (told : List Outcome) : Type 0 where
+  pub own : (u : ℕ) → OwnShows (lookup (nat_eq u) w.gateway.subs) (private_run None (view_of u inputs))
+  pub queued : (u : ℕ) → queue_shown u w ≡ queue_of (private_run None (view_of u inputs))
+  pub handed : (u : ℕ) → handed_over u inputs told ≡ handed_in None (view_of u inputs)
+  pub outcomes : told ≡ full_outcomes inputs
+  pub links : (s : ℕ) → link_counted s w ≡ link_counts_of s inputs
+  pub sessions : (u : ℕ) → session_counted u w ≡ session_counts_of u inputs
+  pub registered : (s : ℕ) → is_some (link_counted s w) ≡ has_source (after (events_made inputs)) s
+  pub connected : (u : ℕ) → is_some (session_counted u w) ≡ is_connected (private_run None (view_of u inputs))
+
+-- Two lists of inputs that give a subscriber equal views leave it alike, queue the same for it and hand it the same.
+pub record InputsIsolate : Type 0 where
+  pub states : (u : ℕ) (is js : List Fact) → view_of u is ≡ view_of u js
+      → own_of u (after (events_made is)) ≡ own_of u (after (events_made js))
+  pub queued : (u : ℕ) (is js : List Fact) → view_of u is ≡ view_of u js
+      → queue_of (own_of u (after (events_made is))) ≡ queue_of (own_of u (after (events_made js)))
+  pub handed : (u : ℕ) (is js : List Fact) → view_of u is ≡ view_of u js
+      → handed_over u is (full_outcomes is) ≡ handed_over u js (full_outcomes js)
+
+-- Of a frame of several PMUs a subscriber has its granted blocks alone. Where two worlds take inputs of which it sees the same,
+-- it goes on alike; so where these are bytes that make a measurement each, and the measurements agree on what it is granted.
+pub record SharedFrame : Type 0 where
+  pub parts : (u : ℕ) (is js : List Fact) (f g : Fact) → own_of u (after (events_made is)) ≡ own_of u (after (events_made js))
+      → view u (after (events_made is)) (events_at is f) ≡ view u (after (events_made js)) (events_at js g)
+      → own_of u (after (events_made (is ++ f ∷ []))) ≡ own_of u (after (events_made (js ++ g ∷ [])))
+  pub frames : (u : ℕ) (is js : List Fact) (f g : Fact) (m n : Measurement)
+      → own_of u (after (events_made is)) ≡ own_of u (after (events_made js))
+      → events_at is f ≡ measure m ∷ [] → events_at js g ≡ measure n ∷ []
+      → refusal (after (events_made is)) (measure m) ≡ None → refusal (after (events_made js)) (measure n) ≡ None
+      → AgreeOn u (after (events_made is)) m (after (events_made js)) n
+      → own_of u (after (events_made (is ++ f ∷ []))) ≡ own_of u (after (events_made (js ++ g ∷ [])))

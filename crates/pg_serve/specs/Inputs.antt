@@ -1,0 +1,74 @@
+-- What a world is handed, and what it answers, wherever they lie in memory.
+use Rattle.std.specs.Prelude.{ℕ, List, map}
+use Rattle.pg_wire.specs.declared.refusal.Refusal.{Refusal}
+use Rattle.pg_session.specs.Events as session
+use Rattle.pg_gateway.specs.declared.edit.Edit.{Edit}
+use Rattle.pg_gateway.specs.declared.edit.Edit.TheVariants as edit
+use Rattle.pg_gateway.specs.Occurrences.{Occurrence, add_pmu, drop_pmu, add_sub, drop_sub, grant, asks, tick, stats, pmu_stats, audit, Answer, told}
+use Rattle.pg_serve.specs.declared.input.Input.{Input}
+use Rattle.pg_serve.specs.declared.input.Input.TheVariants as input
+use Rattle.pg_serve.specs.declared.input.Note.{Note}
+use Rattle.pg_serve.specs.declared.input.Note.TheVariants as note
+use Rattle.pg_serve.specs.declared.input.Output.{Output}
+
+pub data Fact : Type 0 where
+  -- a source's connection is up
+  link_up : ℕ → Fact
+  -- bytes of a source came, and bytes of a subscriber
+  pmu_bytes : ℕ → List ℕ → Fact
+  sub_bytes : ℕ → List ℕ → Fact
+  -- the event of the input's name
+  names : Occurrence → Fact
+
+-- the event that an edit is
+abbrev pub edited : Edit → Occurrence
+edited (edit.AddPmu key) = add_pmu key
+edited (edit.DropPmu key) = drop_pmu key
+edited (edit.AddSub u size bytes) = add_sub u size bytes
+edited (edit.DropSub u) = drop_sub u
+edited (edit.Grant u key) = grant u key
+edited (edit.Revoke u key) = asks u (session.revoke key)
+edited (edit.Define u definition) = asks u (session.define definition)
+edited (edit.Remove u number) = asks u (session.remove number)
+edited (edit.Stats u) = stats u
+edited (edit.PmuStats key) = pmu_stats key
+edited (edit.Audit u index) = audit u index
+
+-- what an input says
+abbrev pub fact : Input → Fact
+fact (input.LinkUp source) = link_up source
+fact (input.PmuBytes source bytes) = pmu_bytes source bytes.items
+fact (input.SubBytes u bytes) = sub_bytes u bytes.items
+fact (input.Connect u) = names (asks u session.connect)
+fact (input.Hangup u) = names (asks u session.hangup)
+fact (input.Drain u size) = names (asks u (session.drain size))
+fact (input.Tick soc) = names (tick soc)
+fact (input.Edit e) = names (edited e)
+
+abbrev pub facts : List Input → List Fact
+facts inputs = map fact inputs
+
+pub data Noted : Type 0 where
+  replied : Answer → Noted
+  ignored : Refusal → Noted
+  closed : Refusal → Noted
+
+-- what a note says
+abbrev pub noted : Note → Noted
+noted (note.Replied reply) = replied (told reply)
+noted (note.Ignored r) = ignored r
+noted (note.Closed r) = closed r
+
+-- what is answered to an input: the notes, and the bytes to the source
+pub record Outcome : Type 0 where
+  pub notes : List Noted
+  pub to_pmu : List ℕ
+
+abbrev pub all_noted : List Note → List Noted
+all_noted notes = map noted notes
+
+abbrev pub outcome : Output → Outcome
+outcome o = record { notes = all_noted o.notes.items; to_pmu = o.to_pmu.items }
+
+abbrev pub outcomes : List Output → List Outcome
+outcomes outputs = map outcome outputs

@@ -1,0 +1,8 @@
+-- Definitions that the contracts of the world cite.
+pub mod Inputs
+pub mod Dues
+pub mod Moments
+pub mod Shown
+pub mod Full
+pub mod Others
+pub mod Feeding

@@ -1,0 +1,62 @@
+-- Inputs that name other subscribers.
+use Rattle.std.specs.Prelude.{◌≡◌, ℕ, ◌+◌, ◌≤◌, nat_eq, Bool, false, not, List, [], ◌∷◌, filter}
+use Rattle.pg_gateway.specs.Occurrences.{Occurrence, add_pmu, drop_pmu, add_sub, drop_sub, grant, asks, announce, measure, tick, stats, pmu_stats, audit}
+use Rattle.pg_serve.specs.Inputs.{Fact, link_up, pmu_bytes, sub_bytes, names}
+use Rattle.pg_serve.specs.Full.{view_of}
+
+-- the event names another subscriber than u
+abbrev pub names_other : ℕ → Occurrence → Bool
+names_other u (add_pmu key) = false
+names_other u (drop_pmu key) = false
+names_other u (add_sub w size bytes) = not (nat_eq u w)
+names_other u (drop_sub w) = not (nat_eq u w)
+names_other u (grant w key) = not (nat_eq u w)
+names_other u (asks w x) = not (nat_eq u w)
+names_other u (announce config) = false
+names_other u (measure m) = false
+names_other u (tick soc) = false
+names_other u (stats w) = not (nat_eq u w)
+names_other u (pmu_stats key) = false
+names_other u (audit w index) = not (nat_eq u w)
+
+abbrev pub is_of_other : ℕ → Fact → Bool
+is_of_other u (link_up s) = false
+is_of_other u (pmu_bytes s piece) = false
+is_of_other u (sub_bytes w piece) = not (nat_eq u w)
+is_of_other u (names e) = names_other u e
+
+-- the inputs but those that name another subscriber than u: grants, definitions, bytes, connects and drains of u, and what
+-- names no subscriber
+abbrev pub without_others : ℕ → List Fact → List Fact
+without_others u inputs = filter (λ f. not (is_of_other u f)) inputs
+
+-- how often a subscriber is to be added
+abbrev pub adds_by : Occurrence → ℕ
+adds_by (add_pmu key) = 0
+adds_by (drop_pmu key) = 0
+adds_by (add_sub u size bytes) = 1
+adds_by (drop_sub u) = 0
+adds_by (grant u key) = 0
+adds_by (asks u x) = 0
+adds_by (announce config) = 0
+adds_by (measure m) = 0
+adds_by (tick soc) = 0
+adds_by (stats u) = 0
+adds_by (pmu_stats key) = 0
+adds_by (audit u index) = 0
+
+abbrev pub adds_at : Fact → ℕ
+adds_at (link_up s) = 0
+adds_at (pmu_bytes s piece) = 0
+adds_at (sub_bytes u piece) = 0
+adds_at (names e) = adds_by e
+
+abbrev pub adds_in : List Fact → ℕ
+adds_in [] = 0
+adds_in (f ∷ inputs) = adds_at f + adds_in inputs
+
+-- Two lists of inputs that differ only in inputs which name other subscribers give a subscriber equal views, where neither
+-- adds subscribers more than 64 times, so that for none there is no room.
+pub record NeighboursChangeNothing : Type 0 where
+  pub views : (u : ℕ) (is js : List Fact) → adds_in is ≤ 64 → adds_in js ≤ 64 → without_others u is ≡ without_others u js
+      → view_of u is ≡ view_of u js

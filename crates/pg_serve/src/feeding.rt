@@ -1,0 +1,165 @@
+//! Bytes are cut into frames, and these become events.
+
+ghost use Rattle.std.specs.Prelude.{◌≡◌, ℕ, ◌<◌, List, [], ◌∷◌, ◌++◌, length, IfOk};
+ghost use Rattle.pg_session.specs.Commands as commands;
+ghost use Rattle.pg_session.specs.Commands.{Item};
+ghost use Rattle.pg_ingest.specs.Shown as ingest;
+ghost use Rattle.pg_ingest.specs.Shown.{LinkPast, feeding};
+ghost use Rattle.pg_gateway.specs.Occurrences.{occurrence};
+ghost use Rattle.pg_gateway.specs.Shared.{Shared};
+ghost use Rattle.pg_gateway.specs.Shown.{GatewayShows};
+ghost use Rattle.pg_serve.specs.Inputs.{noted, all_noted};
+ghost use Rattle.pg_serve.specs.Dues.{posts};
+ghost use Rattle.pg_serve.specs.Feeding.{Did, TellsAll, TakesPiece, GivesAll, HearsAll};
+
+use crate::input::Note;
+use pg_gateway::{Event, Gateway};
+use pg_ingest::{Link, LinkEvent};
+use pg_session::{Next, Session};
+use pg_wire::{Refusal, SubId};
+use std::alloc::{AllocError, Global};
+
+/// Notes something.
+pub(crate) fn note(notes: &mut Vec<Note>, what: Note) -> Result<(), AllocError>
+    ensures noted { IfOk result (λ _. all_noted notes.new.items ≡ all_noted notes.old.items ++ noted what ∷ []) }
+{
+    notes.push(what)?;
+    Ok(())
+}
+
+/// Posts an event, and notes the reply.
+pub(crate) fn post(
+    gateway: &mut Gateway,
+    event: Event,
+    notes: &mut Vec<Note>,
+) -> Result<(), AllocError>
+    ensures did { IfOk result (λ _. (S : Shared) → GatewayShows gateway.old S
+        → Did S (posts (occurrence event) ∷ []) (all_noted notes.old.items) (all_noted notes.new.items) gateway.new) }
+{
+    let reply = gateway.step(event);
+    note(notes, Note::Replied(reply))?;
+    Ok(())
+}
+
+/// Posts the events of a source that are whole, and tells whether its bytes broke behind them.
+fn post_events(
+    gateway: &mut Gateway,
+    link: &mut Link,
+    notes: &mut Vec<Note>,
+) -> Result<Option<Refusal>, AllocError>
+    ensures told { IfOk result (λ broken. (S : Shared) (past : LinkPast) → GatewayShows gateway.old S → ingest.Shows link.old past
+        → TellsAll S past broken (all_noted notes.old.items) (all_noted notes.new.items) gateway.new link.new) }
+    ensures room { IfOk result (λ broken. length link.new.bytes.held < 65535) }
+{
+    loop {
+        match link.next_event() {
+            LinkEvent::Announce(config) => post(gateway, Event::Announce(config), notes)?,
+            LinkEvent::Measure(frame) => post(gateway, Event::Measure(frame), notes)?,
+            LinkEvent::Ignored(refusal) => note(notes, Note::Ignored(refusal))?,
+            LinkEvent::Ended(refusal) => return Ok(Some(refusal)),
+            LinkEvent::More => return Ok(None),
+        }
+    }
+}
+
+/// Hands a source's bytes over, in pieces that its link has room for, and posts what they make. Behind a break the link drops
+/// them.
+fn feed_events(
+    gateway: &mut Gateway,
+    link: &mut Link,
+    bytes: &[u8],
+    notes: &mut Vec<Note>,
+) -> Result<Option<Refusal>, AllocError>
+    ensures told { IfOk result (λ broken. (S : Shared) (past : LinkPast) → GatewayShows gateway.old S → ingest.Shows link.old past
+        → TellsAll S (feeding past bytes.now) broken (all_noted notes.old.items) (all_noted notes.new.items)
+        gateway.new link.new) }
+{
+    let mut sent = 0;
+    loop {
+        let broken = post_events(gateway, link, notes)?;
+        if sent == bytes.len() {
+            return Ok(broken);
+        }
+        let size = link.room().min(bytes.len() - sent);
+        link.feed(&bytes[sent..][..size]);
+        sent += size;
+    }
+}
+
+/// Hands a source's bytes over and posts what they make; a break is noted last.
+pub(crate) fn feed_link(
+    gateway: &mut Gateway,
+    link: &mut Link,
+    bytes: &[u8],
+    notes: &mut Vec<Note>,
+) -> Result<(), AllocError>
+    ensures taken { IfOk result (λ _. (S : Shared) (past : LinkPast) → GatewayShows gateway.old S → ingest.Shows link.old past
+        → TakesPiece S (feeding past bytes.now) (all_noted notes.old.items) (all_noted notes.new.items) gateway.new link.new) }
+{
+    match feed_events(gateway, link, bytes, notes)? {
+        Some(refusal) => {
+            note(notes, Note::Closed(refusal))?;
+            Ok(())
+        }
+        None => Ok(()),
+    }
+}
+
+/// The commands that a source is owed, one behind another.
+pub(crate) fn commands_owed(alloc: Global, link: &mut Link) -> Result<Vec<u8>, AllocError>
+    ensures given { IfOk result (λ frames. (past : LinkPast) → ingest.Shows link.old past → GivesAll past frames.items link.new) }
+{
+    let mut frames = Vec::new(alloc);
+    while let Some(frame) = link.next_out() {
+        frames.extend_from_slice(&frame)?;
+    }
+    Ok(frames)
+}
+
+/// Posts the commands of a subscriber that are whole, and tells whether its bytes broke behind them.
+fn post_commands(
+    gateway: &mut Gateway,
+    session: &mut Session,
+    sub: SubId,
+    notes: &mut Vec<Note>,
+) -> Result<Option<Refusal>, AllocError>
+    ensures heard { IfOk result (λ broken. (S : Shared) (stream : List ℕ) (given : List Item) → GatewayShows gateway.old S
+        → commands.Shows session.old stream given
+        → HearsAll S sub stream given broken (all_noted notes.old.items) (all_noted notes.new.items) gateway.new session.new) }
+    ensures room { IfOk result (λ broken. length session.new.bytes.held < 65535) }
+{
+    loop {
+        match session.next_command() {
+            Next::Cmd(command) => post(gateway, Event::Command(sub, command), notes)?,
+            Next::Ignored(refusal) => note(notes, Note::Ignored(refusal))?,
+            Next::Broken(refusal) => return Ok(Some(refusal)),
+            Next::More => return Ok(None),
+        }
+    }
+}
+
+/// Hands a subscriber's bytes over, in pieces that its session has room for, and posts what they make. Behind a break the
+/// session drops them.
+pub(crate) fn feed_session(
+    gateway: &mut Gateway,
+    session: &mut Session,
+    sub: SubId,
+    bytes: &[u8],
+    notes: &mut Vec<Note>,
+) -> Result<Option<Refusal>, AllocError>
+    ensures heard { IfOk result (λ broken. (S : Shared) (stream : List ℕ) (given : List Item) → GatewayShows gateway.old S
+        → commands.Shows session.old stream given
+        → HearsAll S sub (stream ++ bytes.now) given broken (all_noted notes.old.items) (all_noted notes.new.items)
+        gateway.new session.new) }
+{
+    let mut sent = 0;
+    loop {
+        let broken = post_commands(gateway, session, sub, notes)?;
+        if sent == bytes.len() {
+            return Ok(broken);
+        }
+        let size = session.room().min(bytes.len() - sent);
+        session.feed(&bytes[sent..][..size]);
+        sent += size;
+    }
+}
