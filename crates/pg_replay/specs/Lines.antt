@@ -1,5 +1,5 @@
 -- What a line of a script asks for.
-use Rattle.std.specs.Prelude.{ℕ, ◌==◌, Bool, true, false, List, [], ◌∷◌, Option, Some, None, option_map, if◌then◌else◌, codes, find}
+use Rattle.std.specs.Prelude.{ℕ, ◌==◌, Bool, false, List, [], ◌∷◌, Option, Some, None, option_map, if◌then◌else◌, codes, find}
 use Rattle.std.specs.Str.{bytes_eq, is_utf8}
 use Rattle.pg_session.specs.Events.{connect, hangup, drain}
 use Rattle.pg_gateway.specs.Occurrences.{asks, tick}

@@ -1,6 +1,6 @@
 //! Answers, as a script's run prints them.
 
-ghost use Rattle.std.specs.Prelude.{take, OnOk};
+ghost use Rattle.std.specs.Prelude.{◌≡◌, take, OnOk};
 ghost use Rattle.std.specs.List.{flat_map};
 ghost use Rattle.std.specs.Io.KnownBytes.{Appends};
 ghost use Rattle.pg_gateway.specs.Occurrences.{told};
@@ -27,7 +27,9 @@ pub(crate) enum NotPrinted {
 }
 
 impl From<io::Error> for NotPrinted {
-    fn from(_e: io::Error) -> NotPrinted {
+    fn from(_e: io::Error) -> NotPrinted
+        ensures value { result ≡ NotPrinted.Write }
+    {
         NotPrinted::Write
     }
 }

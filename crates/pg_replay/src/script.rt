@@ -1,9 +1,10 @@
 //! `pdcgw replay`: a script is read, and the answer to each of its lines is printed.
 
-ghost use Rattle.std.specs.Prelude.{Some, OnOk};
+ghost use Rattle.std.specs.Prelude.{◌≡◌, Some, OnOk};
 ghost use Rattle.std.specs.Io.KnownBytes.{Appends};
 ghost use Rattle.pg_serve.specs.Inputs.{fact};
 ghost use Rattle.pg_serve.specs.Shown.{queue_shown, link_counted};
+ghost use Rattle.pg_replay.specs.Faults.{told_as, fault_of};
 ghost use Rattle.pg_replay.specs.Lines.{asked, hands};
 ghost use Rattle.pg_replay.specs.Replaying.{Prints, AnswersAll, AnswersLine, PrintsSession, DoesAsked, queue_text, link_text};
 
@@ -28,7 +29,9 @@ pub enum Fault {
 
 impl Fault {
     /// The refusal by whose number and name it is told.
-    pub fn refusal(self) -> Refusal {
+    pub fn refusal(self) -> Refusal
+        ensures value { result ≡ told_as self }
+    {
         match self {
             Fault::NoMemory => Refusal::NoMemory,
             Fault::Read => Refusal::ReadFault,
@@ -38,7 +41,9 @@ impl Fault {
 }
 
 impl From<NotPrinted> for Fault {
-    fn from(e: NotPrinted) -> Fault {
+    fn from(e: NotPrinted) -> Fault
+        ensures value { result ≡ fault_of e }
+    {
         match e {
             NotPrinted::NoMemory => Fault::NoMemory,
             NotPrinted::Write => Fault::Write,

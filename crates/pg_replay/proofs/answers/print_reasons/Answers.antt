@@ -1,4 +1,4 @@
-use Rattle.std.proofs.Common.{take, sym, subst}
+use Rattle.std.proofs.Common.{sym, subst}
 use Rattle.std.specs.Io.KnownBytes.{Appends}
 use Rattle.pg_replay.proofs.PrintLaws.{appends_more, reasons_taken}
 use Rattle.pg_replay.proofs.answers.print_reasons.Goals as goal
