@@ -357,6 +357,43 @@ row("shared-frame-3", SHARED, ("grant 1 9/11", DONE), ("define 1 103 30 1000000 
     of_pmu(9, configuration(0x32, 9, 100, 0, [BLOCK_7, BLOCK_8, BLOCK_7]), "ignored 16 DuplicatePmu"))
 assert len(sent(103, SLOTS[0], [DATA_7, DATA_11])) == 2 * 36
 
+# Hostile bytes: prefixes of frames, frames with one byte changed, and sizes and bytes that promise too much.
+
+def turned(digits, place):
+    """The frame with all bits of one byte turned round."""
+    return digits[:2 * place] + f"{int(digits[2 * place:2 * place + 2], 16) ^ 0xFF:02X}" + digits[2 * place + 2:]
+
+
+def spoilt(digits):
+    """Bytes that spoil a frame, each with what is noted of them: nothing as long as a frame is not whole."""
+    noted = {0: "closed 2 BadFirst", 1: "closed 3 BadSecond", 2: None, 3: None}
+    prefixes = [(digits[:2 * size], None) for size in range(1, len(digits) // 2)]
+    changed = [(turned(digits, place), noted.get(place, "ignored 5 BadCheck")) for place in range(len(digits) // 2)]
+    return prefixes + changed
+
+
+def largest(digits):
+    """The same of a frame that tells the largest size."""
+    digits = digits[:4] + "FFFF" + digits[8:]
+    return [(digits, None), (digits + "00" * (65_535 - len(digits) // 2), "ignored 5 BadCheck"), ("AA" * 65_535, "closed 3 BadSecond")]
+
+
+assert len(whole(CONFIG_7)) == 2 * 74 and len(whole(MEASURED_7)) == 2 * 26
+row("hostile-bytes", two_subscribers(), path(2, 8, CONFIG_8, MEASURED_8),
+    [pair for octets, noted in spoilt(whole(CONFIG_7)) + spoilt(whole(MEASURED_7)) + largest(whole(CONFIG_7)) for pair in (
+        ("linkup 7", "send " + asked(7, 5)), (f"pmu 7 {octets}", *([noted] if noted else [])))],
+    ("hangup 1", DONE),
+    [pair for octets, noted in spoilt(command(101, 5)) + largest(command(101, 5)) for pair in (
+        ("connect 1", DONE),
+        (f"sub 1 {octets}", *([noted] if noted else []), *([DONE] if noted and noted.startswith("closed") else [])),
+        *([] if noted and noted.startswith("closed") else [("hangup 1", DONE)]))],
+    ("linkstats 8", "linkstats taken 2"), ("sessionstats 2", "sessionstats taken 2"), ("pmustats 8", "pmustats taken 2"),
+    ("queue 2", "rest -", "reply " + reply(0x32, 101, [counted(BLOCK_8, 1)]), "frame 0 " + DATA_101_OF_8, "pending 0"),
+    drain(2, 400, 2, 0, reply(0x32, 101, [counted(BLOCK_8, 1)]) + DATA_101_OF_8),
+    ("linkup 7", "send " + asked(7, 5)), ("connect 1", DONE), of_pmu(7, CONFIG_7, DONE, "send " + asked(7, 2)),
+    of_sub(1, command(101, 5), DONE), of_sub(1, command(101, 2), DONE), of_pmu(7, MEASURED_7, MADE),
+    drain(1, 200, 2, 0, CONFIG_101 + DATA_101))
+
 # Lines of every form that is none, and bytes that are skipped, left out or break a stream.
 
 BAD = "refused 36 BadLine"

@@ -4,11 +4,12 @@
 pub const PROGRAM: &str = "\
 Exit status:
   0  done
-  1  a fault, told on standard error as `pdcgw: N NAME`: 1 NoMemory; 39 ReadFault, standard input can't be read;
-     40 WriteFault, standard output can't be written
+  1  a fault, told on standard error as `pdcgw: N NAME`: 1 NoMemory; 39 ReadFault, standard input or a setup file can't be
+     read, or a port can't be bound; 40 WriteFault, standard output can't be written; 37 BadSetup, and any other by which
+     an edit of a setup is refused
   2  other words than those above, or help; this text goes to standard error
 
-`pdcgw replay --help` tells the lines of a script and the answers to them.";
+`pdcgw replay --help` tells the lines of a script and the answers to them, `pdcgw run --help` the keys of a setup file.";
 
 /// Of `replay`.
 pub const REPLAY: &str = "\
@@ -73,3 +74,31 @@ Answers:
   rest HEX, reply HEX, frame GAP HEX, pending N
                            of queue: what is left of the frame in hand, the answers to commands, each data frame with the
                            number of those lost directly before it, and the number of those lost after them";
+
+/// Of `run`.
+pub const RUN: &str = "\
+The edits of the setup are done, the ports of the subscribers are bound, and then sources are called and subscribers are
+served, in C37.118.2 over TCP. Lines of an operator, as in `pdcgw replay --help`, are read from standard input, and the answers
+to them are written to standard output. The line `quit` ends the program with status 0; it goes on where standard input ends.
+A PMU or subscriber that a line adds has no socket until the next start.
+
+A setup file is TOML:
+  tick_ms                  milliseconds from tick to tick, 1 to 1000; 10 where not given
+  ingest, serve            threads that call sources, and that serve subscribers: 1 to 8; 1 where not given
+  [[pmu]]                  a PMU, registered in the order of the file
+    id                     its number: 1 to 65534
+    source                 the number of its source: 1 to 65534; as `id` where not given
+    connect                the text A.B.C.D:PORT, where its source is called; once for each source
+  [[subscriber]]           a subscriber
+    id                     its number: 1 to 65535
+    port                   where it connects, 1 to 65535; nowhere where not given. The port is bound on all addresses
+    ring                   at most so many data frames wait for it: 1 to 1024
+    bytes                  at most so many bytes of them: 16 to 16777216, which is the value where not given
+    grants                 a list of PMUs, each a number N, which is N/N, or a text \"S/N\"
+  [[subscriber.stream]]    a stream of it
+    id, rate, base, wait, window
+                           STREAM, RATE, BASE, WAIT and WINDOW of a line `define`
+    header                 the text of its HDR frame; empty where not given
+    members                a list of 1 to 32 PMUs, as the grants
+
+A subscriber sends commands for its streams: 1 stop, 2 start, 3 send the header, 4 CFG-1, 5 CFG-2.";

@@ -2,14 +2,21 @@
 #![tactic(auto)]
 
 mod help;
+mod operator;
+mod run;
+mod workers;
 
 use clap::error::ErrorKind;
-use clap::{ArgMatches, Command};
+use clap::{Arg, ArgMatches, Command};
 use pg_replay::{Fault, replay};
+use pg_wire::Refusal;
 use std::alloc::{AllocError, Global};
-use std::io::BufWriter;
+use std::io::{BufWriter, StdinLock};
+use std::net::{Net, TcpListener, TcpStream};
 use std::process::ExitCode;
-use std::rt::Env;
+use std::rt::{Clock, Env, Files};
+use std::sync::Wait;
+use std::thread::Threads;
 use std::{env, io};
 
 /// The program's own words.
@@ -17,17 +24,27 @@ fn program<'a>(alloc: Global) -> Result<Command<'a>, AllocError> {
     let replay = Command::new(alloc, "replay")
         .about("Answers the lines of a script")
         .after_help(help::REPLAY);
+    let setup = Arg::new(alloc, "setup")
+        .long("setup")
+        .value_name("FILE")
+        .help("The setup file")
+        .required(true);
+    let run = Command::new(alloc, "run")
+        .about("Serves sources and subscribers over TCP")
+        .after_help(help::RUN)
+        .arg(setup)?;
     Command::new(alloc, "pdcgw")
         .about("A phasor data concentrator gateway for many subscribers")
         .after_help(help::PROGRAM)
         .subcommand_required(true)
-        .subcommand(replay)
+        .subcommand(replay)?
+        .subcommand(run)
 }
 
 /// What the program comes to.
 enum Outcome {
     Done,
-    Failed(Fault),
+    Failed(Refusal),
     /// `clap` refuses the words, and says why.
     Misused(clap::Error),
     /// The arguments can't be had as text, or name no work.
@@ -35,14 +52,32 @@ enum Outcome {
 }
 
 /// Does what the words ask for.
-fn do_words<R: Input + Print + Alloc<A = Global>>(rt: &R, matches: &ArgMatches<'_>) -> Outcome {
-    let done = match matches.subcommand_name() {
-        Some("replay") => replay_input(rt),
+fn do_words<R>(rt: &R, matches: &ArgMatches<'_>) -> Outcome
+where
+    R: Files
+        + Input<Reader = StdinLock<'static>>
+        + Print
+        + Clock
+        + Net<Listener = TcpListener, Stream = TcpStream>
+        + Threads
+        + Wait
+        + Sync
+        + Alloc<A = Global>,
+{
+    let Some((work, words)) = matches.subcommand() else {
+        return Outcome::Unread;
+    };
+    let done = match (work, words.get_str("setup")) {
+        ("run", Some(file)) => run::run(rt, file),
+        ("replay", _) => match replay_input(rt) {
+            Ok(()) => Ok(()),
+            Err(fault) => Err(fault.refusal()),
+        },
         _ => return Outcome::Unread,
     };
     match done {
         Ok(()) => Outcome::Done,
-        Err(fault) => Outcome::Failed(fault),
+        Err(refusal) => Outcome::Failed(refusal),
     }
 }
 
@@ -55,26 +90,38 @@ fn replay_input<R: Input + Print + Alloc<A = Global>>(rt: &R) -> Result<(), Faul
     replay(alloc, rt.reader(), &mut out)
 }
 
-fn outcome_of<R: Input + Print + Env + Alloc<A = Global>>(rt: &R) -> Outcome {
+fn outcome_of<R>(rt: &R) -> Outcome
+where
+    R: Files
+        + Input<Reader = StdinLock<'static>>
+        + Print
+        + Env
+        + Clock
+        + Net<Listener = TcpListener, Stream = TcpStream>
+        + Threads
+        + Wait
+        + Sync
+        + Alloc<A = Global>,
+{
     let alloc = rt.alloc();
     let words: Vec<String> = match env::args(rt) {
         Ok(args) => match args.collect(alloc) {
             Ok(words) => words,
-            Err(_) => return Outcome::Failed(Fault::NoMemory),
+            Err(_) => return Outcome::Failed(Refusal::NoMemory),
         },
         Err(e) if e.kind() == io::ErrorKind::OutOfMemory => {
-            return Outcome::Failed(Fault::NoMemory);
+            return Outcome::Failed(Refusal::NoMemory);
         }
         Err(_) => return Outcome::Unread,
     };
     let command = match program(alloc) {
         Ok(command) => command,
-        Err(_) => return Outcome::Failed(Fault::NoMemory),
+        Err(_) => return Outcome::Failed(Refusal::NoMemory),
     };
     match command.try_get_matches_from(words.as_slice()) {
         Ok(matches) => do_words(rt, &matches),
         Err(error) => match error.kind() {
-            ErrorKind::OutOfMemory => Outcome::Failed(Fault::NoMemory),
+            ErrorKind::OutOfMemory => Outcome::Failed(Refusal::NoMemory),
             _ => Outcome::Misused(error),
         },
     }
@@ -83,8 +130,7 @@ fn outcome_of<R: Input + Print + Env + Alloc<A = Global>>(rt: &R) -> Outcome {
 fn main(rt: HostRuntime) -> ExitCode {
     match outcome_of(&rt) {
         Outcome::Done => ExitCode::SUCCESS,
-        Outcome::Failed(fault) => {
-            let refusal = fault.refusal();
+        Outcome::Failed(refusal) => {
             let _ = eprintln!(rt; "pdcgw: {} {}", refusal.number(), refusal.name());
             ExitCode::from(1)
         }

@@ -10,7 +10,7 @@ use std::rt::Files;
 use std::{fs, io};
 
 /// The rows.
-const ROWS: [&str; 35] = [
+const ROWS: [&str; 36] = [
     "first-path",
     "two-subscribers",
     "stored-run",
@@ -43,6 +43,7 @@ const ROWS: [&str; 35] = [
     "shared-frame-1",
     "shared-frame-2",
     "shared-frame-3",
+    "hostile-bytes",
     "forms-of-lines",
     "lines-of-bytes",
     "last-line",

@@ -1,5 +1,5 @@
 -- Events for all that need no copies, and what the gateway is after events for all.
-use Rattle.std.proofs.Common.{◌≡◌, ℕ, ◌≤◌, Bool, true, false, if◌then◌else◌, List, [], ◌∷◌, Some, None, refl, ap, subst, inl}
+use Rattle.std.proofs.Common.{◌≡◌, ℕ, ◌≤◌, Bool, true, false, if◌then◌else◌, List, [], ◌∷◌, Some, None, refl, sym, ap, subst, inl, true≢false, ◌∙◌}
 use Rattle.std.specs.Map.{remove_entry}
 use Rattle.pg_wire.specs.declared.refusal.Refusal.TheVariants.{NoSuchPmu}
 use Rattle.pg_wire.specs.declared.ids.PmuKey.{PmuKey}
@@ -20,18 +20,22 @@ seats-map P Q f [] all = tt
 seats-map P Q f (x ∷ xs) all = (f x.1 all.0, seats-map P Q f xs all.1)
 
 pub awaits_tick : (soc : ℕ) (v : SeatValue) → HasNone v → Awaits (ticks soc) v
-awaits_tick soc v none = record { fit = tt; laid = record { blocks = none.blocks; configs = none.configs } }
+awaits_tick soc v none = record { fit = tt; laid = record { blocks = none.0.blocks; configs = none.0.configs }; spared = λ is. absurd (true≢false (sym is ∙ none.1)) }
 
 pub awaits_revoke : (key : PmuKey) (v : SeatValue) → HasNone v → Awaits (revokes key) v
-awaits_revoke key v none = record { fit = fits (grants.has_key v.subscriber.own.grants key); laid = lays (grants.has_key v.subscriber.own.grants key) }
+awaits_revoke key v none = record {
+  fit = fits (grants.has_key v.subscriber.own.grants key);
+  laid = lays (grants.has_key v.subscriber.own.grants key);
+  spared = λ is. absurd (true≢false (sym is ∙ none.1));
+}
   where
     fits : (b : Bool) → IsFit v.subscriber (if b then Some (event.revoke key) else None)
     fits true = tt
     fits false = tt
 
     lays : (b : Bool) → IsLaid v.subscriber (if b then Some (event.revoke key) else None)
-    lays true = record { blocks = none.blocks; configs = none.configs }
-    lays false = none
+    lays true = record { blocks = none.0.blocks; configs = none.0.configs }
+    lays false = none.0
 
 pub dropped_none : (key : PmuKey) (S : Shared) (v : GatewayValue) → GatewayShows v S → has_key S.pmus key ≡ false → Steps S (drop_pmu key) (tells (refused NoSuchPmu)) v
 dropped_none key S v shown none = record { may = rw none refl; shows = rw none (record { pmus = shown.pmus; subs = shown.subs; last_tick = shown.last_tick }) }

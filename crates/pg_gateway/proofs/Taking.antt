@@ -117,12 +117,14 @@ fit_same : (v w : SubscriberValue) (o : Option Happening) → w.own ≡ v.own �
 fit_same v w None same fit = tt
 fit_same v w (Some x) same fit = subst (λ own. IsFor own x) (sym same) fit
 
-pub awaits_laid : (o : Offer) (v w : SeatValue) → w.subscriber.own ≡ v.subscriber.own → Fits o v → IsLaid w.subscriber (share o v.subscriber.own.grants) → Awaits o w
-awaits_laid o v w same fit laid =
+pub awaits_laid : (o : Offer) (v w : SeatValue) → w.subscriber.own ≡ v.subscriber.own → Fits o v → IsLaid w.subscriber (share o v.subscriber.own.grants)
+    → (w.spared ≡ true → share o v.subscriber.own.grants ≡ None) → Awaits o w
+awaits_laid o v w same fit laid spared =
     let grants : v.subscriber.own.grants ≡ w.subscriber.own.grants = ap (λ (own : Own). own.grants) (sym same) in
     record {
       fit = subst (λ g. IsFit w.subscriber (share o g)) grants (fit_same v.subscriber w.subscriber (share o v.subscriber.own.grants) same fit);
       laid = subst (λ g. IsLaid w.subscriber (share o g)) grants laid;
+      spared = λ is. subst (λ g. share o g ≡ None) grants (spared is);
     }
 
 pub shows_kept : (v w : SeatValue) (s : Seat) → w.subscriber.own ≡ v.subscriber.own → w.audit ≡ v.audit → SeatShows v s → SeatShows w s

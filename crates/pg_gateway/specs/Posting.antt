@@ -1,8 +1,20 @@
 -- Which replies may come to which events, by their form.
+use Rattle.std.specs.Prelude.{◌≡◌, List, [], ◌∷◌, ◌++◌, Option, Some, None}
 use Rattle.pg_gateway.specs.declared.event.Event.{Event}
 use Rattle.pg_gateway.specs.declared.event.Event.TheVariants as event
 use Rattle.pg_gateway.specs.declared.event.Reply.{Reply}
 use Rattle.pg_gateway.specs.Taking.{IsPlain, KeepsBuffer}
+use Rattle.pg_gateway.specs.Occurrences.{Occurrence, Answer}
+
+-- an event and what it was answered
+abbrev pub Posted : Type 0
+Posted = Occurrence × Answer
+
+-- What was posted grows by these, where the gate tells it.
+abbrev pub Notes : Option (List Posted) → Option (List Posted) → List Posted → Type 0
+Notes None new more = Unit {0}
+Notes (Some before) None more = ⊥
+Notes (Some before) (Some after) more = after ≡ before ++ more
 
 -- Just a drain is answered with its buffer: as long as it was, and past what was handed out as it was.
 abbrev pub Answers : Event → Reply → Type 0

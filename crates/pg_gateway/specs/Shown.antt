@@ -1,5 +1,5 @@
 -- What is kept of the gateway, what it shows of the shared machine, and one step of the two.
-use Rattle.std.specs.Prelude.{◌≡◌, ◌≤◌, ℕ, List, length, Option}
+use Rattle.std.specs.Prelude.{◌≡◌, ◌≤◌, ℕ, Bool, List, length, Option}
 use Rattle.pg_registry.specs.Registered.{Pmus}
 use Rattle.pg_audit.specs.Noting as audit
 use Rattle.pg_audit.specs.Noting.{AuditValue}
@@ -10,9 +10,11 @@ use Rattle.pg_gateway.specs.Sharing.{Seat}
 use Rattle.pg_gateway.specs.Shared.{Shared, May, next}
 use Rattle.pg_gateway.specs.Related.{Related}
 
+-- A subscriber with its audit, and whether it is spared the event that is under way, which does not concern it.
 pub record SeatValue : Type 0 where
   pub subscriber : SubscriberValue
   pub audit : AuditValue
+  pub spared : Bool
 
 pub record GatewayValue : Type 0 where
   pub pmus : Pmus

@@ -93,6 +93,7 @@ NeedsNoCopy v (Some x) = NeedsNone v x
 pub record Awaits (o : Offer) (v : SeatValue) : Type 0 where
   pub fit : IsFit v.subscriber (share o v.subscriber.own.grants)
   pub laid : IsLaid v.subscriber (share o v.subscriber.own.grants)
+  pub spared : v.spared ≡ true → share o v.subscriber.own.grants ≡ None
 
 -- One subscriber took its share.
 pub record TakesShare (o : Offer) (lost : Bool) (made kept : ℕ) (s : Seat) (v : SeatValue) : Type 0 where
@@ -116,9 +117,9 @@ abbrev pub AllSeats : (SeatValue → Type 0) → List (ℕ × SeatValue) → Typ
 AllSeats P [] = Unit {0}
 AllSeats P (e ∷ entries) = P e.1 × AllSeats P entries
 
--- no copies lie ready; its share is as it asks it to be; its share needs no copy
+-- no copies lie ready, and it is spared nothing; its share is as it asks it to be; its share needs no copy
 abbrev pub HasNone : SeatValue → Type 0
-HasNone v = HasNoCopies v.subscriber
+HasNone v = HasNoCopies v.subscriber × (v.spared ≡ false)
 
 abbrev pub Fits : Offer → SeatValue → Type 0
 Fits o v = IsFit v.subscriber (share o v.subscriber.own.grants)

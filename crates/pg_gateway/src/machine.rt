@@ -1,7 +1,8 @@
 //! The gateway as a machine that seats share, and as a gate.
 
+ghost use Rattle.std.specs.Prelude.{[], ◌∷◌, None};
 ghost use Rattle.pg_gateway.specs.Occurrences.{occurrence, told};
-ghost use Rattle.pg_gateway.specs.Posting.{Answers};
+ghost use Rattle.pg_gateway.specs.Posting.{Answers, Notes};
 ghost use Rattle.pg_gateway.specs.Shown.{Goes};
 
 use crate::event::{Event, Reply};
@@ -29,6 +30,7 @@ impl Gate for Gateway {
     fn post(&mut self, event: Event) -> Reply
         ensures goes { Goes self.old (occurrence event) (told result) self.new }
         ensures answers { Answers event result }
+        ensures posted { Notes None None ((occurrence event, told result) ∷ []) }
     {
         Gateway::step(self, event)
     }

@@ -35,6 +35,8 @@ use std::sync::Arc;
 pub(crate) struct Seat {
     pub(crate) subscriber: Subscriber,
     audit: Audit,
+    // Copies were laid for an event that does not concern it, so that it need not be looked at again.
+    spared: bool,
 }
 
 impl Model for Seat {
@@ -42,7 +44,7 @@ impl Model for Seat {
 
     ghost Value = { SeatValue };
 
-    ghost view = { λ s. record { subscriber = s.subscriber; audit = s.audit } };
+    ghost view = { λ s. record { subscriber = s.subscriber; audit = s.audit; spared = s.spared } };
 }
 
 impl Seat {
@@ -54,12 +56,13 @@ impl Seat {
         last: Option<u32>,
     ) -> Result<Seat, Refusal>
         ensures shows { IfOk result (λ s. SeatShows s (added ring bytes last)) }
-        ensures none { IfOk result (λ s. HasNoCopies s.subscriber) }
+        ensures none { IfOk result (λ s. HasNone s) }
         ensures memory { IfErr result (λ refusal. refusal ≡ Refusal.NoMemory) }
     {
         Ok(Seat {
             subscriber: Subscriber::new(alloc, ring, bytes, last)?,
             audit: Audit::new(alloc)?,
+            spared: false,
         })
     }
 
@@ -67,6 +70,7 @@ impl Seat {
     pub(crate) fn note(&mut self, what: What, code: Option<Refusal>)
         ensures shows { (s : SeatState) → SeatShows self.old s → SeatShows self.new (with_note (what, code) s) }
         ensures subscriber { self.new.subscriber ≡ self.old.subscriber }
+        ensures spared { self.new.spared ≡ self.old.spared }
     {
         self.audit.note(what, code);
     }
@@ -160,11 +164,12 @@ impl Seat {
     ) -> Result<(), Refusal>
         requires rising { IsRising event.now places.now }
         requires room { 16 ≤ vec_capacity held.old }
-        requires none { HasNoCopies self.old.subscriber }
+        requires none { HasNone self.old }
         requires fit { IsFit self.old.subscriber (share (offered event.now places.now) self.old.subscriber.own.grants) }
         ensures laid { IfOk result (λ u. IsLaid self.new.subscriber (share (offered event.now places.now) self.old.subscriber.own.grants)) }
         ensures memory { IfErr result (λ refusal. refusal ≡ Refusal.NoMemory) }
         ensures needless { NeedsNoCopy self.old.subscriber (share (offered event.now places.now) self.old.subscriber.own.grants) → IsOk result }
+        ensures spared { IfOk result (λ u. self.new.spared ≡ true → share (offered event.now places.now) self.old.subscriber.own.grants ≡ None) }
         ensures own { self.new.subscriber.own ≡ self.old.subscriber.own }
         ensures audit { self.new.audit ≡ self.old.audit }
         ensures room { 16 ≤ vec_capacity held.new }
@@ -188,16 +193,18 @@ impl Seat {
     ) -> Result<(), Refusal>
         requires rising { AreRising 0 (length config.now.parts) places.now }
         requires room { 16 ≤ vec_capacity held.old }
-        requires none { HasNoCopies self.old.subscriber }
+        requires none { HasNone self.old }
         requires fit { IsFit self.old.subscriber (share (announces (announced_at config.now places.now)) self.old.subscriber.own.grants) }
         ensures laid { IfOk result (λ u. IsLaid self.new.subscriber (share (announces (announced_at config.now places.now)) self.old.subscriber.own.grants)) }
         ensures memory { IfErr result (λ refusal. refusal ≡ Refusal.NoMemory) }
         ensures needless { NeedsNoCopy self.old.subscriber (share (announces (announced_at config.now places.now)) self.old.subscriber.own.grants) → IsOk result }
+        ensures spared { IfOk result (λ u. self.new.spared ≡ true → share (announces (announced_at config.now places.now)) self.old.subscriber.own.grants ≡ None) }
         ensures own { self.new.subscriber.own ≡ self.old.subscriber.own }
         ensures audit { self.new.audit ≡ self.old.audit }
         ensures room { 16 ≤ vec_capacity held.new }
     {
         if !hold(&self.subscriber, config, places, held) {
+            self.spared = true;
             return Ok(());
         }
         self.subscriber
@@ -214,16 +221,18 @@ impl Seat {
     ) -> Result<(), Refusal>
         requires rising { AreRising 0 (length (arc_value frame.now).config.parts) places.now }
         requires room { 16 ≤ vec_capacity held.old }
-        requires none { HasNoCopies self.old.subscriber }
+        requires none { HasNone self.old }
         requires fit { IsFit self.old.subscriber (share (measured (arc_value frame.now) places.now) self.old.subscriber.own.grants) }
         ensures laid { IfOk result (λ u. IsLaid self.new.subscriber (share (measured (arc_value frame.now) places.now) self.old.subscriber.own.grants)) }
         ensures memory { IfErr result (λ refusal. refusal ≡ Refusal.NoMemory) }
         ensures needless { NeedsNoCopy self.old.subscriber (share (measured (arc_value frame.now) places.now) self.old.subscriber.own.grants) → IsOk result }
+        ensures spared { IfOk result (λ u. self.new.spared ≡ true → share (measured (arc_value frame.now) places.now) self.old.subscriber.own.grants ≡ None) }
         ensures own { self.new.subscriber.own ≡ self.old.subscriber.own }
         ensures audit { self.new.audit ≡ self.old.audit }
         ensures room { 16 ≤ vec_capacity held.new }
     {
         if !hold_blocks(&self.subscriber, frame, places, held) {
+            self.spared = true;
             return Ok(());
         }
         self.subscriber.copies(&PrivateEvent::Measure(frame, held))?;
@@ -232,11 +241,12 @@ impl Seat {
 
     /// Gives up the copies that lie ready. Nothing else changes.
     pub(crate) fn forget(&mut self)
-        ensures none { HasNoCopies self.new.subscriber }
+        ensures none { HasNone self.new }
         ensures own { self.new.subscriber.own ≡ self.old.subscriber.own }
         ensures audit { self.new.audit ≡ self.old.audit }
     {
         self.subscriber.forget();
+        self.spared = false;
     }
 
     /// Takes its share of an event for all, if it has one: with `lost` all data frames that it makes are lost. It answers the
@@ -255,9 +265,13 @@ impl Seat {
             → TakesShare (offered event.now places.now) lost result.0 result.1 s self.new }
         ensures few { result.0 ≤ 640 }
         ensures kept { result.1 ≤ result.0 }
-        ensures none { HasNoCopies self.new.subscriber }
+        ensures none { HasNone self.new }
         ensures room { 16 ≤ vec_capacity held.new }
     {
+        if self.spared {
+            self.spared = false;
+            return (0, 0);
+        }
         match event {
             Event::DropPmu(key) => self.take_revoked(key, lost),
             Event::Announce(config) => {
@@ -277,6 +291,7 @@ impl Seat {
         ensures few { result.0 ≤ 640 }
         ensures kept { result.1 ≤ result.0 }
         ensures none { HasNoCopies self.new.subscriber }
+        ensures spared { self.new.spared ≡ self.old.spared }
     {
         if !self.subscriber.holds(*key) {
             return (0, 0);
@@ -301,6 +316,7 @@ impl Seat {
         ensures few { result.0 ≤ 640 }
         ensures kept { result.1 ≤ result.0 }
         ensures none { HasNoCopies self.new.subscriber }
+        ensures spared { self.new.spared ≡ self.old.spared }
         ensures room { 16 ≤ vec_capacity held.new }
     {
         if !hold(&self.subscriber, config, places, held) {
@@ -328,6 +344,7 @@ impl Seat {
         ensures few { result.0 ≤ 640 }
         ensures kept { result.1 ≤ result.0 }
         ensures none { HasNoCopies self.new.subscriber }
+        ensures spared { self.new.spared ≡ self.old.spared }
         ensures room { 16 ≤ vec_capacity held.new }
     {
         if !hold_blocks(&self.subscriber, frame, places, held) {

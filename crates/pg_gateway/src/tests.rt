@@ -64,12 +64,6 @@ const FRAME_8: [u8; 24] = [
     0x00, 0x00, 0x00, 0x00, 0x00, 0x01, 0x1D, 0x19,
 ];
 
-// The same with PMU 7's block and a filler for PMU 8's, without its CHK.
-const FLUSHED: [u8; 32] = [
-    0xAA, 0x02, 0x00, 0x22, 0x00, 0x65, 0x00, 0x00, 0x00, 0x64, 0x00, 0x00, 0x82, 0x35, 0x00, 0x00,
-    0x10, 0x00, 0x20, 0x00, 0x00, 0x00, 0x00, 0x00, 0x80, 0x00, 0x80, 0x00, 0x80, 0x00, 0x00, 0x00,
-];
-
 // The parts with their CHK behind them.
 fn framed(rt: &impl Abort, alloc: Global, parts: &[&[u8]]) -> Vec<u8> {
     let mut frame = Vec::new(alloc);
@@ -503,39 +497,41 @@ fn fan_out_of_512(rt: HostRuntime) {
     }
 }
 
-// Whether the subscriber's frame of an event was lost, of which this many frames were kept, one for each subscriber from 1.
-fn lost_at(rt: &impl Abort, gateway: &mut Gateway, sub: u16, kept: u64) -> u64 {
-    let lost = u64::from(u64::from(sub) > kept);
-    assert!(rt; stats(rt, gateway, sub).lost == lost);
-    match gateway.queue(subscriber(rt, sub)) {
-        Some(queue) => assert!(rt; queue.pending() == lost),
+// Takes all memory that there is, down to the last byte, until the pieces that it answers are dropped.
+fn all_memory(rt: &impl Abort, alloc: Global) -> Vec<Vec<u8>> {
+    let mut held = Vec::with_capacity(alloc, 40_000).expect(rt, "memory");
+    let mut size: usize = 1 << 46;
+    for _ in 0..40_000 {
+        if size == 0 {
+            break;
+        }
+        match Vec::with_capacity(alloc, size) {
+            Ok(piece) => assert!(rt; held.push(piece).is_ok()),
+            Err(_) => size /= 2,
+        }
+    }
+    assert!(rt; size == 0);
+    held
+}
+
+// What the gateway answers where each allocation is refused.
+fn starved(rt: &impl Abort, alloc: Global, gateway: &mut Gateway, event: Event) -> Reply {
+    let held = all_memory(rt, alloc);
+    let reply = gateway.step(event);
+    drop(held);
+    reply
+}
+
+// What is pending at a subscriber, and what it counts as lost.
+fn losses(rt: &impl Abort, gateway: &mut Gateway, sub: u16) -> (u64, u64) {
+    let pending = match gateway.queue(subscriber(rt, sub)) {
+        Some(queue) => queue.pending(),
         None => panic!(rt; "nobody"),
-    }
-    lost
+    };
+    (pending, stats(rt, gateway, sub).lost)
 }
 
-// A subscriber is handed the frame at numerator 66,667, behind the one at 33,333 or behind its loss.
-fn drains_later(rt: &impl Abort, alloc: Global, gateway: &mut Gateway, sub: u16, lost: u64) {
-    let mut later = FRAME_7;
-    later[11] = 0x01;
-    later[12] = 0x04;
-    later[13] = 0x6B;
-    let later = framed(rt, alloc, &[&later[..24]]);
-    if lost == 0 {
-        drains(
-            rt,
-            alloc,
-            gateway,
-            sub,
-            &both(rt, alloc, &FRAME_7, &later),
-            0,
-        );
-    } else {
-        drains(rt, alloc, gateway, sub, &later, 1);
-    }
-}
-
-// Row loss-reaches-later-subscribers, whatever number of frames finds memory: with all, none is lost.
+// Row loss-reaches-later-subscribers. The place of one composition is all the memory that the frame finds.
 #[test]
 fn loss_reaches_later_subscribers(rt: HostRuntime) {
     let alloc = rt.alloc();
@@ -546,21 +542,31 @@ fn loss_reaches_later_subscribers(rt: HostRuntime) {
         command(&rt, &mut gateway, sub, 101, 2);
     }
     let frame = frame_7(&rt, alloc, &config);
-    let (made, kept) = counts(&rt, gateway.step(frame));
-    assert!(rt; made == 3);
-    let lost = [
-        lost_at(&rt, &mut gateway, 1, kept),
-        lost_at(&rt, &mut gateway, 2, kept),
-        lost_at(&rt, &mut gateway, 3, kept),
-    ];
-    let later = measured(&rt, alloc, &config, 100, 66_667, &DATA_7);
-    done(&rt, &mut gateway, later, 3);
-    for sub in 1..=3 {
-        drains_later(&rt, alloc, &mut gateway, sub, lost[usize::from(sub) - 1]);
-    }
+    let place: Vec<u8> = Vec::with_capacity(alloc, FRAME_7.len()).expect(&rt, "memory");
+    let held = all_memory(&rt, alloc);
+    drop(place);
+    let reply = gateway.step(frame);
+    drop(held);
+    assert!(&rt; counts(&rt, reply) == (3, 1));
+    assert!(&rt; losses(&rt, &mut gateway, 1) == (0, 0));
+    assert!(&rt; losses(&rt, &mut gateway, 2) == (1, 1));
+    assert!(&rt; losses(&rt, &mut gateway, 3) == (1, 1));
+    done(
+        &rt,
+        &mut gateway,
+        measured(&rt, alloc, &config, 100, 66_667, &DATA_7),
+        3,
+    );
+    let mut later = FRAME_7;
+    later[11..14].copy_from_slice(&[0x01, 0x04, 0x6B]);
+    let later = framed(&rt, alloc, &[&later[..24]]);
+    let expected = both(&rt, alloc, &FRAME_7, &later);
+    drains(&rt, alloc, &mut gateway, 1, &expected, 0);
+    drains(&rt, alloc, &mut gateway, 2, &later, 1);
+    drains(&rt, alloc, &mut gateway, 3, &later, 1);
 }
 
-// Row reply-without-memory, with or without memory for the reply.
+// Row reply-without-memory.
 #[test]
 fn reply_without_memory(rt: HostRuntime) {
     let alloc = rt.alloc();
@@ -572,22 +578,21 @@ fn reply_without_memory(rt: HostRuntime) {
         stream: 101,
         word: 5,
     };
-    let without = match gateway.step(Event::Command(sub, asked)) {
-        Reply::Done { .. } => 0,
-        Reply::Refused(refusal) => refusal.number(),
-        _ => panic!(rt; "another reply"),
-    };
-    assert!(rt; without < 2);
+    match starved(&rt, alloc, &mut gateway, Event::Command(sub, asked)) {
+        Reply::Refused(refusal) => assert!(&rt; refusal == Refusal::NoMemory),
+        _ => panic!(&rt; "not refused"),
+    }
     match gateway.step(Event::Audit(sub, 0)) {
         Reply::Audit(Some(entry)) => {
-            assert!(rt; entry.what.number() == 8);
-            assert!(rt; entry.result_number() == without);
+            assert!(&rt; entry.what.number() == 8);
+            assert!(&rt; entry.result_number() == 1);
         }
-        _ => panic!(rt; "no entry"),
+        _ => panic!(&rt; "no entry"),
     }
-    assert!(rt; stats(&rt, &mut gateway, 1).by_reason[1] == u64::from(without));
-    let expected = if without == 0 { &EMPTY_REPLY[..] } else { &[] };
-    drains(&rt, alloc, &mut gateway, 1, expected, 0);
+    assert!(&rt; stats(&rt, &mut gateway, 1).by_reason[1] == 1);
+    drains(&rt, alloc, &mut gateway, 1, &[], 0);
+    command(&rt, &mut gateway, 1, 101, 5);
+    drains(&rt, alloc, &mut gateway, 1, &EMPTY_REPLY, 0);
 }
 
 // A connected subscriber 1 with stream 101 of PMUs 7 and 8 and wait 2, on; a block of PMU 7 waits in it.
@@ -609,19 +614,33 @@ fn with_open_slot(rt: &impl Abort, alloc: Global) -> Gateway {
     gateway
 }
 
-// Row loss-in-a-flush: a PMU is dropped while a slot is open, with or without memory for the frame of the flush.
+// After an event whose flush finds no memory for its frame, CFG-2 is this.
+fn loses_in_a_flush(rt: &impl Abort, alloc: Global, event: Event, expected: &[u8]) {
+    let mut gateway = with_open_slot(rt, alloc);
+    let reply = starved(rt, alloc, &mut gateway, event);
+    assert!(rt; counts(rt, reply) == (1, 0));
+    assert!(rt; losses(rt, &mut gateway, 1) == (1, 1));
+    lists(rt, alloc, &mut gateway, expected);
+}
+
+// Row loss-in-a-flush: a PMU is dropped, a grant revoked, and a configuration changed all the same.
 #[test]
 fn loss_in_a_flush(rt: HostRuntime) {
     let alloc = rt.alloc();
-    let mut gateway = with_open_slot(&rt, alloc);
-    let (made, kept) = counts(&rt, gateway.step(Event::DropPmu(key(&rt, 8))));
-    assert!(rt; made == 1);
-    let lost = lost_at(&rt, &mut gateway, 1, kept);
-    let reply = config_reply(&rt, alloc, 1);
-    if lost == 1 {
-        lists(&rt, alloc, &mut gateway, &reply);
-    } else {
-        let frame = framed(&rt, alloc, &[&FLUSHED]);
-        lists(&rt, alloc, &mut gateway, &both(&rt, alloc, &reply, &frame));
-    }
+    let alone = config_reply(&rt, alloc, 1);
+    loses_in_a_flush(&rt, alloc, Event::DropPmu(key(&rt, 8)), &alone);
+    let revoked = Event::Revoke(subscriber(&rt, 1), key(&rt, 8));
+    loses_in_a_flush(&rt, alloc, revoked, &alone);
+    let mut block = BLOCK_7;
+    block[4] = b'X';
+    let changed = source(&rt, alloc, &[&HEAD_7, &block, &RATE]);
+    block[49] = 1;
+    let mut head = REPLY_7;
+    head[2..4].copy_from_slice(&[0x01, 0x6C]);
+    head[19] = 2;
+    let mut tail = TAIL_8;
+    tail[7] = 1;
+    let names = [b' '; 256];
+    let listed = framed(&rt, alloc, &[&head, &block, &BLOCK_8, &names, &tail, &RATE]);
+    loses_in_a_flush(&rt, alloc, Event::Announce(changed), &listed);
 }

@@ -1,5 +1,5 @@
 -- What a call of a link leaves held.
-use Rattle.std.proofs.Common.{ℕ, ◌<◌, length}
+use Rattle.std.proofs.Common.{◌<◌, length}
 use Rattle.pg_ingest.specs.declared.link.LinkEvent.{LinkEvent}
 use Rattle.pg_ingest.specs.declared.link.LinkEvent.TheVariants.{Announce, Measure, Ignored, Ended, More}
 use Rattle.pg_ingest.specs.Items.{Item}

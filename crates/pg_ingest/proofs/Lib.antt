@@ -3,3 +3,7 @@ pub mod Owing
 pub mod Holding
 pub mod Telling
 pub mod Past
+pub mod Known
+pub mod Stepping
+pub mod Turns
+pub mod Serving

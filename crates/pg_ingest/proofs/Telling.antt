@@ -25,7 +25,7 @@ use Rattle.pg_ingest.specs.Shown.{LinkPast, Shows, IsAllTold, doing, told_before
 use Rattle.pg_ingest.specs.Links.{IsEventOf, GivesOf, Counts}
 use Rattle.pg_ingest.proofs.Owing.{asking_told, asking_given, word_owed}
 
-told_in-append : (acts more : List Act) → told_in (acts ++ more) ≡ told_in acts ++ told_in more
+pub told_in-append : (acts more : List Act) → told_in (acts ++ more) ≡ told_in acts ++ told_in more
 told_in-append [] more = refl
 told_in-append (tells item ∷ acts) more = ap (λ items. item ∷ items) (told_in-append acts more)
 told_in-append (asks word ∷ acts) more = told_in-append acts more

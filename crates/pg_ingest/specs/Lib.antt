@@ -7,3 +7,9 @@ pub mod Linking
 pub mod Shown
 pub mod Reading
 pub mod Links
+pub mod Pendings
+pub mod Runs
+pub mod Ends
+pub mod Turning
+pub mod Served
+pub mod Begun

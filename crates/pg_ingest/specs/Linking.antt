@@ -42,10 +42,11 @@ pub record Linking : Type 0 where
   pub known : Option Source
   pub asking : Asking
   pub stats : PmuStats
+  pub left : List ℕ
 
 -- a link that was fed nothing, with these counters
 abbrev pub unfed : ℕ → PmuStats → Linking
-unfed source stats = record { source = source; bytes = fresh; known = None; asking = asking_of []; stats = stats }
+unfed source stats = record { source = source; bytes = fresh; known = None; asking = asking_of []; stats = stats; left = [] }
 
 abbrev pub heard : Linking → List ℕ → Linking
 heard v piece = record v { bytes = fed v.bytes piece }

@@ -2,12 +2,19 @@
 #![tactic(auto)]
 
 mod asking;
+pub mod fakes;
 mod laws;
 mod link;
+mod pending;
+mod run;
 mod told;
 
-pub use laws::{command_is_owed, told_goes_on, told_is_a_function, told_is_own};
+pub use laws::{
+    calls_are_one_run, calls_serve_the_source, command_is_owed, told_goes_on, told_is_a_function,
+    told_is_own, words_are_due,
+};
 pub use link::{Link, LinkEvent};
+pub use run::{End, run_link};
 
 #[cfg(test)]
 mod tests;

@@ -1,14 +1,16 @@
 //! The link to a source.
 
-ghost use Rattle.std.specs.Prelude.{◌≡◌, ◌+◌, ◌≤◌, ◌<◌, ◌++◌, length, IfOk, IfErr, IfNone, OnSome};
+ghost use Rattle.std.specs.Prelude.{◌≡◌, ◌+◌, ◌≤◌, ◌<◌, ◌++◌, [], true, false, length, drop, IfOk, IfErr, IfNone, OnSome};
 ghost use Rattle.pg_ingest.specs.Reading.{item_told, IsPaired};
 ghost use Rattle.pg_ingest.specs.Commands.{told_in};
 ghost use Rattle.pg_ingest.specs.Linking.{unfed, heard, after_item, stats_of, ignoring, words_owed};
 ghost use Rattle.pg_ingest.specs.Shown.{LinkPast, beginning, feeding, renewed, Shows, command_due, commanding};
+ghost use Rattle.pg_ingest.specs.Begun.{Begins};
 ghost use Rattle.pg_ingest.specs.Links.{IsEventOf, Gives, Holds, Counts};
 ghost use Rattle.pg_audit.specs.Counting.{no_pmu_stats};
 
 use crate::asking::Asking;
+use crate::pending::Pending;
 use crate::told::{Told, tell};
 use pg_audit::PmuStats;
 use pg_command::write_command;
@@ -47,6 +49,7 @@ pub struct Link {
     known: Option<Arc<SourceConfig>>,
     asking: Asking,
     stats: PmuStats,
+    pending: Pending,
 }
 
 impl Model for Link {
@@ -54,10 +57,11 @@ impl Model for Link {
     ghost use Rattle.std.specs.Arc.{arc_value};
     ghost use Rattle.pg_ingest.specs.Linking.{Linking};
     ghost use Rattle.pg_wire.specs.Held.{IsHeld};
+    ghost use Rattle.pg_ingest.specs.Pendings.{left_of};
 
     ghost Value = { Linking };
 
-    ghost view = { λ l. record { source = l.source; bytes = l.deframer; known = option_map arc_value l.known; asking = l.asking; stats = l.stats } };
+    ghost view = { λ l. record { source = l.source; bytes = l.deframer; known = option_map arc_value l.known; asking = l.asking; stats = l.stats; left = left_of l.pending } };
 
     ghost invariant = { λ l. IsHeld l.deframer };
 }
@@ -76,6 +80,7 @@ impl Link {
             known: None,
             asking: Asking::new(),
             stats: PmuStats::new(),
+            pending: Pending::none(),
         })
     }
 
@@ -109,6 +114,7 @@ impl Link {
         ensures holds { Holds self.old result self.new }
         ensures counts { Counts self.old.stats result self.new.stats }
         ensures same { self.new.source ≡ self.old.source }
+        ensures left { self.new.left ≡ self.old.left }
     {
         match self.deframer.next() {
             Taken::Frame(frame) => {
@@ -171,6 +177,38 @@ impl Link {
         Some(write_command(self.source, 0, word.number()))
     }
 
+    /// What is left to write of a command that was begun.
+    pub(crate) fn left(&self) -> &[u8]
+        ensures { result.now ≡ self.now.left }
+    {
+        self.pending.left()
+    }
+
+    /// So many bytes of what is left were written.
+    pub(crate) fn send(&mut self, size: usize)
+        requires { size ≤ length self.old.left }
+        ensures { self.new ≡ record self.old { left = drop size self.old.left } }
+    {
+        self.pending.send(size);
+    }
+
+    /// Begins the next command that the source is owed, if any: all of it is left to write.
+    pub(crate) fn begin(&mut self) -> bool
+        requires { self.old.left ≡ [] }
+        ensures begins { (past : LinkPast) → Shows self.old past → Begins past self.new result }
+        ensures fewer { result ≡ true → words_owed self.new < words_owed self.old }
+        ensures held { self.new.bytes ≡ self.old.bytes }
+        ensures none { result ≡ false → self.new ≡ self.old }
+    {
+        match self.next_out() {
+            Some(frame) => {
+                self.pending = Pending::of(frame);
+                true
+            }
+            None => false,
+        }
+    }
+
     /// Starts anew, as on a new connection: without a configuration, with command 5 owed, and without the bytes of a frame
     /// that had begun. The counters stay, and so does its memory.
     pub fn reset(&mut self)
@@ -180,6 +218,7 @@ impl Link {
         self.deframer.reset();
         self.known = None;
         self.asking = Asking::new();
+        self.pending = Pending::none();
     }
 
     /// What it counted since it was new: the events that it gave, and the frames that it ignored by their reason.

@@ -2,11 +2,12 @@
 //! other subscribers queue the same for a subscriber, and hand it the same bytes.
 #![tactic(auto)]
 
-ghost use Rattle.std.specs.Prelude.{◌≡◌, ◌≤◌, IfOk, IfErr};
+ghost use Rattle.std.specs.Prelude.{◌≡◌, ◌≤◌, ◌⊎◌, Some, None, IfOk, IfErr};
 ghost use Rattle.pg_serve.specs.Inputs.{facts, outcomes};
 ghost use Rattle.pg_serve.specs.Shown.{queue_shown};
 ghost use Rattle.pg_serve.specs.Full.{HasAnswered, AllLossless, Headline, handed_over};
 ghost use Rattle.pg_serve.specs.Others.{without_others, adds_in};
+ghost use Rattle.pg_serve.specs.Beside.{SeeAlike, ServesAlike, StandsBeside};
 
 use pg_ring::OutQueue;
 use pg_serve::{Input, Output, World, neighbours_change_nothing};
@@ -27,6 +28,8 @@ pub fn run_anew(alloc: Global, inputs: &[Input]) -> Result<Ran, Refusal>
     ensures answers { IfOk result (λ ran. HasAnswered ran.world (facts inputs.now) (outcomes ran.outputs.items)) }
     ensures isolates { IfOk result (λ ran. AllLossless (outcomes ran.outputs.items)
         → Headline ran.world (facts inputs.now) (outcomes ran.outputs.items)) }
+    ensures beside { IfOk result (λ ran. AllLossless (outcomes ran.outputs.items)
+        → StandsBeside ran.world (facts inputs.now) (outcomes ran.outputs.items)) }
     ensures memory { IfErr result (λ refusal. refusal ≡ Refusal.NoMemory) }
 {
     let mut world = World::new(alloc)?;
@@ -43,9 +46,10 @@ pub struct Pair {
     pub other: Ran,
 }
 
-/// Runs two lists of inputs, each in a world of its own. Where they differ only in inputs that name other subscribers, neither
-/// adds subscribers more than 64 times, and no output tells a loss or want of memory, the subscriber's queue shows the same in
-/// both worlds, and both handed it the same. The one refusal is `NoMemory`.
+/// Runs two lists of inputs, each in a world of its own, and no output tells a loss or want of memory. Where they differ only in
+/// inputs that name other subscribers, and neither adds subscribers more than 64 times, the subscriber's queue shows the same in
+/// both worlds, and both handed it the same. So it is too where their data frames differ in blocks alone that the subscriber is
+/// not granted. The one refusal is `NoMemory`.
 pub fn compare(alloc: Global, sub: SubId, mine: &[Input], other: &[Input]) -> Result<Pair, Refusal>
     ensures mine { IfOk result (λ pair. HasAnswered pair.mine.world (facts mine.now) (outcomes pair.mine.outputs.items)) }
     ensures other { IfOk result (λ pair. HasAnswered pair.other.world (facts other.now) (outcomes pair.other.outputs.items)) }
@@ -60,18 +64,31 @@ pub fn compare(alloc: Global, sub: SubId, mine: &[Input], other: &[Input]) -> Re
         → without_others sub (facts mine.now) ≡ without_others sub (facts other.now)
         → handed_over sub (facts mine.now) (outcomes pair.mine.outputs.items)
         ≡ handed_over sub (facts other.now) (outcomes pair.other.outputs.items)) }
+    ensures shared { IfOk result (λ pair. AllLossless (outcomes pair.mine.outputs.items)
+        → AllLossless (outcomes pair.other.outputs.items)
+        → SeeAlike sub (facts mine.now) (facts other.now)
+        → ServesAlike sub pair.mine.world (facts mine.now) (outcomes pair.mine.outputs.items)
+        pair.other.world (facts other.now) (outcomes pair.other.outputs.items)) }
+    ensures memory { IfErr result (λ refusal. refusal ≡ Refusal.NoMemory) }
 {
     neighbours_change_nothing();
     let first = run_anew(alloc, mine)?;
-    let second = run_anew(alloc, other)?;
-    Ok(Pair {
-        mine: first,
-        other: second,
-    })
+    match run_anew(alloc, other) {
+        Ok(second) => Ok(Pair {
+            mine: first,
+            other: second,
+        }),
+        Err(refusal) => Err(refusal),
+    }
 }
 
-/// What waits for the subscriber in both worlds: the same, where their queues show the same. The one refusal is `NoSuchSub`.
+/// What waits for the subscriber in both worlds: the same, where their queues show the same. The one refusal is `NoSuchSub`,
+/// where it isn't there in one of them.
 pub fn queues(pair: &Pair, sub: SubId) -> Result<(&OutQueue, &OutQueue), Refusal>
+    ensures mine { IfOk result (λ both. queue_shown sub pair.now.mine.world ≡ Some both.0.now) }
+    ensures other { IfOk result (λ both. queue_shown sub pair.now.other.world ≡ Some both.1.now) }
+    ensures refused { IfErr result (λ refusal. (refusal ≡ Refusal.NoSuchSub)
+        × ((queue_shown sub pair.now.mine.world ≡ None) ⊎ (queue_shown sub pair.now.other.world ≡ None))) }
     ensures same { IfOk result (λ both. queue_shown sub pair.now.mine.world ≡ queue_shown sub pair.now.other.world
         → both.0.now ≡ both.1.now) }
 {

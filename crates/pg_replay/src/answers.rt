@@ -19,7 +19,7 @@ use std::io::Write;
 
 /// Why an answer was not printed.
 #[derive(Clone, Copy, Debug, PartialEq, Eq)]
-pub(crate) enum NotPrinted {
+pub enum NotPrinted {
     /// There was no memory for its text.
     NoMemory,
     /// It can't be written.
@@ -93,11 +93,11 @@ fn print_commands<W: Write>(alloc: Global, out: &mut W, bytes: &[u8]) -> Result<
 }
 
 /// Prints a line that tells a refusal, behind this word.
-pub(crate) fn print_refusal<W: Write>(
-    out: &mut W,
-    word: &str,
-    refusal: Refusal,
-) -> Result<(), NotPrinted>
+///
+/// # Errors
+///
+/// `Write`, where the line can't be written.
+pub fn print_refusal<W: Write>(out: &mut W, word: &str, refusal: Refusal) -> Result<(), NotPrinted>
     ensures prints { OnOk result (Appends (W.contents out.old) (W.contents out.new) (refusal_line word.now refusal)) }
 {
     writeln!(out, "{} {} {}", word, refusal.number(), refusal.name())?;
@@ -105,7 +105,11 @@ pub(crate) fn print_refusal<W: Write>(
 }
 
 /// Prints the line of a reply.
-fn print_reply<W: Write>(alloc: Global, out: &mut W, reply: &Reply) -> Result<(), NotPrinted>
+///
+/// # Errors
+///
+/// `NoMemory`, where there is none for the bytes of a drain in hexadecimal; `Write`, where the line can't be written.
+pub fn print_reply<W: Write>(alloc: Global, out: &mut W, reply: &Reply) -> Result<(), NotPrinted>
     ensures prints { OnOk result (Appends (W.contents out.old) (W.contents out.new) (answer_line (told reply.now))) }
 {
     match reply {

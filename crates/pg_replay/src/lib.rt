@@ -7,4 +7,6 @@ mod script;
 #[cfg(test)]
 mod tests;
 
+pub use answers::{NotPrinted, print_refusal, print_reply};
+pub use lines::{Line, read_line, without_end};
 pub use script::{Fault, replay};

@@ -13,7 +13,7 @@ use std::alloc::Global;
 
 /// What a line of a script asks for (own rule).
 #[derive(Drop)]
-pub(crate) enum Line {
+pub enum Line {
     /// Nothing: an empty line, or a comment.
     Nothing,
     /// The world is handed this.
@@ -64,7 +64,7 @@ impl Kind {
 }
 
 /// The line without its LF and one CR before that.
-pub(crate) fn without_end(line: &[u8]) -> &[u8]
+pub fn without_end(line: &[u8]) -> &[u8]
     ensures value { result.now ≡ without_end line.now }
 {
     match line {
@@ -80,7 +80,7 @@ pub(crate) fn without_end(line: &[u8]) -> &[u8]
 /// # Errors
 ///
 /// `BadLine` where it asks for nothing that a line may; `NoMemory`.
-pub(crate) fn read_line(alloc: Global, line: &[u8]) -> Result<Line, Refusal>
+pub fn read_line(alloc: Global, line: &[u8]) -> Result<Line, Refusal>
     ensures found { IfOk result (λ l. asked_in line.now ≡ Some (asked l)) }
     ensures refused { IfErr result (λ r. (r ≡ Refusal.NoMemory) ⊎ ((r ≡ Refusal.BadLine) × (asked_in line.now ≡ None))) }
 {

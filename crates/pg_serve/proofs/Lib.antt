@@ -9,3 +9,7 @@ pub mod Belonging
 pub mod Neighbours
 pub mod Handing
 pub mod Isolating
+pub mod Besides
+pub mod Legally
+pub mod Sessions
+pub mod Gating

@@ -32,7 +32,7 @@ pub(crate) struct Core {
 fn output(alloc: Global, what: Note) -> Result<Output, AllocError>
     ensures outcome { IfOk result (λ o. outcome o ≡ record { notes = noted what ∷ []; to_pmu = [] }) }
 {
-    let mut notes = Vec::new(alloc);
+    let mut notes = Vec::with_capacity(alloc, 1)?;
     note(&mut notes, what)?;
     Ok(Output {
         notes,
@@ -102,7 +102,7 @@ impl Core {
     fn take_subscriber(&mut self, sub: SubId, bytes: &[u8]) -> Result<Output, AllocError>
         ensures takes { IfOk result (λ o. TakesInput self.old (sub_bytes sub bytes.now) (outcome o) self.new) }
     {
-        let mut notes = Vec::new(self.alloc);
+        let mut notes = Vec::with_capacity(self.alloc, 1)?;
         let broken = match self.sessions.get_mut(&sub) {
             None => {
                 let refusal = absence(&self.gateway, sub);

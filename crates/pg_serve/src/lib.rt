@@ -1,14 +1,43 @@
-//! The world: the gateway with the links of its sources and the sessions of its subscribers, over lists of inputs.
+//! The world: the gateway with the links of its sources and the sessions of its subscribers, over lists of inputs. And a
+//! gateway that threads share, the loop of a session over any reader and writer, and workers that serve sockets.
 #![tactic(auto)]
 
+mod asked;
 mod edits;
 mod feeding;
+mod gate;
 mod input;
 mod kernel;
 mod laws;
 mod line;
+#[cfg(test)]
+mod loopback_tests;
+mod seat_gate;
+mod serve;
+#[cfg(test)]
+mod serving_tests;
+mod shared;
+mod source_shell;
+mod subscriber_shell;
+#[cfg(test)]
+mod tests;
+mod ticker;
+mod work;
+#[cfg(test)]
+mod work_tests;
 mod world;
 
+pub use asked::event_of;
+pub use gate::{Named, SharedGate};
 pub use input::{Input, Note, Output};
-pub use laws::{equal_views_queue_alike, neighbours_change_nothing, own_blocks_alone};
+pub use laws::{
+    equal_views_queue_alike, neighbours_change_nothing, own_blocks_alone, serving_goes_on,
+};
+pub use seat_gate::SeatGate;
+pub use serve::serve_session;
+pub use shared::{Seat, Shared};
+pub use source_shell::{SourceCaller, SourceWorker};
+pub use subscriber_shell::{SubscriberPort, SubscriberWorker};
+pub use ticker::Ticker;
+pub use work::{Work, run_workers};
 pub use world::World;

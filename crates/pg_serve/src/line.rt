@@ -51,7 +51,7 @@ impl Line {
         ensures takes { IfOk result (λ o. (S : Shared) (line : LinePast) → GatewayShows gateway.old S → LineShows self.old line
             → TakesBytes S line bytes.now (outcome o) gateway.new self.new) }
     {
-        let mut notes = Vec::new(alloc);
+        let mut notes = Vec::with_capacity(alloc, 1)?;
         feed_link(gateway, &mut self.link, bytes, &mut notes)?;
         if !self.is_up {
             return Ok(Output {

@@ -7,6 +7,7 @@ ghost use Rattle.pg_gateway.specs.Shown.{GatewayShows};
 ghost use Rattle.pg_serve.specs.Moments.{absence};
 ghost use Rattle.pg_serve.specs.Inputs.{Fact, Outcome, facts, outcomes};
 ghost use Rattle.pg_serve.specs.Full.{HasAnswered, AllLossless, Headline};
+ghost use Rattle.pg_serve.specs.Beside.{StandsBeside};
 
 use crate::input::{Input, Output};
 use crate::kernel::{Core, absence};
@@ -57,6 +58,10 @@ impl World {
 
     /// Takes the inputs, one after another, and answers each.
     ///
+    /// Where no answer since the world was new tells want of memory or a lost frame, each subscriber is what a private gateway
+    /// makes of its own view of all inputs; and beside any other world of which it sees the same, its queue shows the same and
+    /// it was handed the same, however blocks of shared frames differ that it is not granted.
+    ///
     /// # Errors
     ///
     /// `NoMemory`, where there is none for an answer. From then on it answers that alone.
@@ -66,6 +71,9 @@ impl World {
         ensures isolates { IfOk result (λ outputs. (before : List Fact) (told : List Outcome) → HasAnswered self.old before told
             → AllLossless (told ++ outcomes outputs.items)
             → Headline self.new (before ++ facts inputs.now) (told ++ outcomes outputs.items)) }
+        ensures beside { IfOk result (λ outputs. (before : List Fact) (told : List Outcome) → HasAnswered self.old before told
+            → AllLossless (told ++ outcomes outputs.items)
+            → StandsBeside self.new (before ++ facts inputs.now) (told ++ outcomes outputs.items)) }
         ensures stays { self.old.failed ≡ true → self.new ≡ self.old }
         ensures fails { OnErr result (self.new.failed ≡ true) }
         ensures failed { self.old.failed ≡ true → result ≡ Err Refusal.NoMemory }

@@ -50,16 +50,17 @@ with_items stats (item ∷ items) = with_items (with_item stats item) items
 abbrev pub stats_of : List Item → PmuStats
 stats_of items = with_items no_pmu_stats items
 
--- What a session holds: its subscriber's number, the bytes of a frame that has begun, its counters, and the length of the
--- buffer that it keeps for drains.
+-- What a session holds: its subscriber's number, the bytes of a frame that has begun, its counters, the length of the buffer
+-- that it keeps for drains, and what is left to write of what the last drain handed out.
 pub record Hearing : Type 0 where
   pub sub : ℕ
   pub bytes : Deframing
   pub stats : PmuStats
   pub buffer : ℕ
+  pub left : List ℕ
 
 abbrev pub unheard : ℕ → Hearing
-unheard sub = record { sub = sub; bytes = fresh; stats = no_pmu_stats; buffer = 16384 }
+unheard sub = record { sub = sub; bytes = fresh; stats = no_pmu_stats; buffer = 16384; left = [] }
 
 abbrev pub heard : Hearing → List ℕ → Hearing
 heard v piece = record v { bytes = fed v.bytes piece }

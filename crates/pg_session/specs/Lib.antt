@@ -1,5 +1,6 @@
 -- Definitions that the contracts of subscribers and sessions cite.
 pub mod Commands
+pub mod Pendings
 pub mod Events
 pub mod Machines
 pub mod Shape

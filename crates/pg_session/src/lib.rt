@@ -10,6 +10,7 @@ mod laws;
 mod leaving;
 mod listing;
 mod output;
+mod pending;
 mod reply;
 mod session;
 mod stream;

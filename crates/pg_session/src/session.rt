@@ -1,8 +1,9 @@
 //! A subscriber's bytes, cut into commands as they come.
 
-ghost use Rattle.std.specs.Prelude.{◌≡◌, ℕ, ◌+◌, ◌≤◌, ◌<◌, List, [], ◌++◌, length, vec_len, IfOk, IfErr};
+ghost use Rattle.std.specs.Prelude.{◌≡◌, ℕ, ◌+◌, ◌≤◌, ◌<◌, List, [], ◌++◌, length, take, drop, vec_len, IfOk, IfErr};
 ghost use Rattle.pg_session.specs.Commands.{Hearing, Item, item_read, with_item, next_of, unheard, heard, Shows, Gives, Holds};
 
+use crate::pending::Pending;
 use pg_audit::PmuStats;
 use pg_command::{Command, read_command};
 use pg_wire::{Deframer, Refusal, SubId, Taken};
@@ -33,16 +34,16 @@ pub struct Session {
     deframer: Deframer,
     stats: PmuStats,
     alloc: Global,
-    buffer: Vec<u8>,
+    pending: Pending,
 }
 
 impl Model for Session {
     ghost use Rattle.pg_session.specs.Commands.{Hearing};
-    ghost use Rattle.std.specs.Prelude.{vec_len};
+    ghost use Rattle.pg_session.specs.Pendings.{kept_of, left_of};
 
     ghost Value = { Hearing };
 
-    ghost view = { λ s. record { sub = s.sub; bytes = s.deframer; stats = s.stats; buffer = vec_len s.buffer } };
+    ghost view = { λ s. record { sub = s.sub; bytes = s.deframer; stats = s.stats; buffer = kept_of s.pending; left = left_of s.pending } };
 
     ghost use Rattle.pg_wire.specs.Held.{IsHeld};
 
@@ -61,7 +62,7 @@ impl Session {
             deframer: Deframer::new(alloc)?,
             stats: PmuStats::new(),
             alloc,
-            buffer: vec![in alloc; 0; DRAIN_BYTES]?,
+            pending: Pending::none(vec![in alloc; 0; DRAIN_BYTES]?),
         })
     }
 
@@ -73,19 +74,42 @@ impl Session {
     }
 
     /// Gives out the buffer that it keeps for drains, of 16,384 bytes (own rule), so that no drain takes memory. Until one is
-    /// put back it keeps an empty one.
+    /// put back it keeps an empty one, and nothing is left to write.
     pub fn take_buffer(&mut self) -> Vec<u8>
         ensures buffer { vec_len result ≡ self.old.buffer }
-        ensures state { self.new ≡ record self.old { buffer = 0 } }
+        ensures state { self.new ≡ record self.old { buffer = 0; left = [] } }
     {
-        std::mem::replace(&mut self.buffer, Vec::new(self.alloc))
+        self.pending.take(self.alloc)
     }
 
-    /// Puts a buffer for drains in its place.
+    /// Puts a buffer for drains in its place. Nothing is left to write.
     pub fn put_buffer(&mut self, buffer: Vec<u8>)
-        ensures state { self.new ≡ record self.old { buffer = vec_len buffer } }
+        ensures state { self.new ≡ record self.old { buffer = vec_len buffer; left = [] } }
     {
-        self.buffer = buffer;
+        self.pending = Pending::none(buffer);
+    }
+
+    /// Puts a buffer for drains in its place, whose first `size` bytes are left to write.
+    pub fn put_drained(&mut self, buffer: Vec<u8>, size: usize)
+        requires { size ≤ length buffer.items }
+        ensures state { self.new ≡ record self.old { buffer = vec_len buffer; left = take size buffer.items } }
+    {
+        self.pending = Pending::of(buffer, size);
+    }
+
+    /// What is left to write of what a drain handed out.
+    pub fn left(&self) -> &[u8]
+        ensures value { result.now ≡ self.now.left }
+    {
+        self.pending.left()
+    }
+
+    /// So many bytes of what is left were written.
+    pub fn send(&mut self, size: usize)
+        requires { size ≤ length self.old.left }
+        ensures state { self.new ≡ record self.old { left = drop size self.old.left } }
+    {
+        self.pending.send(size);
     }
 
     /// How many more bytes there is room for: 65,535 less the bytes that are held.
@@ -110,6 +134,8 @@ impl Session {
         ensures gives { Gives self.old result self.new }
         ensures holds { Holds self.old result self.new }
         ensures same { self.new.sub ≡ self.old.sub }
+        ensures buffer { self.new.buffer ≡ self.old.buffer }
+        ensures left { self.new.left ≡ self.old.left }
     {
         match self.deframer.next() {
             Taken::Frame(frame) => {

@@ -286,6 +286,49 @@ fn filler_after_wait(rt: HostRuntime) -> Result<(), Fail> {
     Ok(())
 }
 
+// Takes all memory that there is, down to the last byte, until the pieces that it answers are dropped.
+fn all_memory(rt: &impl Abort, alloc: Global) -> Vec<Vec<u8>> {
+    let mut held = Vec::with_capacity(alloc, 40_000).expect(rt, "memory");
+    let mut size: usize = 1 << 46;
+    for _ in 0..40_000 {
+        if size == 0 {
+            break;
+        }
+        match Vec::with_capacity(alloc, size) {
+            Ok(piece) => assert!(rt; held.push(piece).is_ok()),
+            Err(_) => size /= 2,
+        }
+    }
+    assert!(rt; size == 0);
+    held
+}
+
+// Row take-without-memory: a block that completes no slot takes its place, and the reply is the one with memory.
+#[test]
+fn take_without_memory(rt: HostRuntime) -> Result<(), Fail> {
+    let alloc = rt.alloc();
+    let first = source_7(&rt, alloc)?;
+    let second = source_8(&rt, alloc)?;
+    let mut sub = with_two(&rt, alloc, &first, &second, 2, 4)?;
+    let frame = measured(&rt, alloc, &first, 100, 33_333, &DATA_7)?;
+    let event = PrivateEvent::Measure(&frame, &[0]);
+    assert!(&rt; sub.accepts(&event));
+    assert!(&rt; sub.copies(&event).is_ok());
+    assert!(&rt; sub.accepts(&event));
+    assert!(&rt; sub.ready(&event));
+    let held = all_memory(&rt, alloc);
+    let reply = sub.take(event, false);
+    drop(held);
+    done(&rt, reply, 0);
+    done(&rt, give(&rt, &mut sub, PrivateEvent::Tick(100)), 0);
+    done(&rt, give(&rt, &mut sub, PrivateEvent::Tick(100)), 1);
+    match sub.queue().frame_at(0) {
+        Some((bytes, _)) => assert!(&rt; bytes == &WITH_FILLER[..]),
+        None => panic!(&rt; "no frame"),
+    }
+    Ok(())
+}
+
 // Row wait-and-window, and the joined quality of row header-and-quality.
 #[test]
 fn wait_and_window(rt: HostRuntime) -> Result<(), Fail> {

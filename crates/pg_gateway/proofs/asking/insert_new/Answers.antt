@@ -1,4 +1,4 @@
-use Rattle.std.proofs.Common.{nat_eq, None, sym, subst}
+use Rattle.std.proofs.Common.{nat_eq, None, sym, subst, ◌∙◌}
 use Rattle.indexmap.proofs.CallerLemmas.{insert_entry-new}
 use Rattle.pg_audit.specs.declared.audit.What.TheVariants.{AddSub}
 use Rattle.pg_gateway.specs.Shared.{with_note, added}
@@ -17,4 +17,4 @@ returns-in-Ok-clause-added c = λ seats h.
 pub returns-in-Ok-clause-none : goal.returns-in-Ok-clause-none
 returns-in-Ok-clause-none c =
     rw (c.in-Ok.ensures.entries, insert_entry-new nat_eq c.args.subs.now c.args.sub c.note.new.self c.requires.new)
-    (seats-push HasNone c.args.sub c.note.new.self _ c.requires.none (subst HasNoCopies (sym c.note.ensures.subscriber) c.in_ok-seat.ensures.none))
+    (seats-push HasNone c.args.sub c.note.new.self _ c.requires.none (subst HasNoCopies (sym c.note.ensures.subscriber) c.in_ok-seat.ensures.none.0, c.note.ensures.spared ∙ c.in_ok-seat.ensures.none.1))

@@ -1,4 +1,4 @@
-use Rattle.std.proofs.Common.{nat_eq, sym, subst}
+use Rattle.std.proofs.Common.{nat_eq, sym, subst, ◌∙◌}
 use Rattle.pg_gateway.specs.Shared.{with_note}
 use Rattle.pg_gateway.specs.Shown.{SeatShows}
 use Rattle.pg_gateway.specs.Taking.{HasNone}
@@ -21,4 +21,4 @@ pub returns-in-Some-clause-none : goal.returns-in-Some-clause-none
 returns-in-Some-clause-none c =
     let wrote = c.get_mut.follows.holds c.note.new.self in
     let had = seats-lookup HasNone (nat_eq c.args.sub) c.args.subs.now.entries c.in-Some.seat.now c.requires.none (sym c.in-Some.ensures.value) in
-    rw wrote.0 (seats-set_value HasNone (nat_eq c.args.sub) c.args.subs.now.entries c.note.new.self c.requires.none (subst HasNoCopies (sym c.note.ensures.subscriber) had))
+    rw wrote.0 (seats-set_value HasNone (nat_eq c.args.sub) c.args.subs.now.entries c.note.new.self c.requires.none (subst HasNoCopies (sym c.note.ensures.subscriber) had.0, c.note.ensures.spared ∙ had.1))

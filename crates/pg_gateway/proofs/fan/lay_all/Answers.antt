@@ -34,7 +34,7 @@ loop-i-preserved c =
       fits = seats-after (Fits (offered c.args.event.now c.args.places.now)) c.loop-i.subs.entries c.loop-i.i c.lay.new.self inv.fits;
       none = seats-after HasNone c.loop-i.subs.entries c.loop-i.i c.lay.new.self inv.none;
       spares = λ spares. seats-after (Spares (offered c.args.event.now c.args.places.now)) c.loop-i.subs.entries c.loop-i.i c.lay.new.self (inv.spares spares);
-      laid = seats-before (Awaits (offered c.args.event.now c.args.places.now)) c.loop-i.subs.entries c.loop-i.i c.lay.new.self inv.laid (awaits_laid (offered c.args.event.now c.args.places.now) c.index_mut.result.now c.lay.new.self c.lay.ensures.own fit c.in_ok-lay.ensures.laid);
+      laid = seats-before (Awaits (offered c.args.event.now c.args.places.now)) c.loop-i.subs.entries c.loop-i.i c.lay.new.self inv.laid (awaits_laid (offered c.args.event.now c.args.places.now) c.index_mut.result.now c.lay.new.self c.lay.ensures.own fit c.in_ok-lay.ensures.laid c.in_ok-lay.ensures.spared);
       shows = λ ps h. Related-kept SeatShows c.loop-i.subs.entries ps c.loop-i.i c.index_mut.result.now c.lay.new.self (inv.shows ps h) c.index_mut.ensures.value
           (λ s shown. shows_kept c.index_mut.result.now c.lay.new.self s c.lay.ensures.own c.lay.ensures.audit shown);
     }

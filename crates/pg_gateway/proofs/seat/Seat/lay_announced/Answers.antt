@@ -7,7 +7,13 @@ use Rattle.pg_gateway.proofs.seat.Seat.lay_announced.Goals as goal
 pub returns-then-not-hold-clause-laid : goal.returns-then-not-hold-clause-laid
 returns-then-not-hold-clause-laid c =
     let none = announced_none c.args.config.now c.args.places.now c.hold.new.held.items c.self.inside.subscriber.own.grants c.hold.ensures.held (c.hold.ensures.none c.if-not-hold.true) in
-    lays_none c.args.self.now.subscriber _ (ap (λ v. share (announces (announced_at c.args.config.now c.args.places.now)) v.subscriber.own.grants) (sym c.self.view_is) ∙ none) c.requires.none
+    let had = rw (← c.self.view_is) at c.requires.none in
+    lays_none c.self.inside.subscriber _ (ap (λ v. share (announces (announced_at c.args.config.now c.args.places.now)) v.subscriber.own.grants) (sym c.self.view_is) ∙ none) had.0
+
+pub returns-then-not-hold-clause-spared : goal.returns-then-not-hold-clause-spared
+returns-then-not-hold-clause-spared c = λ spared.
+    let none = announced_none c.args.config.now c.args.places.now c.hold.new.held.items c.self.inside.subscriber.own.grants c.hold.ensures.held (c.hold.ensures.none c.if-not-hold.true) in
+    ap (λ v. share (announces (announced_at c.args.config.now c.args.places.now)) v.subscriber.own.grants) (sym c.self.view_is) ∙ none
 
 pub copies-requires : goal.copies-requires
 copies-requires c =

@@ -8,7 +8,13 @@ use Rattle.pg_gateway.proofs.seat.Seat.lay_measured.Goals as goal
 pub returns-then-not-hold_blocks-clause-laid : goal.returns-then-not-hold_blocks-clause-laid
 returns-then-not-hold_blocks-clause-laid c =
     let none = measured_none (arc_value c.args.frame.now) c.args.places.now c.hold_blocks.new.held.items c.self.inside.subscriber.own.grants c.hold_blocks.ensures.held (c.hold_blocks.ensures.none c.if-not-hold_blocks.true) in
-    lays_none c.args.self.now.subscriber _ (ap (λ v. share (measured (arc_value c.args.frame.now) c.args.places.now) v.subscriber.own.grants) (sym c.self.view_is) ∙ none) c.requires.none
+    let had = rw (← c.self.view_is) at c.requires.none in
+    lays_none c.self.inside.subscriber _ (ap (λ v. share (measured (arc_value c.args.frame.now) c.args.places.now) v.subscriber.own.grants) (sym c.self.view_is) ∙ none) had.0
+
+pub returns-then-not-hold_blocks-clause-spared : goal.returns-then-not-hold_blocks-clause-spared
+returns-then-not-hold_blocks-clause-spared c = λ spared.
+    let none = measured_none (arc_value c.args.frame.now) c.args.places.now c.hold_blocks.new.held.items c.self.inside.subscriber.own.grants c.hold_blocks.ensures.held (c.hold_blocks.ensures.none c.if-not-hold_blocks.true) in
+    ap (λ v. share (measured (arc_value c.args.frame.now) c.args.places.now) v.subscriber.own.grants) (sym c.self.view_is) ∙ none
 
 pub copies-requires : goal.copies-requires
 copies-requires c =

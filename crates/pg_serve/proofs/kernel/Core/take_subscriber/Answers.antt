@@ -22,7 +22,7 @@ returns-in-Some-broken c = record {
       let heard = c.in_ok-broken-in-Some.ensures.heard m.shared found.0 (items_of found.0) h.gateway found.2.shows in
       rw (c.shift_remove.ensures.entries, wrote.0) (heard_break m c.args.sub c.args.bytes.now found.0 c.in-Some-broken.refusal _ c.args.self.now.gateway c.feed_session.new.gateway _ _ _ c.feed_session.new.session
       (all_noted c.feed_session.new.notes.items) (all_noted c.note.new.notes.items) found.1 found.2.whole
-      (rw c.in-Some-broken.is at (rw (ap all_noted c.new-notes.ensures.items) at heard)) c.in_ok-note.ensures.noted c.in_ok-post.ensures.did c.new.ensures.items h);
+      (rw c.in-Some-broken.is at (rw (ap all_noted c.in_ok-notes.ensures.items) at heard)) c.in_ok-note.ensures.noted c.in_ok-post.ensures.did c.new.ensures.items h);
 }
 
 pub returns : goal.returns
@@ -32,5 +32,5 @@ returns c = record {
       let wrote = c.get_mut.follows.holds c.feed_session.new.session in
       let heard = c.in_ok-broken-in-Some.ensures.heard m.shared found.0 (items_of found.0) h.gateway found.2.shows in
       rw wrote.0 (heard_whole m c.args.sub c.args.bytes.now found.0 _ c.args.self.now.gateway _ _ _ c.feed_session.new.session found.1 found.2.whole
-      (rw c.in_default.is at (rw (ap all_noted c.new-notes.ensures.items) at heard)) c.new-2.ensures.items h);
+      (rw c.in_default.is at (rw (ap all_noted c.in_ok-notes.ensures.items) at heard)) c.new-2.ensures.items h);
 }

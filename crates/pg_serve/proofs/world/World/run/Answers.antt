@@ -4,6 +4,7 @@ use Rattle.pg_serve.specs.Shown.{WorldValue}
 use Rattle.pg_serve.specs.Full.{HasAnswered}
 use Rattle.pg_serve.proofs.Running.{answered_more}
 use Rattle.pg_serve.proofs.Isolating.{isolated}
+use Rattle.pg_serve.proofs.Besides.{stands_beside}
 use Rattle.pg_serve.proofs.world.World.run.Goals as goal
 
 pub returns-clause-answers : goal.returns-clause-answers
@@ -17,6 +18,15 @@ returns-clause-answers c = λ before told has.
 pub returns-clause-isolates : goal.returns-clause-isolates
 returns-clause-isolates c = λ before told has lossless.
     isolated _ (before ++ facts c.args.inputs.now) (told ++ outcomes c.in_ok-outputs.outputs.items) lossless (
+    answered_more
+    (record { gateway = c.self.inside.core.gateway; lines = c.self.inside.core.lines.entries; sessions = c.self.inside.core.sessions.entries; failed = c.self.inside.failed })
+    (record { gateway = c.run_all.new.core.gateway; lines = c.run_all.new.core.lines.entries; sessions = c.run_all.new.core.sessions.entries; failed = false })
+    before (facts c.args.inputs.now) told (outcomes c.in_ok-outputs.outputs.items)
+    (subst (λ (v : WorldValue). HasAnswered v before told) (sym c.self.view_is) has) c.in_ok-outputs.ensures.takes refl)
+
+pub returns-clause-beside : goal.returns-clause-beside
+returns-clause-beside c = λ before told has lossless.
+    stands_beside _ (before ++ facts c.args.inputs.now) (told ++ outcomes c.in_ok-outputs.outputs.items) lossless (
     answered_more
     (record { gateway = c.self.inside.core.gateway; lines = c.self.inside.core.lines.entries; sessions = c.self.inside.core.sessions.entries; failed = c.self.inside.failed })
     (record { gateway = c.run_all.new.core.gateway; lines = c.run_all.new.core.lines.entries; sessions = c.run_all.new.core.sessions.entries; failed = false })

@@ -1,8 +1,9 @@
-use Rattle.std.proofs.Common.{refl, ap, Err, None, Some, vec_len}
+use Rattle.std.proofs.Common.{refl, ap, Err, None, Some}
 use Rattle.pg_wire.specs.Stream.{Deframing}
 use Rattle.pg_wire.proofs.Holding.{broken_breaks, stopped_held, rest_held, fewer_held, partial_held}
 use Rattle.pg_wire.specs.Taking as taking
 use Rattle.pg_session.specs.Commands.{Hearing, item_read}
+use Rattle.pg_session.specs.Pendings.{kept_of, left_of}
 use Rattle.pg_session.proofs.Hearing.{frame_given, skipped_given, more_given, broken_given, item_holds}
 use Rattle.pg_session.proofs.session.Session.next_command.Goals as goal
 
@@ -73,7 +74,7 @@ returns-in-Broken-clause-holds c =
     )
   where
     hearing : Deframing → Hearing
-    hearing d = record { sub = c.self.inside.sub; bytes = d; stats = c.self.inside.stats; buffer = vec_len c.self.inside.buffer }
+    hearing d = record { sub = c.self.inside.sub; bytes = d; stats = c.self.inside.stats; buffer = kept_of c.self.inside.pending; left = left_of c.self.inside.pending }
 
 pub returns-in-More-clause-holds : goal.returns-in-More-clause-holds
 returns-in-More-clause-holds c =

@@ -1,0 +1,201 @@
+-- Runs of a link's loop, put together from steps.
+use Rattle.std.proofs.Common.{◌≡◌, ◌∙◌, sym, subst, ap, ap₂, refl, ◌≤◌, true, arith, take, length-take, ℕ, List, [], ◌∷◌, ◌++◌, map, length, append-nil, append_assoc, Option, Some}
+use Rattle.std.specs.List.{flat_map}
+use Rattle.std.specs.Io.KnownBytes.{Appends, Consumes}
+use Rattle.std.proofs.lemmas.List.{map-append}
+use Rattle.std.proofs.lemmas.Grind.{flat_map-append}
+use Rattle.pg_command.specs.Words.{word_number}
+use Rattle.pg_command.specs.Spelling.{written}
+use Rattle.pg_gateway.specs.Posting.{Posted, Notes}
+use Rattle.pg_wire.specs.declared.refusal.Refusal.{Refusal}
+use Rattle.pg_ingest.specs.Items.{Item, announces, measures, skips, rejects_config, rejects_data, passes_over, reason_of}
+use Rattle.pg_ingest.specs.Begun.{Begins}
+use Rattle.pg_ingest.specs.Commands.{tells}
+use Rattle.pg_ingest.specs.Linking.{Linking}
+use Rattle.pg_ingest.specs.Shown.{LinkPast, Shows, IsAllTold, doing}
+use Rattle.pg_ingest.specs.Runs.{Step, begins, reads, posts, stepping, after_steps, MayStep, AreSteps, bytes_of, events_of, events_told, frame_of, event_posted, RanFrom, Ran, RanOn}
+use Rattle.pg_ingest.proofs.Known.{notes_nil, notes_more, appends_nil, appends_more, consumes_nil, consumes_more}
+
+abbrev pub Bytes : Type 0
+Bytes = Option (List ℕ)
+
+abbrev pub Calls : Type 0
+Calls = Option (List Posted)
+
+-- these steps were done
+abbrev pub Did : List Step → LinkPast → List ℕ → Linking → Bytes → Bytes → Bytes → Bytes → Calls → Calls → Type 0
+Did steps past left v r r' w w' p p' = (ran : RanFrom past left v r r' w w' p p') × (ran.steps ≡ steps)
+
+pub after-append : (past : LinkPast) (a b : List Step) → after_steps past (a ++ b) ≡ after_steps (after_steps past a) b
+after-append past [] b = refl
+after-append past (s ∷ a) b = after-append (stepping past s) a b
+
+pub are-append : (past : LinkPast) (a b : List Step) → AreSteps past a → AreSteps (after_steps past a) b → AreSteps past (a ++ b)
+are-append past [] b h k = k
+are-append past (s ∷ a) b h k = (h.0, are-append (stepping past s) a b h.1 k)
+
+source_same : (past : LinkPast) (s : Step) → (stepping past s).source ≡ past.source
+source_same past (begins word) = refl
+source_same past (reads piece) = refl
+source_same past (posts item) = refl
+
+pub source_stays : (past : LinkPast) (a : List Step) → (after_steps past a).source ≡ past.source
+source_stays past [] = refl
+source_stays past (s ∷ a) = source_stays (stepping past s) a ∙ source_same past s
+
+-- nothing but a write of what was left
+pub from_wrote : (past : LinkPast) (left : List ℕ) (v' : Linking) (r w w' : Bytes) (p : Calls) (out : List ℕ) → Appends w w' out → out ++ v'.left ≡ left → Shows v' past
+    → Did [] past left v' r r w w' p p
+from_wrote past left v' r w w' p out wrote is shows = (
+  record {
+    steps = [];
+    are = tt;
+    shows = shows;
+    read = consumes_nil r;
+    calls = [];
+    posted = notes_nil p;
+    events = refl;
+    out = out;
+    wrote = wrote;
+    goes_on = is ∙ sym (append-nil left);
+  },
+  refl,
+)
+
+-- one step that writes nothing by itself
+pub from_step : (past : LinkPast) (left : List ℕ) (v' : Linking) (r r' w : Bytes) (p p' : Calls) (step : Step) (calls : List Posted) → MayStep past step → Shows v' (stepping past step)
+    → Consumes r r' (bytes_of step) → Notes p p' calls → map event_posted calls ≡ events_of step → v'.left ≡ left ++ frame_of past.source step
+    → Did (step ∷ []) past left v' r r' w w p p'
+from_step past left v' r r' w p p' step calls may shows read posted events is = (
+  record {
+    steps = step ∷ [];
+    are = (may, tt);
+    shows = shows;
+    read = rw (append-nil (bytes_of step)) read;
+    calls = calls;
+    posted = posted;
+    events = events ∙ sym (append-nil (events_of step));
+    out = [];
+    wrote = appends_nil w;
+    goes_on = is ∙ ap (λ x. left ++ x) (sym (append-nil (frame_of past.source step)));
+  },
+  refl,
+)
+
+-- one run after another is one run
+pub from_more : (past : LinkPast) (left : List ℕ) (v' v'' : Linking) (r r' r'' w w' w'' : Bytes) (p p' p'' : Calls)
+    → (a : RanFrom past left v' r r' w w' p p') (b : RanFrom (after_steps past a.steps) v'.left v'' r' r'' w' w'' p' p'')
+    → Did (a.steps ++ b.steps) past left v'' r r'' w w'' p p''
+from_more past left v' v'' r r' r'' w w' w'' p p' p'' a b =
+    let frames : flat_map (frame_of (after_steps past a.steps).source) b.steps ≡ flat_map (frame_of past.source) b.steps =
+    ap (λ s. flat_map (frame_of s) b.steps) (source_stays past a.steps) in (
+      record {
+        steps = a.steps ++ b.steps;
+        are = are-append past a.steps b.steps a.are b.are;
+        shows = subst (Shows v'') (sym (after-append past a.steps b.steps)) b.shows;
+        read = subst (Consumes r r'') (sym (flat_map-append bytes_of a.steps b.steps)) (consumes_more r r' r'' _ _ a.read b.read);
+        calls = a.calls ++ b.calls;
+        posted = notes_more p p' p'' a.calls b.calls a.posted b.posted;
+        events = map-append event_posted a.calls b.calls ∙ ap₂ (λ x y. x ++ y) a.events b.events ∙ sym (flat_map-append events_of a.steps b.steps);
+        out = a.out ++ b.out;
+        wrote = appends_more w w' w'' a.out b.out a.wrote b.wrote;
+        goes_on = append_assoc a.out b.out v''.left
+            ∙ ap (λ x. a.out ++ x) (b.goes_on ∙ ap (λ x. v'.left ++ x) frames)
+            ∙ sym (append_assoc a.out v'.left (flat_map (frame_of past.source) b.steps))
+            ∙ ap (λ x. x ++ flat_map (frame_of past.source) b.steps) a.goes_on
+            ∙ append_assoc left (flat_map (frame_of past.source) a.steps) (flat_map (frame_of past.source) b.steps)
+            ∙ ap (λ x. left ++ x) (sym (flat_map-append (frame_of past.source) a.steps b.steps));
+      },
+      refl,
+    )
+
+-- the same, with what is known of the steps
+pub ran_more : (P Q R : LinkPast → List Step → Type 0) → ((past : LinkPast) (a b : List Step) → P past a → Q (after_steps past a) b → R past (a ++ b))
+    → (v v' v'' : Linking) (r r' r'' w w' w'' : Bytes) (p p' p'' : Calls) → Ran P v v' r r' w w' p p' → Ran Q v' v'' r' r'' w' w'' p' p'' → Ran R v v'' r r'' w w'' p p''
+ran_more P Q R join v v' v'' r r' r'' w w' w'' p p' p'' first second past shows =
+    let a = first past shows in
+    let b = second (after_steps past a.0.steps) a.0.shows in
+    let both = from_more past v.left v' v'' r r' r'' w w' w'' p p' p'' a.0 b.0 in
+    (both.0, subst (R past) (sym both.1) (join past a.0.steps b.0.steps a.1 b.1))
+
+-- the same where the second run needs that all is told
+pub ran_on : (P Q R : LinkPast → List Step → Type 0) → ((past : LinkPast) (a b : List Step) → P past a → Q (after_steps past a) b → R past (a ++ b))
+    → ((past : LinkPast) (a : List Step) → P past a → IsAllTold (after_steps past a))
+    → (v v' v'' : Linking) (r r' r'' w w' w'' : Bytes) (p p' p'' : Calls) → Ran P v v' r r' w w' p p' → RanOn Q v' v'' r' r'' w' w'' p' p'' → Ran R v v'' r r'' w w'' p p''
+ran_on P Q R join told v v' v'' r r' r'' w w' w'' p p' p'' first second past shows =
+    let a = first past shows in
+    let b = second (after_steps past a.0.steps) a.0.shows (told past a.0.steps a.1) in
+    let both = from_more past v.left v' v'' r r' r'' w w' w'' p p' p'' a.0 b.0 in
+    (both.0, subst (R past) (sym both.1) (join past a.0.steps b.0.steps a.1 b.1))
+
+-- the same of two runs that both need it
+pub on_more : (P Q R : LinkPast → List Step → Type 0) → ((past : LinkPast) (a b : List Step) → P past a → Q (after_steps past a) b → R past (a ++ b))
+    → ((past : LinkPast) (a : List Step) → P past a → IsAllTold past → IsAllTold (after_steps past a))
+    → (v v' v'' : Linking) (r r' r'' w w' w'' : Bytes) (p p' p'' : Calls) → RanOn P v v' r r' w w' p p' → RanOn Q v' v'' r' r'' w' w'' p' p'' → RanOn R v v'' r r'' w w'' p p''
+on_more P Q R join keeps v v' v'' r r' r'' w w' w'' p p' p'' first second past shows told =
+    let a = first past shows told in
+    let b = second (after_steps past a.0.steps) a.0.shows (keeps past a.0.steps a.1 told) in
+    let both = from_more past v.left v' v'' r r' r'' w w' w'' p p' p'' a.0 b.0 in
+    (both.0, subst (R past) (sym both.1) (join past a.0.steps b.0.steps a.1 b.1))
+
+pub on_as : (P Q : LinkPast → List Step → Type 0) → ((past : LinkPast) (a : List Step) → P past a → Q past a)
+    → (v v' : Linking) (r r' w w' : Bytes) (p p' : Calls) → Ran P v v' r r' w w' p p' → RanOn Q v v' r r' w w' p p'
+on_as P Q is v v' r r' w w' p p' ran past shows told = let a = ran past shows in (a.0, is past a.0.steps a.1)
+
+pub ran_as : (P Q : LinkPast → List Step → Type 0) → ((past : LinkPast) (a : List Step) → P past a → Q past a)
+    → (v v' : Linking) (r r' w w' : Bytes) (p p' : Calls) → Ran P v v' r r' w w' p p' → Ran Q v v' r r' w w' p p'
+ran_as P Q is v v' r r' w w' p p' ran past shows = let a = ran past shows in (a.0, is past a.0.steps a.1)
+
+abbrev pub Nothing : LinkPast → List Step → Type 0
+Nothing past steps = steps ≡ []
+
+pub ran_wrote : (v v' : Linking) (r w w' : Bytes) (p : Calls) (out : List ℕ) → Appends w w' out → out ++ v'.left ≡ v.left
+    → ((past : LinkPast) → Shows v past → Shows v' past) → Ran Nothing v v' r r w w' p p
+ran_wrote v v' r w w' p out wrote is keeps past shows = from_wrote past v.left v' r w w' p out wrote is (keeps past shows)
+
+pub ran_nothing : (v : Linking) (r w : Bytes) (p : Calls) → Ran Nothing v v r r w w p p
+ran_nothing v r w p = ran_wrote v v r w w p [] (appends_nil w) refl (λ past shows. shows)
+
+-- what was told was posted
+pub from_told : (past : LinkPast) (v v' : Linking) (r w : Bytes) (p p' : Calls) (item : Item) (call : Posted) → Shows v' (doing past (tells item))
+    → Notes p p' (call ∷ []) → events_told item ≡ event_posted call ∷ [] → v'.left ≡ v.left → Did (posts item ∷ []) past v.left v' r r w w p p'
+from_told past v v' r w p p' item call told posted is left =
+    from_step past v.left v' r r w p p' (posts item) (call ∷ []) tt told (consumes_nil r) posted (sym is) (left ∙ sym (append-nil v.left))
+
+no_event : (item : Item) (r : Refusal) → reason_of item ≡ Some r → events_told item ≡ []
+no_event (announces config) r h = absurd (cc)
+no_event (measures m) r h = absurd (cc)
+no_event (skips x) r h = refl
+no_event (rejects_config x) r h = refl
+no_event (rejects_data x) r h = refl
+no_event passes_over r h = refl
+
+-- a frame was ignored
+pub from_ignored : (past : LinkPast) (v v' : Linking) (r w : Bytes) (p : Calls) (refusal : Refusal) (item : Item) → reason_of item ≡ Some refusal
+    → Shows v' (doing past (tells item)) → v'.left ≡ v.left → Did (posts item ∷ []) past v.left v' r r w w p p
+from_ignored past v v' r w p refusal item reason told left =
+    from_step past v.left v' r r w p p (posts item) [] tt told (consumes_nil r) (notes_nil p) (sym (no_event item refusal reason)) (left ∙ sym (append-nil v.left))
+
+-- a command was begun, where nothing was left
+pub from_begun : (past : LinkPast) (v v' : Linking) (r w : Bytes) (p : Calls) → v.left ≡ [] → IsAllTold past → (given : Begins past v' true)
+    → Did (begins given.0 ∷ []) past v.left v' r r w w p p
+from_begun past v v' r w p empty told given =
+    from_step past v.left v' r r w p p (begins given.0) [] (told, given.1) given.2 (consumes_nil r) (notes_nil p) refl (given.3 ∙ ap (λ x. x ++ written past.source 0 (word_number given.0)) (sym empty))
+
+-- what is left to write is no part of what a link shows
+pub left_unshown : (v v' : Linking) (past : LinkPast) → v' ≡ record v { left = v'.left } → Shows v past → Shows v' past
+left_unshown v v' past same shows = subst (λ x. Shows x past) (sym same) (record {
+  source = shows.source;
+  frames = shows.frames;
+  bytes = shows.bytes;
+  told = shows.told;
+  known = shows.known;
+  asking = shows.asking;
+  stats = shows.stats;
+})
+
+pub ran_same : (P : LinkPast → List Step → Type 0) (v v' v'' : Linking) (r r' w w' : Bytes) (p p' : Calls) → v'' ≡ v' → Ran P v v' r r' w w' p p' → Ran P v v'' r r' w w' p p'
+ran_same P v v' v'' r r' w w' p p' same ran = subst (λ x. Ran P v x r r' w w' p p') (sym same) ran
+
+pub take_small : (n k : ℕ) (xs : List ℕ) → n ≤ k → n ≤ length xs → length (take n xs) ≤ k
+take_small n k xs small within = omega (arith, small, within, length-take n xs)

@@ -1,0 +1,28 @@
+use Rattle.std.proofs.Common.{arith}
+use Rattle.pg_ingest.proofs.Stepping.{ran_as, ran_on}
+use Rattle.pg_ingest.proofs.Turns.{Turned, turned_none, turned_more, ends_call, ends_all}
+use Rattle.pg_ingest.proofs.run.run_link.Goals as goal
+
+pub turns-init : goal.turns-init
+turns-init g c = record {
+  ran = ran_as _ (Turned 0) (turned_none _) _ _ _ _ _ _ _ _ (c.post_events.ensures.ran _ _);
+  room = c.post_events.ensures.room;
+  whole = λ h. absurd (omega (arith, h));
+}
+
+pub returns-in-Some-clause-ran : goal.returns-in-Some-clause-ran
+returns-in-Some-clause-ran g c =
+    ran_on (Turned c.turns.counter) _ _ (ends_call _ c.turns.counter _ _ _ c.turns-test.true) (λ past a turned. turned.told) _ _ _ _ _ _ _ _ _ _ _ _ c.turns.invariant.ran c.in-Some.ensures.ran
+
+pub turns-preserved : goal.turns-preserved
+turns-preserved g c = record {
+  ran = ran_on (Turned c.turns.counter) _ _ (turned_more c.turns.counter _ c.in_default.is _ _) (λ past a turned. turned.told) _ _ _ _ _ _ _ _ _ _ _ _ c.turns.invariant.ran c.turn.ensures.ran;
+  room = c.turn.ensures.room;
+  whole = λ h. c.turn.ensures.goes c.in_default.is;
+}
+
+pub returns-clause-ran : goal.returns-clause-ran
+returns-clause-ran g c = ran_as (Turned c.turns.counter) _ (ends_all c.turns.counter _ _ _ (omega (arith, c.turns-test.false, c.turns.auto.counter-end))) _ _ _ _ _ _ _ _ c.turns.invariant.ran
+
+pub returns-clause-whole : goal.returns-clause-whole
+returns-clause-whole g c = λ some e. c.turns.invariant.whole (omega (arith, some, c.turns-test.false, c.turns.auto.counter-end))

@@ -1,0 +1,166 @@
+//! The loop of a link over any reader, writer and gate.
+
+ghost use Rattle.std.specs.Prelude.{◌≡◌, ◌<◌, ◌≤◌, ℕ, List, [], length, false, Option, Some, None, IfSome, take};
+ghost use Rattle.std.specs.Io.KnownBytes.{Consumes};
+ghost use Rattle.pg_wire.specs.Held.{IsBreak};
+ghost use Rattle.pg_gateway.specs.Posting.{Posted};
+ghost use Rattle.pg_ingest.specs.Ends.{is_cut, Ends};
+ghost use Rattle.pg_ingest.specs.Turning.{EndsTurn, EndsRead, IsStuck, OnlyBegins, TellsAll};
+ghost use Rattle.pg_ingest.specs.Runs.{Ran, RanOn};
+ghost use Rattle.pg_ingest.specs.Shown.{LinkPast, Shows, word_due};
+
+use crate::link::{Link, LinkEvent};
+use pg_gateway::{Event, Gate};
+use pg_wire::Refusal;
+use std::io::{ErrorKind, Read, Write};
+
+/// How a call of `run_link` ended (own rule).
+#[derive(Clone, Copy, Debug, PartialEq, Eq)]
+pub enum End {
+    /// The reader has ended.
+    Closed,
+    /// The reader would block.
+    Quiet,
+    /// The writer would block: what is left to write stays in the link.
+    Stalled,
+    /// 39: a read failed, or all turns were taken. 40: a write failed, or took no byte. 2, 3 or 4: the source's bytes broke.
+    Fault(u8),
+}
+
+/// Writes what is left of a command.
+fn push_left<W: Write>(link: &mut Link, writer: &mut W) -> Option<End>
+    ensures ran { (r : Option (List ℕ)) (p : Option (List Posted))
+        → Ran (λ past steps. steps ≡ []) link.old link.new r r (W.contents writer.old) (W.contents writer.new) p p }
+    ensures whole { result ≡ None → link.new.left ≡ [] }
+    ensures same { link.new ≡ record link.old { left = link.new.left } }
+    ensures stuck { IfSome result (λ end. IsStuck end link.new.left) }
+{
+    'rest: while !link.left().is_empty() {
+        match writer.write(link.left()) {
+            Ok(0) => return Some(End::Fault(40)),
+            Ok(size) => link.send(size),
+            Err(error) => match error.kind() {
+                ErrorKind::WouldBlock => return Some(End::Stalled),
+                _ => return Some(End::Fault(40)),
+            },
+        }
+    }
+    None
+}
+
+/// Writes what is left of a command, and then all commands that are owed.
+fn write_owed<W: Write>(link: &mut Link, writer: &mut W) -> Option<End>
+    ensures ran { (r : Option (List ℕ)) (p : Option (List Posted))
+        → RanOn (λ past steps. OnlyBegins steps) link.old link.new r r (W.contents writer.old) (W.contents writer.new) p p }
+    ensures whole { result ≡ None → link.new.left ≡ [] }
+    ensures none { result ≡ None → (past : LinkPast) → Shows link.new past → word_due past ≡ None }
+    ensures held { link.new.bytes ≡ link.old.bytes }
+    ensures stuck { IfSome result (λ end. IsStuck end link.new.left) }
+{
+    'owed: loop {
+        if let Some(end) = push_left(link, writer) {
+            return Some(end);
+        }
+        if !link.begin() {
+            return None;
+        }
+    }
+}
+
+/// Posts the events of a source that are whole, and tells whether its bytes broke behind them.
+fn post_events<G: Gate>(link: &mut Link, gate: &mut G) -> Option<Refusal>
+    ensures ran { (r w : Option (List ℕ)) → Ran (TellsAll result) link.old link.new r r w w (G.posts gate.old) (G.posts gate.new) }
+    ensures breaks { IfSome result IsBreak }
+    ensures room { length link.new.bytes.held < 65535 }
+    ensures left { link.new.left ≡ link.old.left }
+{
+    'events: loop {
+        match link.next_event() {
+            LinkEvent::Announce(config) => {
+                gate.post(Event::Announce(config));
+            }
+            LinkEvent::Measure(frame) => {
+                gate.post(Event::Measure(frame));
+            }
+            LinkEvent::Ignored(_) => {}
+            LinkEvent::Ended(refusal) => return Some(refusal),
+            LinkEvent::More => return None,
+        }
+    }
+}
+
+/// Reads once: how many bytes came, and how the call ends where no more come now.
+fn read_piece<R: Read>(reader: &mut R, buffer: &mut [u8]) -> (usize, Option<End>)
+    requires some { 0 < length buffer.old }
+    requires few { length buffer.old ≤ 4096 }
+    ensures some { result.1 ≡ None → 0 < result.0 }
+    ensures small { result.0 ≤ 4096 }
+    ensures within { result.0 ≤ length buffer.new }
+    ensures read { Consumes (R.remaining reader.old) (R.remaining reader.new) (take result.0 buffer.new) }
+    ensures end { IfSome result.1 (λ end. EndsRead end result.0 (R.remaining reader.new)) }
+{
+    match reader.read(buffer) {
+        Ok(0) => (0, Some(End::Closed)),
+        Ok(size) => (size, None),
+        Err(error) => match error.kind() {
+            ErrorKind::WouldBlock => (0, Some(End::Quiet)),
+            _ => (0, Some(End::Fault(39))),
+        },
+    }
+}
+
+/// One turn: writes what is owed, reads once, and posts what came. The turn in which the reader ends, fails or would block
+/// goes on without bytes, and is the last.
+fn turn<R: Read, W: Write, G: Gate>(
+    link: &mut Link,
+    reader: &mut R,
+    writer: &mut W,
+    gate: &mut G,
+) -> Option<End>
+    requires { length link.old.bytes.held < 65535 }
+    ensures ran { RanOn (EndsTurn result link.new.left (R.remaining reader.new)) link.old link.new (R.remaining reader.old) (R.remaining reader.new)
+        (W.contents writer.old) (W.contents writer.new) (G.posts gate.old) (G.posts gate.new) }
+    ensures room { length link.new.bytes.held < 65535 }
+    ensures goes { result ≡ None → link.new.left ≡ [] }
+    ensures whole { IfSome result (λ end. is_cut end ≡ false → link.new.left ≡ []) }
+{
+    if let Some(end) = write_owed(link, writer) {
+        return Some(end);
+    }
+    let mut piece = [0u8; 4096];
+    let most = link.room().min(4096);
+    let buffer = &mut piece[..most];
+    let (size, end) = read_piece(reader, buffer);
+    link.feed(&buffer[..size]);
+    match post_events(link, gate) {
+        Some(refusal) => Some(End::Fault(refusal.number())),
+        None => end,
+    }
+}
+
+/// Serves a link (own rule): each turn writes what the source is owed, reads at most 4,096 of its bytes, and posts their
+/// events. It ends where the reader ends, fails or would block, where the writer fails or would block, where the bytes break,
+/// and after `turns` reads.
+pub fn run_link<R: Read, W: Write, G: Gate>(
+    link: &mut Link,
+    reader: &mut R,
+    writer: &mut W,
+    gate: &mut G,
+    turns: u64,
+) -> End
+    // All events of the bytes that were read are posted, each once and in order, the commands that fall due before a read are
+    // written, and the end has its cause.
+    ensures ran { Ran (Ends result turns link.new.left (R.remaining reader.new)) link.old link.new (R.remaining reader.old) (R.remaining reader.new)
+        (W.contents writer.old) (W.contents writer.new) (G.posts gate.old) (G.posts gate.new) }
+    // Whatever was begun is written whole, but where a write was cut short.
+    ensures whole { 0 < turns → is_cut result ≡ false → link.new.left ≡ [] }
+{
+    // What it was fed by others comes first, so that there is room. A break shows again in a turn.
+    post_events(link, gate);
+    'turns: for _ in 0..turns {
+        if let Some(end) = turn(link, reader, writer, gate) {
+            return end;
+        }
+    }
+    End::Fault(39)
+}

@@ -1,0 +1,12 @@
+use Rattle.std.proofs.Common.{◌≡◌, ℕ, List, length, Option, None}
+use Rattle.pg_serve.specs.Turned.{Turned}
+use Rattle.pg_serve.proofs.serve.post_commands.Given as goal
+
+abbrev pub invariant-commands : goal.invariant-commands
+invariant-commands g l = record {
+  ran : (r w : Option (List ℕ)) → Turned None l.fn.session l.session r r w w (g.G.Gate.posts l.initial.gate) (g.G.Gate.posts l.gate);
+  left : l.session.left ≡ l.fn.session.left;
+}
+
+abbrev pub decreases-commands : goal.decreases-commands
+decreases-commands g l = length l.session.bytes.held

@@ -1,0 +1,197 @@
+//! The loop of a session over any reader, writer and gate.
+
+ghost use Rattle.std.specs.Prelude.{◌≡◌, ◌<◌, ◌≤◌, ℕ, List, [], length, take, Option, Some, None, IfSome, IfNone, true};
+ghost use Rattle.std.specs.Io.KnownBytes.{Consumes, IsAtEnd};
+ghost use Rattle.pg_session.specs.Ready.{handed_len};
+ghost use Rattle.pg_ingest.specs.Ends.{is_cut};
+ghost use Rattle.pg_serve.specs.Serving.{Served, HasGivenAll, BreaksBy, EndsBy};
+ghost use Rattle.pg_serve.specs.Turned.{Turned, Writes, IsReadEnd, HangsUp};
+
+use pg_gateway::{Event, Gate, Reply};
+use pg_ingest::End;
+use pg_ring::Drained;
+use pg_session::{Next, Session};
+use pg_wire::Refusal;
+use std::io::{ErrorKind, Read, Write};
+
+/// Writes what is left of what a drain handed out.
+fn push_left<W: Write>(session: &mut Session, writer: &mut W) -> Option<End>
+    ensures writes { Writes session.old.left session.new.left (W.contents writer.old) (W.contents writer.new) }
+    ensures same { session.new ≡ record session.old { left = session.new.left } }
+    ensures whole { result ≡ None → session.new.left ≡ [] }
+    ensures cut { IfSome result (λ end. is_cut end ≡ true) }
+    ensures ends { IfSome result (λ end. EndsBy end session.new) }
+{
+    'rest: while !session.left().is_empty() {
+        match writer.write(session.left()) {
+            Ok(0) => return Some(End::Fault(40)),
+            Ok(size) => session.send(size),
+            Err(error) => match error.kind() {
+                ErrorKind::WouldBlock => return Some(End::Stalled),
+                _ => return Some(End::Fault(40)),
+            },
+        }
+    }
+    None
+}
+
+/// Posts the commands of a subscriber's frames that are whole, and tells whether its bytes broke behind them.
+fn post_commands<G: Gate>(session: &mut Session, gate: &mut G) -> Option<Refusal>
+    ensures ran { (r w : Option (List ℕ)) → Turned None session.old session.new r r w w (G.posts gate.old) (G.posts gate.new) }
+    ensures given { HasGivenAll session.new }
+    ensures breaks { BreaksBy result session.new }
+    ensures room { length session.new.bytes.held < 65535 }
+    ensures left { session.new.left ≡ session.old.left }
+{
+    'commands: loop {
+        match session.next_command() {
+            Next::Cmd(command) => {
+                gate.post(Event::Command(session.sub(), command));
+            }
+            Next::Ignored(_) => {}
+            Next::Broken(refusal) => return Some(refusal),
+            Next::More => return None,
+        }
+    }
+}
+
+/// How many bytes a drain handed out.
+fn handed_size(out: Result<Drained, Refusal>) -> usize
+    ensures { result ≡ handed_len out }
+{
+    match out {
+        Ok(drained) => drained.len,
+        Err(_) => 0,
+    }
+}
+
+/// Posts a drain. What it hands out is left to write.
+fn post_drain<G: Gate>(session: &mut Session, gate: &mut G)
+    requires left { session.old.left ≡ [] }
+    ensures ran { (r w : Option (List ℕ)) → Turned (Some End.Quiet) session.old session.new r r w w (G.posts gate.old) (G.posts gate.new) }
+    ensures same { session.new ≡ record session.old { left = session.new.left } }
+{
+    let buffer = session.take_buffer();
+    let Reply::Drained { buf, out } = gate.post(Event::Drain(session.sub(), buffer)) else {
+        unreachable!();
+    };
+    session.put_drained(buf, handed_size(out));
+}
+
+/// Reads once: how many bytes came, and how the call ends where none can come. None where the read failed.
+fn read_piece<R: Read>(reader: &mut R, buffer: &mut [u8]) -> Option<(usize, Option<End>)>
+    requires room { 0 < length buffer.old }
+    ensures read { IfSome result (λ came. (came.0 ≤ length buffer.new)
+        × Consumes (R.remaining reader.old) (R.remaining reader.new) (take came.0 buffer.new)) }
+    ensures kind { IfSome result (λ came. IsReadEnd came.1) }
+    ensures ended { IfSome result (λ came. came.1 ≡ Some End.Closed → IsAtEnd (R.remaining reader.new)) }
+    ensures failed { IfNone result (Consumes (R.remaining reader.old) (R.remaining reader.new) []) }
+{
+    match reader.read(buffer) {
+        Ok(0) => Some((0, Some(End::Closed))),
+        Ok(size) => Some((size, None)),
+        Err(error) => match error.kind() {
+            ErrorKind::WouldBlock => Some((0, Some(End::Quiet))),
+            _ => None,
+        },
+    }
+}
+
+/// One turn: writes what an earlier turn left, reads once, posts the commands that came, posts a drain and writes what it hands
+/// out. The turn in which the reader would block goes on without bytes, and is the last. Where the reader has ended or failed,
+/// or the bytes broke, no drain is posted.
+fn turn<R: Read, W: Write, G: Gate>(
+    session: &mut Session,
+    reader: &mut R,
+    writer: &mut W,
+    gate: &mut G,
+) -> Option<End>
+    requires room { length session.old.bytes.held < 65535 }
+    requires given { HasGivenAll session.old }
+    ensures ran { Turned result session.old session.new (R.remaining reader.old) (R.remaining reader.new)
+        (W.contents writer.old) (W.contents writer.new) (G.posts gate.old) (G.posts gate.new) }
+    ensures room { length session.new.bytes.held < 65535 }
+    ensures given { HasGivenAll session.new }
+    ensures goes { result ≡ None → session.new.left ≡ [] }
+    ensures ends { IfSome result (λ end. EndsBy end session.new) }
+    ensures closed { result ≡ Some End.Closed → IsAtEnd (R.remaining reader.new) }
+{
+    if let Some(end) = push_left(session, writer) {
+        return Some(end);
+    }
+    let mut piece = [0u8; 4096];
+    let most = session.room().min(4096);
+    let buffer = &mut piece[..most];
+    let Some((size, end)) = read_piece(reader, buffer) else {
+        return Some(End::Fault(39));
+    };
+    session.feed(&buffer[..size]);
+    if let Some(refusal) = post_commands(session, gate) {
+        return Some(End::Fault(refusal.number()));
+    }
+    if let Some(End::Closed) = end {
+        return Some(End::Closed);
+    }
+    post_drain(session, gate);
+    match push_left(session, writer) {
+        Some(cut) => Some(cut),
+        None => end,
+    }
+}
+
+/// Turns until one ends, at most so many.
+fn serve_turns<R: Read, W: Write, G: Gate>(
+    session: &mut Session,
+    reader: &mut R,
+    writer: &mut W,
+    gate: &mut G,
+    turns: u64,
+) -> End
+    ensures ran { Turned (Some result) session.old session.new (R.remaining reader.old) (R.remaining reader.new)
+        (W.contents writer.old) (W.contents writer.new) (G.posts gate.old) (G.posts gate.new) }
+    ensures given { HasGivenAll session.new }
+    ensures ends { 0 < turns → EndsBy result session.new }
+    ensures closed { result ≡ End.Closed → IsAtEnd (R.remaining reader.new) }
+{
+    // What it was fed by others comes first, so that there is room. A break shows again in a turn.
+    post_commands(session, gate);
+    'turns: for _ in 0..turns {
+        if let Some(end) = turn(session, reader, writer, gate) {
+            return end;
+        }
+    }
+    End::Fault(39)
+}
+
+/// Posts that the subscriber hangs up.
+fn hang_up<G: Gate>(session: &Session, gate: &mut G)
+    ensures posted { HangsUp session.now (G.posts gate.old) (G.posts gate.new) }
+{
+    gate.post(Event::Hangup(session.sub()));
+}
+
+/// Serves a session (own rule): each turn writes what an earlier turn left, reads at most 4,096 of the subscriber's bytes,
+/// posts their commands, and then a drain, and writes what it hands out. It ends where the reader ends or would block, where
+/// the writer would block, at a fault, where the bytes break, and after `turns` reads. Where it ends as `Closed` or as a fault,
+/// it posts a `Hangup` last.
+pub fn serve_session<R: Read, W: Write, G: Gate>(
+    session: &mut Session,
+    reader: &mut R,
+    writer: &mut W,
+    gate: &mut G,
+    turns: u64,
+) -> End
+    // The commands of the bytes that were read are posted, each once and in order, and what the drains handed out is written.
+    ensures served { Served result session.old session.new (R.remaining reader.old) (R.remaining reader.new)
+        (W.contents writer.old) (W.contents writer.new) (G.posts gate.old) (G.posts gate.new) }
+    // All is written, but where a write was cut short; and nothing broke, but where the call ends by the break.
+    ensures ends { 0 < turns → EndsBy result session.new }
+    ensures closed { result ≡ End.Closed → IsAtEnd (R.remaining reader.new) }
+{
+    let end = serve_turns(session, reader, writer, gate, turns);
+    match end {
+        End::Closed | End::Fault(_) => hang_up(session, gate),
+        End::Quiet | End::Stalled => {}
+    }
+    end
+}

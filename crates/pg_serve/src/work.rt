@@ -1,0 +1,70 @@
+//! Workers, each in a thread of its own.
+
+ghost use Rattle.std.specs.Prelude.{◌≡◌, IfErr};
+
+use pg_wire::Refusal;
+use std::alloc::Global;
+use std::sync::Wait;
+use std::sync::atomic::{AtomicBool, Ordering};
+use std::thread;
+use std::thread::Threads;
+
+/// What a thread does again and again (own rule).
+pub trait Work {
+    /// Does a part of the work, and tells whether more is to be done.
+    fn turn(&mut self) -> bool;
+}
+
+/// Turns of one worker: until one answers false, so many were made, or `stop` is set.
+fn work_on<W: Work>(mut worker: W, turns: u64, stop: &AtomicBool) -> W {
+    for _ in 0..turns {
+        if stop.load(Ordering::SeqCst) || !worker.turn() {
+            break;
+        }
+    }
+    worker
+}
+
+/// Gives each worker a thread, which ends when a turn answers false, after `turns` turns or once `stop` is set; joins all of
+/// them, and hands the workers back in their order (own rule). With no workers it returns at once.
+///
+/// It waits until all threads have ended. That they run at once, and which workers come back, is shown by a test and not
+/// proved.
+///
+/// # Errors
+///
+/// `NoMemory` where there is none for the lists or a thread can't be started. A thread that can't be started sets `stop`; those
+/// that were are joined, and all workers are dropped.
+pub fn run_workers<R: Threads + Wait + Sync, W: Work + Send + Drop>(
+    rt: &R,
+    alloc: Global,
+    workers: Vec<W>,
+    turns: u64,
+    stop: &AtomicBool,
+) -> Result<Vec<W>, Refusal>
+    ensures memory { IfErr result (λ refusal. refusal ≡ Refusal.NoMemory) }
+{
+    let mut back = Vec::with_capacity(alloc, workers.len())?;
+    let mut handles = Vec::with_capacity(alloc, workers.len())?;
+    let mut refused = false;
+    thread::scope(thread::scope_env(), rt, |scope| {
+        for worker in workers {
+            match scope.spawn(move || work_on(worker, turns, stop)) {
+                Ok(handle) => {
+                    let _ = handles.push(handle);
+                }
+                Err(_) => {
+                    stop.store(true, Ordering::SeqCst);
+                    refused = true;
+                }
+            }
+        }
+    });
+    for handle in handles {
+        let _ = back.push(handle.join(rt));
+    }
+    if refused {
+        return Err(Refusal::NoMemory);
+    }
+    Ok(back)
+}
