@@ -324,6 +324,14 @@ row("limits-and-refusals-4", stream_101(), STARTED, ("tick 100", DONE),
     [of_pmu(7, measured(7, SLOTS[0], DATA_7, soc=soc), answer) for soc, answer in (
         (130, MADE), (70, DONE), (131, "refused 21 FarClock"), (69, "refused 21 FarClock"))])
 
+# What is counted of a PMU: its blocks, those that are refused too, and no announcement.
+
+row("counters-of-a-pmu", ("pmustats 7", "refused 23 NoSuchPmu"), ("addpmu 7", DONE), ("pmustats 7", "pmustats taken 0"),
+    of_pmu(7, CONFIG_7, DONE), ("pmustats 7", "pmustats taken 0"), at_7(0, DONE), ("pmustats 7", "pmustats taken 1"),
+    of_pmu(7, CONFIG_7, DONE), ("pmustats 7", "pmustats taken 1"), ("tick 200", DONE), at_7(1, "refused 21 FarClock"),
+    ("pmustats 7", "pmustats taken 1 21:1"), of_pmu(7, measured(7, SLOTS[0], DATA_7, soc=200), DONE),
+    ("pmustats 7", "pmustats taken 2 21:1"), ("linkstats 7", "linkstats taken 5"))
+
 # Links and shared frames.
 
 row("link-refusals-and-triggers-1", ("addpmu 7", DONE), ("linkup 7", "send " + asked(7, 5)), of_pmu(7, MEASURED_7, "ignored 18 NoConfig"),
@@ -387,7 +395,7 @@ row("hostile-bytes", two_subscribers(), path(2, 8, CONFIG_8, MEASURED_8),
         ("connect 1", DONE),
         (f"sub 1 {octets}", *([noted] if noted else []), *([DONE] if noted and noted.startswith("closed") else [])),
         *([] if noted and noted.startswith("closed") else [("hangup 1", DONE)]))],
-    ("linkstats 8", "linkstats taken 2"), ("sessionstats 2", "sessionstats taken 2"), ("pmustats 8", "pmustats taken 2"),
+    ("linkstats 8", "linkstats taken 2"), ("sessionstats 2", "sessionstats taken 2"), ("pmustats 8", "pmustats taken 1"),
     ("queue 2", "rest -", "reply " + reply(0x32, 101, [counted(BLOCK_8, 1)]), "frame 0 " + DATA_101_OF_8, "pending 0"),
     drain(2, 400, 2, 0, reply(0x32, 101, [counted(BLOCK_8, 1)]) + DATA_101_OF_8),
     ("linkup 7", "send " + asked(7, 5)), ("connect 1", DONE), of_pmu(7, CONFIG_7, DONE, "send " + asked(7, 2)),
@@ -417,7 +425,7 @@ row("forms-of-lines",
      ("pmu 7 AA02",), ("pmu 7 " + whole(measured(7, SLOTS[1], DATA_7))[4:-4],),
      ("pmu 7 " + whole(measured(7, SLOTS[1], DATA_7))[-4:], MADE),
      ("linkstats 7", "linkstats taken 3 7:1 18:1"), ("sessionstats 1", "sessionstats taken 2 5:1"),
-     ("pmustats 7", "pmustats taken 3"), ("pmu 7 AA02000F", "closed 4 ShortSize"), ("pmu 7 AA", "closed 4 ShortSize"),
+     ("pmustats 7", "pmustats taken 2"), ("pmu 7 AA02000F", "closed 4 ShortSize"), ("pmu 7 AA", "closed 4 ShortSize"),
      ("linkup 7", "send " + asked(7, 5)), drain(1, 16, 1, 0, CONFIG_101[:32]),
      ("queue 1", "rest " + CONFIG_101[32:], "frame 0 " + DATA_101, "frame 0 " + out_101(1), "pending 0"),
      ("audit 1 0", "audit 6 8 0"), ("audit 1 5", "audit 1 1 0"), ("audit 1 6", "audit none"),

@@ -10,7 +10,7 @@ use std::rt::Files;
 use std::{fs, io};
 
 /// The rows.
-const ROWS: [&str; 36] = [
+const ROWS: [&str; 37] = [
     "first-path",
     "two-subscribers",
     "stored-run",
@@ -38,6 +38,7 @@ const ROWS: [&str; 36] = [
     "limits-and-refusals-2",
     "limits-and-refusals-3",
     "limits-and-refusals-4",
+    "counters-of-a-pmu",
     "link-refusals-and-triggers-1",
     "link-refusals-and-triggers-2",
     "shared-frame-1",

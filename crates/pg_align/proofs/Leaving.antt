@@ -34,12 +34,12 @@ module _ {X : Type 0} where
   above_step' last s a arrivals false u below i = below (rw u at i)
 
   -- an open slot is above the last one that left
-  open_above : (last : Option ℕ) (s : ℕ) (arrivals : List (Arrival X)) → In s (open_numbers last arrivals) → is_above last s ≡ true
+  pub open_above : (last : Option ℕ) (s : ℕ) (arrivals : List (Arrival X)) → In s (open_numbers last arrivals) → is_above last s ≡ true
   open_above last s [] i = absurd i
   open_above last s (a ∷ arrivals) i = above_step' last s a arrivals _ refl (open_above last s arrivals) i
 
   -- once the least open slot has left, the others are open
-  rest_open : (h : History X) (slot : ℕ) (slots : List ℕ) → open_slots h ≡ slot ∷ slots → open_slots (left h slot) ≡ slots
+  pub rest_open : (h : History X) (slot : ℕ) (slots : List ℕ) → open_slots h ≡ slot ∷ slots → open_slots (left h slot) ≡ slots
   rest_open h slot slots e =
       let is_in : In slot (open_numbers h.last h.arrivals) = rw e (inl refl) in
       let up = open_above h.last slot h.arrivals is_in in

@@ -1,5 +1,5 @@
 -- A stream by the list of all arrivals that it kept in this on-period. The part that an arrival brings may be anything.
-use Rattle.std.specs.Prelude.{ℕ, zero, suc, ◌+◌, ◌-◌, Bool, true, false, ◌&&◌, ◌||◌, ◌==◌, not, is_some, nat_lt, nat_le, if◌then◌else◌, List, [], ◌∷◌, length, replicate, Option, Some, None, unwrap_or}
+use Rattle.std.specs.Prelude.{◌≡◌, ℕ, zero, suc, ◌+◌, ◌-◌, IsTrue, Bool, true, false, ◌&&◌, ◌||◌, ◌==◌, not, is_some, nat_lt, nat_le, if◌then◌else◌, List, [], ◌∷◌, length, replicate, Option, Some, None, unwrap_or}
 use Rattle.pg_align.specs.declared.answer.Arrived.{Arrived}
 use Rattle.pg_align.specs.declared.answer.Arrived.TheVariants.{Kept, Late, Twice}
 
@@ -44,15 +44,21 @@ abbrev pub is_above : Option ℕ → ℕ → Bool
 is_above None slot = true
 is_above (Some last) slot = nat_lt last slot
 
+-- These slots rise strictly, all of them above `last`, and `end` is the last of them; where there is none, `end` is `last`.
+abbrev pub RiseTo : Option ℕ → Option ℕ → List ℕ → Type 0
+RiseTo end last [] = last ≡ end
+RiseTo end last (slot ∷ slots) = IsTrue (is_above last slot) × RiseTo end (Some slot) slots
+
 -- a number is put into a rising list, once
 abbrev pub put_number : ℕ → List ℕ → List ℕ
 put_number n [] = n ∷ []
 put_number n (m ∷ ms) = if nat_lt n m then n ∷ m ∷ ms else (if m == n then m ∷ ms else m ∷ put_number n ms)
 
--- each effective place has a part
+-- Each effective member has a part: `effective` says of each member whether it is, `parts` what came for it. A member past the
+-- end of `parts` has none.
 abbrev pub has_all : {X : Type 0} → List Bool → List (Option X) → Bool
 has_all [] parts = true
-has_all (wanted ∷ effective) [] = true
+has_all {X = X} (wanted ∷ effective) [] = not wanted && has_all {X = X} effective []
 has_all (wanted ∷ effective) (part ∷ parts) = (is_some part || not wanted) && has_all effective parts
 
 -- a stream that was just defined: it is off, and no member is effective

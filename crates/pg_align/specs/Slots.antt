@@ -25,44 +25,12 @@ none_open window wait members =
     record { window = window; wait = wait; effective = replicate members false; is_on = false; last = None; slots = [] }
 
 module _ {X : Type 0} where
-  -- each has this many places
-  abbrev pub HavePlaces : ℕ → List (OpenSlot X) → Type 0
-  HavePlaces places [] = Unit {0}
-  HavePlaces places (first ∷ slots) = (length first.parts ≡ places) × HavePlaces places slots
-
-  -- each has this many places, and no part
-  abbrev pub AreFree : ℕ → List (OpenSlot X) → Type 0
-  AreFree places [] = Unit {0}
-  AreFree places (first ∷ slots) = (first.parts ≡ replicate places None) × AreFree places slots
-
-  -- each comes after this slot
-  abbrev pub AreAfter : ℕ → List (OpenSlot X) → Type 0
-  AreAfter slot [] = Unit {0}
-  AreAfter slot (first ∷ slots) = (slot < first.slot) × AreAfter slot slots
-
-  -- their numbers rise
-  abbrev pub AreRising : List (OpenSlot X) → Type 0
-  AreRising [] = Unit {0}
-  AreRising (first ∷ slots) = AreAfter first.slot slots × AreRising slots
-
   -- the part of a slot at a place, if it is open and has one
   abbrev pub part_at : List (OpenSlot X) → ℕ → ℕ → Option X
   part_at [] slot place = None
   part_at (first ∷ slots) slot place =
       if nat_lt slot first.slot then None
       else (if first.slot == slot then slice_index_or first.parts place None else part_at slots slot place)
-
-  -- how many slots come before this one
-  abbrev pub count_below : ℕ → List (OpenSlot X) → ℕ
-  count_below slot [] = 0
-  count_below slot (first ∷ slots) = if nat_lt first.slot slot then suc (count_below slot slots) else 0
-
-  -- the slot is open, and stands at this place
-  pub record StandsAt (slot : ℕ) (slots : List (OpenSlot X)) (at : ℕ) : Type 0 where
-    pub here : OpenSlot X
-    pub found : slice_get slots at ≡ Some here
-    pub same : here.slot ≡ slot
-    pub place : at ≡ count_below slot slots
 
   -- how many are open besides this one
   abbrev pub others_than : ℕ → List (OpenSlot X) → ℕ
@@ -177,3 +145,37 @@ module _ {X : Type 0} where
   -- all open slots, and what is left behind
   abbrev pub all_flushed : Aligned X → Departures X (Aligned X)
   all_flushed a = all_flushed_of a a.slots
+
+  -- ---- only private contracts and proofs use what follows
+
+  -- each has this many places
+  abbrev pub HavePlaces : ℕ → List (OpenSlot X) → Type 0
+  HavePlaces places [] = Unit {0}
+  HavePlaces places (first ∷ slots) = (length first.parts ≡ places) × HavePlaces places slots
+
+  -- each has this many places, and no part
+  abbrev pub AreFree : ℕ → List (OpenSlot X) → Type 0
+  AreFree places [] = Unit {0}
+  AreFree places (first ∷ slots) = (first.parts ≡ replicate places None) × AreFree places slots
+
+  -- each comes after this slot
+  abbrev pub AreAfter : ℕ → List (OpenSlot X) → Type 0
+  AreAfter slot [] = Unit {0}
+  AreAfter slot (first ∷ slots) = (slot < first.slot) × AreAfter slot slots
+
+  -- their numbers rise
+  abbrev pub AreRising : List (OpenSlot X) → Type 0
+  AreRising [] = Unit {0}
+  AreRising (first ∷ slots) = AreAfter first.slot slots × AreRising slots
+
+  -- how many slots come before this one
+  abbrev pub count_below : ℕ → List (OpenSlot X) → ℕ
+  count_below slot [] = 0
+  count_below slot (first ∷ slots) = if nat_lt first.slot slot then suc (count_below slot slots) else 0
+
+  -- the slot is open, and stands at this place
+  pub record StandsAt (slot : ℕ) (slots : List (OpenSlot X)) (at : ℕ) : Type 0 where
+    pub here : OpenSlot X
+    pub found : slice_get slots at ≡ Some here
+    pub same : here.slot ≡ slot
+    pub place : at ≡ count_below slot slots

@@ -1,7 +1,8 @@
 //! Laws of slots that leave, as contracts of functions that do nothing: a caller that needs one calls it.
-ghost use Rattle.std.specs.Prelude.{◌≡◌, ◌≤◌, ℕ, List, [], length, Some, None};
+ghost use Rattle.std.specs.Prelude.{◌≡◌, ◌≤◌, ℕ, List, [], length, map, Some, None, false};
 ghost use Rattle.pg_data.specs.Shared.{Piece};
-ghost use Rattle.pg_align.specs.Histories.{Departed, History, flush_all, flush_one, leave_all, leave_one, next_to_flush, next_to_leave, open_slots, with_first};
+ghost use Rattle.pg_align.specs.declared.answer.Arrived.{Arrived};
+ghost use Rattle.pg_align.specs.Histories.{Departed, History, RiseTo, answer_to, flush_all, flush_one, is_above, leave_all, leave_one, next_to_flush, next_to_leave, open_slots, slot_left, take_arrival, with_first};
 ghost use Rattle.pg_align.specs.Slots.{Aligned, OpenSlot, after_leaving, all_flushed, all_leaving, flushed_of, leaving_of, others_than, without_least};
 ghost use Rattle.pg_align.specs.Shown.{Shows};
 
@@ -65,4 +66,14 @@ pub fn few_stay_open()
     ensures flushed { (align : Aligned Piece) → (all_flushed align).after.slots ≡ [] }
     ensures count { (align : Aligned Piece) (h : History Piece) → Shows align h
         → length align.slots ≡ length (open_slots h) }
+{}
+
+/// By the list of all arrivals: the slots that leave rise strictly, each above the last one that had left in this on-period, and the
+/// last of them is afterwards the last one that left. What arrives for that slot or an earlier one is late, and changes nothing. So
+/// no slot leaves twice in an on-period.
+pub fn slots_rise()
+    ensures left { (h : History Piece) → RiseTo (leave_all h).after.last h.last (map slot_left (leave_all h).frames) }
+    ensures flushed { (h : History Piece) → RiseTo (flush_all h).after.last h.last (map slot_left (flush_all h).frames) }
+    ensures late { (h : History Piece) (slot place : ℕ) (part : Piece) → is_above h.last slot ≡ false
+        → (answer_to h slot place ≡ Arrived.Late) × (take_arrival h slot place part ≡ h) }
 {}

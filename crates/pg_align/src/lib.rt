@@ -13,7 +13,7 @@ pub use align::{Align, Left};
 pub use answer::Arrived;
 pub use laws::{
     all_flushed_in_steps, all_leaving_in_steps, few_stay_open, flushing_shows_history,
-    leaving_repeats, leaving_shows_history,
+    leaving_repeats, leaving_shows_history, slots_rise,
 };
 
 #[cfg(test)]

@@ -32,7 +32,7 @@ pub struct Stats {
 /// it.
 #[derive(Clone, Copy, Debug, PartialEq, Eq)]
 pub struct PmuStats {
-    /// Blocks or configurations taken (of a PMU), events given (of a link), commands given (of a session).
+    /// Blocks of measurements taken (of a PMU), events given (of a link), commands given (of a session).
     pub taken: u64,
     /// Refusals and ignored frames by the number of their reason, 1 to 40.
     pub by_reason: [u64; 41],

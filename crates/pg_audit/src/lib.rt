@@ -6,6 +6,3 @@ mod counters;
 
 pub use audit::{Audit, Entry, What};
 pub use counters::{PmuStats, Stats};
-
-#[cfg(test)]
-mod tests;

@@ -8,6 +8,3 @@ mod word;
 pub use command::{Command, read_command, write_command};
 pub use laws::{one_command, written_is_read};
 pub use word::Word;
-
-#[cfg(test)]
-mod tests;

@@ -12,6 +12,3 @@ pub use laws::{
 pub use read::read_config;
 pub use source::{Announced, PmuConfig, SourceConfig};
 pub use write::{end_config, start_config, write_config, write_header};
-
-#[cfg(test)]
-mod tests;

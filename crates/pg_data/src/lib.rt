@@ -14,6 +14,3 @@ pub use laws::{
 };
 pub use read::read_data;
 pub use shared::SharedBlock;
-
-#[cfg(test)]
-mod tests;

@@ -6,6 +6,3 @@ mod laws;
 
 pub use grants::Grants;
 pub use laws::{grants_are_sets, grants_stay_sorted};
-
-#[cfg(test)]
-mod tests;

@@ -13,7 +13,8 @@ use Rattle.pg_gateway.specs.Sharing.{revokes, ticks, total}
 use Rattle.pg_gateway.specs.Occurrences.{drop_pmu, tells}
 use Rattle.pg_gateway.specs.Shared.{Shared}
 use Rattle.pg_gateway.specs.Shown.{SeatValue, GatewayValue, GatewayShows, Steps}
-use Rattle.pg_gateway.specs.Taking.{AllSeats, Awaits, IsFit, IsLaid, HasNone, FansOut}
+use Rattle.pg_gateway.specs.Taking.{Awaits, IsFit, IsLaid, HasNone, FansOut}
+use Rattle.pg_gateway.specs.Frugal.{AllSeats}
 
 pub seats-map : (P Q : SeatValue → Type 0) → ((v : SeatValue) → P v → Q v) → (xs : List (ℕ × SeatValue)) → AllSeats P xs → AllSeats Q xs
 seats-map P Q f [] all = tt

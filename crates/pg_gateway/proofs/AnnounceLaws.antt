@@ -5,7 +5,7 @@ use Rattle.std.proofs.lemmas.List.{drop_more}
 use Rattle.pg_wire.specs.declared.refusal.Refusal.TheVariants.{NoMemory, NoSuchPmu}
 use Rattle.pg_wire.specs.declared.ids.PmuKey.{PmuKey}
 use Rattle.pg_config.specs.Parts.{Part, Source, block_id}
-use Rattle.pg_registry.specs.Registered.{Pmus, announcing, refusing, taking, changed}
+use Rattle.pg_registry.specs.Registered.{Pmus, announcing, refusing, changed}
 use Rattle.pg_session.specs.Events.{Announcing, config_of, key_in, announced_part, announced_at}
 use Rattle.pg_session.specs.Private.{refused, done}
 use Rattle.pg_session.specs.Ready.{AreRising}
@@ -51,7 +51,7 @@ module _ {X : Type 0} (f : X → Part) (config : Source) (places : List ℕ) (k 
   pub announce_step : (items : List X) (x : X) (old new whole : Pmus) (key : PmuKey) → AreRising 0 (length config.parts) places → k < length places
       → Some x ≡ slice_get items 0 → map f items ≡ map config_of (announced_at config (drop k places))
       → key.source ≡ config.source → IfSome (slice_get config.parts (get_or places k 0)) (λ part. key.pmu ≡ block_id part.block)
-      → new ≡ changed taking key (changed (announcing (f x)) key old)
+      → new ≡ changed (announcing (f x)) key old
       → all_announced old (announced_at config (drop k places)) ≡ whole
       → (map f (drop 1 items) ≡ map config_of (announced_at config (drop (k + 1) places))) × (all_announced new (announced_at config (drop (k + 1) places)) ≡ whole)
   announce_step [] x old new whole key rising lt first ready source pmu is rest = absurd (no_x first)
@@ -73,9 +73,9 @@ module _ {X : Type 0} (f : X → Part) (config : Source) (places : List ℕ) (k 
       same_x : Some x ≡ Some y → x ≡ y
       same_x e = cc
 
-      made : new ≡ changed taking (key_in config there.0) (changed (announcing there.0) (key_in config there.0) old)
-      made = is ∙ ap (λ part. changed taking key (changed (announcing part) key old)) (ap f (same_x first) ∙ parts.0)
-          ∙ ap (λ key. changed taking key (changed (announcing there.0) key old)) (key_is config (get_or places k 0) there.0 key there.1 source pmu)
+      made : new ≡ changed (announcing there.0) (key_in config there.0) old
+      made = is ∙ ap (λ part. changed (announcing part) key old) (ap f (same_x first) ∙ parts.0)
+          ∙ ap (λ key. changed (announcing there.0) key old) (key_is config (get_or places k 0) there.0 key there.1 source pmu)
 
 -- What the gateway is after an announcement.
 pub announced_refused : (config : Source) (S : Shared) (old : GatewayValue) → GatewayShows old S → registered_of S.pmus config ≡ []

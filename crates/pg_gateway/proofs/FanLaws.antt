@@ -7,7 +7,8 @@ use Rattle.indexmap.specs.IndexMap.{set_value_at}
 use Rattle.pg_gateway.specs.Related.{Related}
 use Rattle.pg_gateway.specs.Sharing.{Seat, Seats, Offer, frames_for, shared_to, total, fan_out}
 use Rattle.pg_gateway.specs.Shown.{SeatValue, SeatShows}
-use Rattle.pg_gateway.specs.Taking.{TakesShare, FansOut, AllSeats}
+use Rattle.pg_gateway.specs.Taking.{TakesShare, FansOut}
+use Rattle.pg_gateway.specs.Frugal.{AllSeats}
 
 -- one more subscriber has taken its share
 total-push : (o : Offer) (seats : Seats) (s : ℕ × Seat) → total o (seats ++ s ∷ []) ≡ total o seats + frames_for o s.1

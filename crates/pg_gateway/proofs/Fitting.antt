@@ -18,7 +18,8 @@ use Rattle.pg_gateway.specs.Related.{Related}
 use Rattle.pg_gateway.specs.Sharing.{Seats, announces, measures, some_announced, some_measured}
 use Rattle.pg_gateway.specs.Judging.{same_part, block_refusal, is_far, is_taken}
 use Rattle.pg_gateway.specs.Shown.{SeatValue, SeatShows}
-use Rattle.pg_gateway.specs.Taking.{AllSeats, Fits, IsFit}
+use Rattle.pg_gateway.specs.Taking.{Fits, IsFit}
+use Rattle.pg_gateway.specs.Frugal.{AllSeats}
 use Rattle.pg_gateway.specs.Consistent.{AllAgree}
 
 -- an announcement is of granted PMUs alone, once the others are left out

@@ -12,7 +12,8 @@ use Rattle.pg_gateway.specs.Occurrences.{Occurrence, add_pmu, drop_pmu, add_sub,
 use Rattle.pg_gateway.specs.Sharing.{Seat, Seats}
 use Rattle.pg_gateway.specs.Shared.{Shared, Reach, to_all, to_one, adds, drops, to_none, reach, takes_memory, own_answer, reached_answer, stats_answer, pmu_answer, audit_answer, seat_of, made, answer}
 use Rattle.pg_gateway.specs.Shown.{GatewayValue, Goes}
-use Rattle.pg_gateway.specs.Frugal.{Frugal, MayCopy}
+use Rattle.pg_gateway.specs.Frugal.{Frugal}
+use Rattle.pg_gateway.specs.Taking.{MayCopy}
 
 own_answered : (p : Model) (x : Happening) (k : ℕ) → private.answer by_arrivals by_numbers p x k ≡ refused NoMemory → ⊥
 own_answered p (own.grant key config) k e = cc

@@ -14,7 +14,8 @@ use Rattle.pg_gateway.specs.Sharing.{Seat, Seats}
 use Rattle.pg_gateway.specs.Occurrences.{asks, tells}
 use Rattle.pg_gateway.specs.Shared.{Shared, seat_of, at_seat, moved, with_note, code_of, noted_as, seats_noted, own_refusal, own_frames, own_answer, May}
 use Rattle.pg_gateway.specs.Shown.{SeatValue, SeatShows, GatewayValue, GatewayShows, Steps}
-use Rattle.pg_gateway.specs.Taking.{AllSeats, noted_by, OwnMay, TakesAt}
+use Rattle.pg_gateway.specs.Taking.{noted_by, OwnMay, TakesAt}
+use Rattle.pg_gateway.specs.Frugal.{AllSeats}
 
 pub at_seat-none : (u : ℕ) (f : Seat → Seat) (ss : Seats) → seat_of u ss ≡ None → at_seat u f ss ≡ ss
 at_seat-none u f [] none = refl

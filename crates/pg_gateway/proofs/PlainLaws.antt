@@ -9,7 +9,7 @@ use Rattle.pg_session.specs.declared.event.PrivateReply.{PrivateReply}
 use Rattle.pg_gateway.specs.Shared.{noted_as}
 use Rattle.pg_gateway.specs.declared.event.Event.{Event}
 use Rattle.pg_gateway.specs.declared.event.Event.TheVariants as kind
-use Rattle.pg_gateway.specs.Posting.{IsForAll}
+use Rattle.pg_gateway.specs.Taking.{IsForAll}
 
 none_noted : (what : What) → None ≡ Some what → ⊥
 none_noted what e = cc

@@ -11,7 +11,7 @@ use Rattle.pg_entitle.specs.Grants as grants
 use Rattle.pg_entitle.proofs.Orders.{same_of_eq}
 use Rattle.pg_outcfg.specs.Listing.{Listing, config_at}
 use Rattle.pg_outcfg.proofs.Places.{at-with}
-use Rattle.pg_registry.specs.Registered.{Pmu, Pmus, IsRegistry, pmu_of, has_key, config_in, announcing, taking, changed}
+use Rattle.pg_registry.specs.Registered.{Pmu, Pmus, IsRegistry, pmu_of, has_key, config_in, announcing, changed}
 use Rattle.pg_registry.proofs.Staying.{apart-changed, found-changed}
 use Rattle.pg_session.specs.Events.{Announcing, key_in, announced_part, announced_at}
 use Rattle.pg_session.specs.Private.{put_all}
@@ -71,10 +71,8 @@ said_like : (has other : PmuKey → Bool) → ((k : PmuKey) → has k ≡ true �
 said_like has other same [] all = tt
 said_like has other same (a ∷ list) all = (record { there = same a.key all.0.there; keyed = all.0.keyed; apart = all.0.apart }, said_like has other same list all.1)
 
-has_still : (a : Announcing) (pmus : Pmus) (k : PmuKey) → has_key pmus k ≡ true → has_key (changed taking a.key (changed (announcing a.config) a.key pmus)) k ≡ true
-has_still a pmus k is =
-    ap is_some (found-changed (changed (announcing a.config) a.key pmus) taking a.key k) ∙ by taking (key_eq k a.key) (pmu_of (changed (announcing a.config) a.key pmus) k)
-    ∙ ap is_some (found-changed pmus (announcing a.config) a.key k) ∙ by (announcing a.config) (key_eq k a.key) (pmu_of pmus k) ∙ is
+has_still : (a : Announcing) (pmus : Pmus) (k : PmuKey) → has_key pmus k ≡ true → has_key (changed (announcing a.config) a.key pmus) k ≡ true
+has_still a pmus k is = ap is_some (found-changed pmus (announcing a.config) a.key k) ∙ by (announcing a.config) (key_eq k a.key) (pmu_of pmus k) ∙ is
   where
     by : (change : Pmu → Pmu) (b : Bool) (o : Option Pmu) → is_some (if b then option_map change o else o) ≡ is_some o
     by change true None = refl
@@ -82,17 +80,15 @@ has_still a pmus k is =
     by change false o = refl
 
 config_now : (a : Announcing) (pmus : Pmus) (k : PmuKey) → has_key pmus a.key ≡ true
-    → config_in (changed taking a.key (changed (announcing a.config) a.key pmus)) k ≡ (if key_eq k a.key then Some a.config else config_in pmus k)
+    → config_in (changed (announcing a.config) a.key pmus) k ≡ (if key_eq k a.key then Some a.config else config_in pmus k)
 config_now a pmus k there =
-    ap (option_and_then (λ (pmu : Pmu). pmu.config)) (found-changed (changed (announcing a.config) a.key pmus) taking a.key k
-    ∙ ap (λ o. if key_eq k a.key then option_map taking o else o) (found-changed pmus (announcing a.config) a.key k))
-    ∙ by (key_eq k a.key) refl (pmu_of pmus k) refl
+    ap (option_and_then (λ (pmu : Pmu). pmu.config)) (found-changed pmus (announcing a.config) a.key k) ∙ by (key_eq k a.key) refl (pmu_of pmus k) refl
   where
     here : key_eq k a.key ≡ true → has_key pmus k ≡ true
     here same = ap (has_key pmus) (same_of_eq k a.key same) ∙ there
 
     by : (b : Bool) → key_eq k a.key ≡ b → (o : Option Pmu) → pmu_of pmus k ≡ o
-        → option_and_then (λ (pmu : Pmu). pmu.config) (if b then option_map taking (if b then option_map (announcing a.config) o else o) else (if b then option_map (announcing a.config) o else o))
+        → option_and_then (λ (pmu : Pmu). pmu.config) (if b then option_map (announcing a.config) o else o)
         ≡ (if b then Some a.config else option_and_then (λ (pmu : Pmu). pmu.config) o)
     by true same None is = absurd (true≢false (sym (here same) ∙ ap is_some is))
     by true same (Some pmu) is = refl
@@ -101,7 +97,7 @@ config_now a pmus k there =
 pub announced_config : (list : List Announcing) (pmus : Pmus) (k : PmuKey) → AllSaid (has_key pmus) list → config_in (all_announced pmus list) k ≡ over (said list k) (config_in pmus k)
 announced_config [] pmus k all = refl
 announced_config (a ∷ list) pmus k all =
-    announced_config list (changed taking a.key (changed (announcing a.config) a.key pmus)) k (said_like (has_key pmus) _ (has_still a pmus) list all.1)
+    announced_config list (changed (announcing a.config) a.key pmus) k (said_like (has_key pmus) _ (has_still a pmus) list all.1)
     ∙ ap (over (said list k)) (config_now a pmus k all.0.there) ∙ by (key_eq k a.key) refl
   where
     by : (b : Bool) → key_eq k a.key ≡ b → over (said list k) (if b then Some a.config else config_in pmus k) ≡ over (if b then Some a.config else said list k) (config_in pmus k)
@@ -117,21 +113,13 @@ keyed_now a (p ∷ pmus) own keyed = by (key_eq a.key p.0) refl (keyed_now a pmu
     by true same rest = (own ∙ ap (λ (key : PmuKey). key.pmu) (same_of_eq a.key p.0 same), keyed.1)
     by false other rest = (keyed.0, rest)
 
-keyed_taken : (key : PmuKey) (pmus : Pmus) → AreKeyed pmus → AreKeyed (changed taking key pmus)
-keyed_taken key [] keyed = tt
-keyed_taken key (p ∷ pmus) keyed = by (key_eq key p.0) (keyed_taken key pmus keyed.1)
-  where
-    by : (b : Bool) → AreKeyed (changed taking key pmus) → AreKeyed (if b then (p.0, taking p.1) ∷ pmus else p ∷ changed taking key pmus)
-    by true rest = (keyed.0, keyed.1)
-    by false rest = (keyed.0, rest)
-
 pub announced_keyed : (list : List Announcing) (has : PmuKey → Bool) (pmus : Pmus) → AllSaid has list → AreKeyed pmus → AreKeyed (all_announced pmus list)
 announced_keyed [] has pmus all keyed = keyed
-announced_keyed (a ∷ list) has pmus all keyed = announced_keyed list has _ all.1 (keyed_taken a.key _ (keyed_now a pmus all.0.keyed keyed))
+announced_keyed (a ∷ list) has pmus all keyed = announced_keyed list has _ all.1 (keyed_now a pmus all.0.keyed keyed)
 
 pub announced_registry : (list : List Announcing) (pmus : Pmus) → IsRegistry pmus → IsRegistry (all_announced pmus list)
 announced_registry [] pmus is = is
-announced_registry (a ∷ list) pmus is = announced_registry list _ (apart-changed _ taking a.key (apart-changed pmus (announcing a.config) a.key is))
+announced_registry (a ∷ list) pmus is = announced_registry list _ (apart-changed pmus (announcing a.config) a.key is)
 
 -- A subscriber sees what its PMUs announced.
 pub announced_agrees : (pmus : Pmus) (list : List Announcing) → AllSaid (has_key pmus) list → (s : Seat) (k : ℕ) → AgreesWith pmus s.own → AgreesWith (all_announced pmus list) (shared_to (announces list) s k).own

@@ -1,6 +1,7 @@
 -- One subscriber takes its share of an event for all.
 use Rattle.std.proofs.Common.{◌≡◌, ℕ, ◌<◌, ◌≤◌, ◌⊎◌, Bool, true, true≢false, List, [], ◌∷◌, ◌++◌, length, filter, Option, Some, None, refl, sym, ap, subst, ◌∙◌, arith, inl, inr}
-use Rattle.std.specs.Prelude.{slice_get}
+use Rattle.std.specs.Prelude.{slice_get, false, Ok, Err}
+use Rattle.pg_wire.specs.declared.refusal.Refusal.{Refusal}
 use Rattle.pg_wire.specs.declared.refusal.Refusal.TheVariants.{NoMemory}
 use Rattle.pg_wire.specs.declared.ids.PmuKey.{PmuKey}
 use Rattle.pg_entitle.specs.Grants.{has_key}
@@ -16,7 +17,8 @@ use Rattle.pg_session.specs.Ready.{AreRising, IsFor, IsReady, NeedsNone}
 use Rattle.pg_session.specs.Steps.{HasNoCopies}
 use Rattle.pg_gateway.specs.Sharing.{Seat, Offer, announces, some_announced, some_measured, share, notes_of, frames_in_share, after_share}
 use Rattle.pg_gateway.specs.Shown.{SeatValue, SeatShows}
-use Rattle.pg_gateway.specs.Taking.{measured, part_passes, IsFit, IsLaid, NeedsNoCopy, Awaits, Fits, TakesShare, counts_of}
+use Rattle.pg_gateway.specs.Taking.{measured, part_passes, IsFit, IsLaid, Awaits, Fits, HasNone, LaysShare, TakesShare, TakesOffer, counts_of}
+use Rattle.pg_gateway.specs.Frugal.{NeedsNoCopy}
 use Rattle.pg_gateway.proofs.Places.{announced-filter, samples-filter, announced-some, samples-some}
 use Rattle.pg_gateway.proofs.ShareLaws.{Quiet, share_quiet}
 
@@ -111,6 +113,60 @@ lays_none v o is none = subst (λ o. IsLaid v o) (sym is) none
 
 pub needless_at : (v : SubscriberValue) (o : Option Happening) (x : Happening) → o ≡ Some x → NeedsNoCopy v o → NeedsNone v x
 needless_at v o x is needs = subst (λ o. NeedsNoCopy v o) is needs
+
+-- Copies are laid by one that has no share, and that is spared; by one that has; or memory is refused. `inner` is what the
+-- subscriber held before.
+pub lays_nothing : (o : Offer) (old inner : SeatValue) → inner ≡ old → HasNone old → share o old.subscriber.own.grants ≡ None
+    → LaysShare o old (Ok tt) (record inner { spared = true })
+lays_nothing o old inner is none nothing = record {
+  laid = lays_none inner.subscriber _ nothing (subst (λ (v : SeatValue). HasNoCopies v.subscriber) (sym is) none.0);
+  memory = tt;
+  needless = λ _. refl;
+  spared = λ _. nothing;
+  own = ap (λ (v : SeatValue). v.subscriber.own) is;
+  audit = ap (λ (v : SeatValue). v.audit) is;
+}
+
+pub lays_some : (o : Offer) (old inner : SeatValue) (x : Happening) (after : SubscriberValue) → inner ≡ old → HasNone old → share o old.subscriber.own.grants ≡ Some x
+    → IsReady after x → after.own ≡ inner.subscriber.own → LaysShare o old (Ok tt) (record inner { subscriber = after })
+lays_some o old inner x after is none some ready own = record {
+  laid = lays after _ x some ready;
+  memory = tt;
+  needless = λ _. refl;
+  spared = λ spared. absurd (true≢false (sym spared ∙ ap (λ (v : SeatValue). v.spared) is ∙ none.1));
+  own = own ∙ ap (λ (v : SeatValue). v.subscriber.own) is;
+  audit = ap (λ (v : SeatValue). v.audit) is;
+}
+
+pub lays_refused : (o : Offer) (old inner : SeatValue) (x : Happening) (r : Refusal) (after : SubscriberValue) → inner ≡ old → share o old.subscriber.own.grants ≡ Some x
+    → r ≡ NoMemory → (NeedsNone inner.subscriber x → false ≡ true) → after.own ≡ inner.subscriber.own → LaysShare o old (Err r) (record inner { subscriber = after })
+lays_refused o old inner x r after is some memory needless own = record {
+  laid = tt;
+  memory = memory;
+  needless = λ needs. needless (subst (λ (v : SeatValue). NeedsNone v.subscriber x) (sym is) (needless_at old.subscriber _ x some needs));
+  spared = tt;
+  own = own ∙ ap (λ (v : SeatValue). v.subscriber.own) is;
+  audit = ap (λ (v : SeatValue). v.audit) is;
+}
+
+-- An event for all is taken by one that has no share, and by one that has.
+pub offer_none : (o : Offer) (lost : Bool) (v : SeatValue) → share o v.subscriber.own.grants ≡ None → Awaits o v → TakesOffer o lost v (0, 0) v
+offer_none o lost v none awaits = record {
+  shares = λ s h. none_taken o lost v s h none;
+  few = omega arith;
+  kept = omega arith;
+  none = laid_none v.subscriber _ none awaits.laid;
+}
+
+pub offer_some : (o : Offer) (lost : Bool) (old new : SeatValue) (x : Happening) (t : Told) (counts : ℕ × ℕ) → share o old.subscriber.own.grants ≡ Some x
+    → Takes old.subscriber x lost t new.subscriber → ((s : Seat) → SeatShows old s → audit.Shows new.audit (s.noted ++ notes_of o))
+    → counts ≡ counts_of t → (counts.0 ≤ 640) × (counts.1 ≤ counts.0) → HasNoCopies new.subscriber → TakesOffer o lost old counts new
+offer_some o lost old new x t counts some takes noted is few none = record {
+  shares = λ s h. subst (λ (c : ℕ × ℕ). TakesShare o lost c.0 c.1 s new) (sym is) (some_taken o lost old new x t s h some takes (noted s h));
+  few = few.0;
+  kept = few.1;
+  none = none;
+}
 
 -- what is no part of a subscriber's own state says nothing of it
 fit_same : (v w : SubscriberValue) (o : Option Happening) → w.own ≡ v.own → IsFit v o → IsFit w o

@@ -1,18 +1,33 @@
 -- Which events take no memory, so that none of them is refused for want of it.
-use Rattle.std.specs.Prelude.{◌≡◌, nat_eq, false, None, IfSome}
+use Rattle.std.specs.Prelude.{◌≡◌, ℕ, nat_eq, false, List, [], ◌∷◌, Option, Some, None, IfSome}
 use Rattle.std.specs.Map.{lookup}
 use Rattle.pg_wire.specs.declared.refusal.Refusal.TheVariants.{NoMemory}
 use Rattle.pg_registry.specs.Registered.{config_in}
 use Rattle.pg_session.specs.Events as own
 use Rattle.pg_session.specs.Private as private
 use Rattle.pg_session.specs.Private.{refused}
+use Rattle.pg_session.specs.Events.{Happening}
+use Rattle.pg_session.specs.Shown.{SubscriberValue}
 use Rattle.pg_session.specs.Ready.{NeedsNone}
 use Rattle.pg_gateway.specs.Occurrences.{Occurrence, add_pmu, drop_pmu, add_sub, drop_sub, grant, asks, announce, measure, tick, stats, pmu_stats, audit, Answer, tells}
-use Rattle.pg_gateway.specs.Sharing.{measures}
+use Rattle.pg_gateway.specs.Sharing.{Offer, measures, share}
 use Rattle.pg_gateway.specs.Judging.{taken_of}
 use Rattle.pg_gateway.specs.Shared.{Shared, refusal}
-use Rattle.pg_gateway.specs.Shown.{GatewayValue, GatewayShows}
-use Rattle.pg_gateway.specs.Taking.{AllSeats, Spares}
+use Rattle.pg_gateway.specs.Shown.{SeatValue, GatewayValue, GatewayShows}
+
+-- each subscriber is so
+abbrev pub AllSeats : (SeatValue → Type 0) → List (ℕ × SeatValue) → Type 0
+AllSeats P [] = Unit {0}
+AllSeats P (e ∷ entries) = P e.1 × AllSeats P entries
+
+-- what happens, if anything, needs no copy
+abbrev pub NeedsNoCopy : SubscriberValue → Option Happening → Type 0
+NeedsNoCopy v None = Unit {0}
+NeedsNoCopy v (Some x) = NeedsNone v x
+
+-- the subscriber's share of this needs no copy
+abbrev pub Spares : Offer → SeatValue → Type 0
+Spares o v = NeedsNoCopy v.subscriber (share o v.subscriber.own.grants)
 
 -- The event needs no copy and fills nothing new. A grant needs none of a PMU that is granted already or has announced nothing; a
 -- measurement none where no block that was taken is a member's of an on stream of a subscriber that it is granted to.
@@ -33,18 +48,3 @@ NeedsNoMemory v (audit u index) = Unit {0}
 -- Where no other refusal holds, such an event is not refused for want of memory.
 abbrev pub Frugal : GatewayValue → Occurrence → Answer → Type 0
 Frugal v e a = (S : Shared) → GatewayShows v S → refusal S e ≡ None → NeedsNoMemory v e → a ≡ tells (refused NoMemory) → ⊥
-
--- events whose copies of a PMU's configuration or block may be needed or not
-abbrev pub MayCopy : Occurrence → Type 0
-MayCopy (grant u key) = Unit {0}
-MayCopy (measure m) = Unit {0}
-MayCopy (asks u x) = ⊥
-MayCopy (add_pmu key) = ⊥
-MayCopy (add_sub u size bytes) = ⊥
-MayCopy (announce config) = ⊥
-MayCopy (drop_pmu key) = ⊥
-MayCopy (drop_sub u) = ⊥
-MayCopy (tick soc) = ⊥
-MayCopy (stats u) = ⊥
-MayCopy (pmu_stats key) = ⊥
-MayCopy (audit u index) = ⊥

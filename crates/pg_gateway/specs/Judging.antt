@@ -70,10 +70,10 @@ abbrev pub blocks_counted : Pmus → List (PmuKey × Option Refusal) → Pmus
 blocks_counted pmus [] = pmus
 blocks_counted pmus (b ∷ blocks) = blocks_counted (changed (block_counted b.1) b.0 pmus) blocks
 
--- each PMU has announced its configuration, which counts as taken
+-- each PMU has announced its configuration, which changes no counter
 abbrev pub all_announced : Pmus → List Announcing → Pmus
 all_announced pmus [] = pmus
-all_announced pmus (a ∷ list) = all_announced (changed taking a.key (changed (announcing a.config) a.key pmus)) list
+all_announced pmus (a ∷ list) = all_announced (changed (announcing a.config) a.key pmus) list
 
 -- want of memory is counted at the first of these PMUs
 abbrev pub memory_counted : Pmus → List PmuKey → Pmus

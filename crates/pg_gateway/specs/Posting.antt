@@ -1,9 +1,10 @@
 -- Which replies may come to which events, by their form.
-use Rattle.std.specs.Prelude.{◌≡◌, List, [], ◌∷◌, ◌++◌, Option, Some, None}
+use Rattle.std.specs.Prelude.{◌≡◌, ◌≤◌, ℕ, List, ◌++◌, length, drop, Option, Some, None}
 use Rattle.pg_gateway.specs.declared.event.Event.{Event}
 use Rattle.pg_gateway.specs.declared.event.Event.TheVariants as event
+use Rattle.pg_session.specs.Ready.{handed_len}
 use Rattle.pg_gateway.specs.declared.event.Reply.{Reply}
-use Rattle.pg_gateway.specs.Taking.{IsPlain, KeepsBuffer}
+use Rattle.pg_gateway.specs.declared.event.Reply.TheVariants as reply
 use Rattle.pg_gateway.specs.Occurrences.{Occurrence, Answer}
 
 -- an event and what it was answered
@@ -15,6 +16,26 @@ abbrev pub Notes : Option (List Posted) → Option (List Posted) → List Posted
 Notes None new more = Unit {0}
 Notes (Some before) None more = ⊥
 Notes (Some before) (Some after) more = after ≡ before ++ more
+
+-- a reply without a buffer
+abbrev pub IsPlain : Reply → Type 0
+IsPlain (reply.Done made kept) = Unit {0}
+IsPlain (reply.Refused r) = Unit {0}
+IsPlain (reply.Drained buf out) = ⊥
+IsPlain (reply.Stats s) = Unit {0}
+IsPlain (reply.PmuStats s) = Unit {0}
+IsPlain (reply.Audit e) = Unit {0}
+
+-- The buffer comes back as long as it was, and past what was handed out as it was.
+abbrev pub KeepsBuffer : List ℕ → Reply → Type 0
+KeepsBuffer bytes (reply.Drained back out) =
+    (handed_len out ≤ length bytes) × (length back.items ≡ length bytes) × (drop (handed_len out) back.items
+    ≡ drop (handed_len out) bytes)
+KeepsBuffer bytes (reply.Done made kept) = ⊥
+KeepsBuffer bytes (reply.Refused r) = ⊥
+KeepsBuffer bytes (reply.Stats s) = ⊥
+KeepsBuffer bytes (reply.PmuStats s) = ⊥
+KeepsBuffer bytes (reply.Audit e) = ⊥
 
 -- Just a drain is answered with its buffer: as long as it was, and past what was handed out as it was.
 abbrev pub Answers : Event → Reply → Type 0
@@ -36,24 +57,3 @@ Answers (event.Command u asked) r = IsPlain r
 Answers (event.Stats u) r = IsPlain r
 Answers (event.PmuStats key) r = IsPlain r
 Answers (event.Audit u index) r = IsPlain r
-
--- events that are offered to all subscribers
-abbrev pub IsForAll : Event → Type 0
-IsForAll (event.AddPmu key) = ⊥
-IsForAll (event.DropPmu key) = Unit {0}
-IsForAll (event.AddSub u size bytes) = ⊥
-IsForAll (event.DropSub u) = ⊥
-IsForAll (event.Grant u key) = ⊥
-IsForAll (event.Revoke u key) = ⊥
-IsForAll (event.Define u definition) = ⊥
-IsForAll (event.Remove u number) = ⊥
-IsForAll (event.Announce config) = Unit {0}
-IsForAll (event.Measure frame) = Unit {0}
-IsForAll (event.Tick soc) = Unit {0}
-IsForAll (event.Connect u) = ⊥
-IsForAll (event.Hangup u) = ⊥
-IsForAll (event.Command u asked) = ⊥
-IsForAll (event.Drain u buf) = ⊥
-IsForAll (event.Stats u) = ⊥
-IsForAll (event.PmuStats key) = ⊥
-IsForAll (event.Audit u index) = ⊥

@@ -1,10 +1,11 @@
 -- How an event for all is lent to each subscriber, and how that goes on.
-use Rattle.std.specs.Prelude.{◌≡◌, ◌⊎◌, ◌≤◌, ℕ, Bool, true, false, List, [], ◌∷◌, length, drop, Option, Some, None}
+use Rattle.std.specs.Prelude.{◌≡◌, ◌≢◌, ◌⊎◌, ◌≤◌, ℕ, Bool, true, false, List, [], length, Option, Some, None, Result, IfOk, IfErr, IsOk}
 use Rattle.std.specs.Arc.{arc_value}
 use Rattle.pg_wire.specs.declared.ids.PmuKey.{PmuKey}
 use Rattle.pg_config.specs.Parts.{Part, Source}
 use Rattle.pg_data.specs.Measurements.{Measurement}
 use Rattle.pg_session.specs.Events.{Happening, drain, announced_at, samples_at, key_in}
+use Rattle.pg_wire.specs.declared.refusal.Refusal.{Refusal}
 use Rattle.pg_wire.specs.declared.refusal.Refusal.TheVariants.{NoSuchSub, NoMemory}
 use Rattle.pg_session.specs.declared.event.PrivateEvent.{PrivateEvent}
 use Rattle.pg_session.specs.declared.event.PrivateEvent.TheVariants as private
@@ -12,18 +13,17 @@ use Rattle.pg_session.specs.Private.{refusal, Told, done, refused, handed, May}
 use Rattle.pg_session.specs.ByAll.{by_arrivals, by_numbers}
 use Rattle.pg_session.specs.Shown.{SubscriberValue}
 use Rattle.pg_session.specs.Steps.{HasNoCopies}
-use Rattle.pg_session.specs.Ready.{IsReady, IsFor, NeedsNone, AreRising, handed_len}
+use Rattle.pg_session.specs.Ready.{IsReady, IsFor, NeedsNone, AreRising}
 use Rattle.pg_gateway.specs.declared.event.Event.{Event}
 use Rattle.pg_gateway.specs.declared.event.Event.TheVariants as event
 use Rattle.pg_gateway.specs.Sharing.{Seat, Seats, Offer, revokes, announces, measures, ticks, share, frames_for, shared_to, total, fan_out}
 use Rattle.pg_audit.specs.declared.audit.What.{What}
 use Rattle.pg_audit.specs.declared.audit.What.TheVariants as audited
-use Rattle.pg_gateway.specs.Occurrences.{asks, Answer, tells}
-use Rattle.pg_gateway.specs.declared.event.Reply.{Reply}
-use Rattle.pg_gateway.specs.declared.event.Reply.TheVariants as reply
+use Rattle.pg_gateway.specs.Occurrences.{Occurrence, add_pmu, drop_pmu, add_sub, drop_sub, grant, asks, announce, measure, tick, stats, pmu_stats, audit, Answer, tells}
 use Rattle.pg_gateway.specs.Shared.{seat_of, at_seat, moved, names, with_note, code_of, seats_noted}
 use Rattle.pg_gateway.specs.Related.{Related}
 use Rattle.pg_gateway.specs.Shown.{SeatValue, SeatShows}
+use Rattle.pg_gateway.specs.Frugal.{Spares}
 
 -- the blocks of a frame at some places
 abbrev pub measured : Measurement → List ℕ → Offer
@@ -85,11 +85,6 @@ abbrev pub IsLaid : SubscriberValue → Option Happening → Type 0
 IsLaid v None = HasNoCopies v
 IsLaid v (Some x) = IsReady v x
 
--- its share needs no copy
-abbrev pub NeedsNoCopy : SubscriberValue → Option Happening → Type 0
-NeedsNoCopy v None = Unit {0}
-NeedsNoCopy v (Some x) = NeedsNone v x
-
 pub record Awaits (o : Offer) (v : SeatValue) : Type 0 where
   pub fit : IsFit v.subscriber (share o v.subscriber.own.grants)
   pub laid : IsLaid v.subscriber (share o v.subscriber.own.grants)
@@ -100,6 +95,13 @@ pub record TakesShare (o : Offer) (lost : Bool) (made kept : ℕ) (s : Seat) (v 
   pub count : made ≡ frames_for o s
   pub none_kept : lost ≡ true → kept ≡ 0
   pub shows : SeatShows v (shared_to o s kept)
+
+-- Whatever a subscriber shows, it took its share, of few frames, and no copies lie ready.
+pub record TakesOffer (o : Offer) (lost : Bool) (old : SeatValue) (counts : ℕ × ℕ) (new : SeatValue) : Type 0 where
+  pub shares : (s : Seat) → SeatShows old s → TakesShare o lost counts.0 counts.1 s new
+  pub few : counts.0 ≤ 640
+  pub kept : counts.1 ≤ counts.0
+  pub none : HasNoCopies new.subscriber
 
 -- All subscribers took their shares.
 pub record FansOut (o : Offer) (made kept : ℕ) (seats : Seats) (entries : List (ℕ × SeatValue)) : Type 0 where
@@ -112,20 +114,22 @@ counts_of (done made kept) = (made, kept)
 counts_of (refused r) = (0, 0)
 counts_of (handed bytes begun gap) = (0, 0)
 
--- each subscriber is so
-abbrev pub AllSeats : (SeatValue → Type 0) → List (ℕ × SeatValue) → Type 0
-AllSeats P [] = Unit {0}
-AllSeats P (e ∷ entries) = P e.1 × AllSeats P entries
-
--- no copies lie ready, and it is spared nothing; its share is as it asks it to be; its share needs no copy
+-- no copies lie ready, and it is spared nothing; its share is as it asks it to be
 abbrev pub HasNone : SeatValue → Type 0
 HasNone v = HasNoCopies v.subscriber × (v.spared ≡ false)
 
 abbrev pub Fits : Offer → SeatValue → Type 0
 Fits o v = IsFit v.subscriber (share o v.subscriber.own.grants)
 
-abbrev pub Spares : Offer → SeatValue → Type 0
-Spares o v = NeedsNoCopy v.subscriber (share o v.subscriber.own.grants)
+-- A subscriber laid the copies that its share needs, or memory was refused; where it needs none, it was not. A subscriber that
+-- is spared has no share. Nothing that it shows changed.
+pub record LaysShare (o : Offer) (old : SeatValue) (result : Result Unit Refusal) (new : SeatValue) : Type 0 where
+  pub laid : IfOk result (λ u. IsLaid new.subscriber (share o old.subscriber.own.grants))
+  pub memory : IfErr result (λ r. r ≡ NoMemory)
+  pub needless : Spares o old → IsOk result
+  pub spared : IfOk result (λ u. new.spared ≡ true → share o old.subscriber.own.grants ≡ None)
+  pub own : new.subscriber.own ≡ old.subscriber.own
+  pub audit : new.audit ≡ old.audit
 
 -- events of one subscriber that need no copy
 abbrev pub AsksNothing : PrivateEvent → Type 0
@@ -160,46 +164,64 @@ pub record Asks (s : Seat) (x : Happening) (t : Told) (named : Option What) (v :
   pub may : May by_arrivals by_numbers s.own x false t
   pub shows : SeatShows v (noted_by named t (moved x t s))
 
--- a reply without a buffer
-abbrev pub IsPlain : Reply → Type 0
-IsPlain (reply.Done made kept) = Unit {0}
-IsPlain (reply.Refused r) = Unit {0}
-IsPlain (reply.Drained buf out) = ⊥
-IsPlain (reply.Stats s) = Unit {0}
-IsPlain (reply.PmuStats s) = Unit {0}
-IsPlain (reply.Audit e) = Unit {0}
-
--- The buffer comes back as long as it was, and past what was handed out as it was.
-abbrev pub KeepsBuffer : List ℕ → Reply → Type 0
-KeepsBuffer bytes (reply.Drained back out) =
-    (handed_len out ≤ length bytes) × (length back.items ≡ length bytes) × (drop (handed_len out) back.items
-    ≡ drop (handed_len out) bytes)
-KeepsBuffer bytes (reply.Done made kept) = ⊥
-KeepsBuffer bytes (reply.Refused r) = ⊥
-KeepsBuffer bytes (reply.Stats s) = ⊥
-KeepsBuffer bytes (reply.PmuStats s) = ⊥
-KeepsBuffer bytes (reply.Audit e) = ⊥
-
 -- The subscriber of a number was drained.
 pub record DrainsAt (u n : ℕ) (a : Answer) (seats : Seats) (entries : List (ℕ × SeatValue)) : Type 0 where
   pub t : Told
   pub is : a ≡ tells t
   pub takes : TakesAt u (drain n) t seats entries
 
--- A subscriber took a grant, or memory was refused before it did.
-pub record Grants (s : Seat) (x : Happening) (t : Told) (v : SeatValue) : Type 0 where
-  pub may : May by_arrivals by_numbers s.own x false t ⊎ ((refusal by_arrivals by_numbers s.own x ≡ None) × (t ≡ refused NoMemory))
-  pub shows : SeatShows v (moved x t s)
-
-pub record GrantsNoted (s : Seat) (x : Happening) (t : Told) (v : SeatValue) : Type 0 where
-  pub may : May by_arrivals by_numbers s.own x false t ⊎ ((refusal by_arrivals by_numbers s.own x ≡ None) × (t ≡ refused NoMemory))
-  pub shows : SeatShows v (with_note (audited.Grant, code_of t) (moved x t s))
-
 -- this may come to a grant of a registered PMU to the subscriber, which may not be there
 abbrev pub GrantMay : Option Seat → Happening → Told → Type 0
 GrantMay None x t = t ≡ refused NoSuchSub
 GrantMay (Some s) x t = May by_arrivals by_numbers s.own x false t ⊎ ((refusal by_arrivals by_numbers s.own x ≡ None) × (t ≡ refused NoMemory))
 
+-- A subscriber took a grant, or memory was refused before it did; it is noted as this, or not.
+pub record Grants (s : Seat) (x : Happening) (t : Told) (named : Option What) (v : SeatValue) : Type 0 where
+  pub may : GrantMay (Some s) x t
+  pub shows : SeatShows v (noted_by named t (moved x t s))
+
+-- Whatever a subscriber shows, it took a grant, and no memory is refused to one that needs no copy. No copies lie ready.
+pub record TakesGrant (x : Happening) (named : Option What) (old : SeatValue) (t : Told) (new : SeatValue) : Type 0 where
+  pub grants : (s : Seat) → SeatShows old s → Grants s x t named new
+  pub frugal : (s : Seat) → SeatShows old s → refusal by_arrivals by_numbers s.own x ≡ None → NeedsNone old.subscriber x → t ≢ refused NoMemory
+  pub none : HasNone new
+
 pub record GrantsAt (u : ℕ) (x : Happening) (t : Told) (seats : Seats) (entries : List (ℕ × SeatValue)) : Type 0 where
   pub may : GrantMay (seat_of u seats) x t
   pub shows : Related SeatShows entries (at_seat u (with_note (audited.Grant, code_of t)) (at_seat u (moved x t) seats))
+
+-- events that are offered to all subscribers
+abbrev pub IsForAll : Event → Type 0
+IsForAll (event.AddPmu key) = ⊥
+IsForAll (event.DropPmu key) = Unit {0}
+IsForAll (event.AddSub u size bytes) = ⊥
+IsForAll (event.DropSub u) = ⊥
+IsForAll (event.Grant u key) = ⊥
+IsForAll (event.Revoke u key) = ⊥
+IsForAll (event.Define u definition) = ⊥
+IsForAll (event.Remove u number) = ⊥
+IsForAll (event.Announce config) = Unit {0}
+IsForAll (event.Measure frame) = Unit {0}
+IsForAll (event.Tick soc) = Unit {0}
+IsForAll (event.Connect u) = ⊥
+IsForAll (event.Hangup u) = ⊥
+IsForAll (event.Command u asked) = ⊥
+IsForAll (event.Drain u buf) = ⊥
+IsForAll (event.Stats u) = ⊥
+IsForAll (event.PmuStats key) = ⊥
+IsForAll (event.Audit u index) = ⊥
+
+-- events whose copies of a PMU's configuration or block may be needed or not
+abbrev pub MayCopy : Occurrence → Type 0
+MayCopy (grant u key) = Unit {0}
+MayCopy (measure m) = Unit {0}
+MayCopy (asks u x) = ⊥
+MayCopy (add_pmu key) = ⊥
+MayCopy (add_sub u size bytes) = ⊥
+MayCopy (announce config) = ⊥
+MayCopy (drop_pmu key) = ⊥
+MayCopy (drop_sub u) = ⊥
+MayCopy (tick soc) = ⊥
+MayCopy (stats u) = ⊥
+MayCopy (pmu_stats key) = ⊥
+MayCopy (audit u index) = ⊥

@@ -3,14 +3,15 @@
 ghost use Rattle.std.specs.Prelude.{◌≡◌, ◌+◌, ◌<◌, ◌≤◌, ◌++◌, [], ◌∷◌, length, map, vec_capacity, OnOk, IfOk, IfErr};
 ghost use Rattle.std.specs.Arc.{arc_value};
 ghost use Rattle.indexmap.specs.IndexMap.{index_map_len};
-ghost use Rattle.pg_registry.specs.Registered.{announcing, changed, refusing, taking};
+ghost use Rattle.pg_registry.specs.Registered.{changed, refusing};
 ghost use Rattle.pg_session.specs.Events.{announced_at, config_of};
 ghost use Rattle.pg_session.specs.Ready.{AreRising};
 ghost use Rattle.pg_gateway.specs.Judging.{all_announced, memory_counted};
 ghost use Rattle.pg_gateway.specs.Related.{Related};
 ghost use Rattle.pg_gateway.specs.Sharing.{Seats};
 ghost use Rattle.pg_gateway.specs.Shown.{SeatShows};
-ghost use Rattle.pg_gateway.specs.Taking.{offered, IsRising, Awaits, AllSeats, HasNone, Fits};
+ghost use Rattle.pg_gateway.specs.Taking.{offered, IsRising, Awaits, HasNone, Fits};
+ghost use Rattle.pg_gateway.specs.Frugal.{AllSeats};
 
 use crate::event::Event;
 use crate::fan::lay_copies;
@@ -95,17 +96,7 @@ pub(crate) fn copy_announced(
     Ok(())
 }
 
-/// A PMU announced a configuration, which counts as taken. Nothing changes where it is not registered.
-fn announce_one(registry: &mut Registry, key: &PmuKey, config: Arc<PmuConfig>)
-    ensures { registry.new ≡ changed taking key.now (changed (announcing (arc_value config)) key.now registry.old) }
-{
-    let _listed = registry.announce(*key, config);
-    if let Some(place) = registry.place_of(*key) {
-        registry.count_taken_at(place);
-    }
-}
-
-/// Each of those PMUs announced what lies ready for it, which counts as taken.
+/// Each of those PMUs announced what lies ready for it. Nothing is counted.
 pub(crate) fn announce_all(
     registry: &mut Registry,
     config: &SourceConfig,
@@ -122,7 +113,7 @@ pub(crate) fn announce_all(
         let Some(copy) = copies.pop_front() else {
             unreachable!();
         };
-        announce_one(registry, &key, copy);
+        let _listed = registry.announce(key, copy);
     }
 }
 

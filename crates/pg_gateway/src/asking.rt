@@ -17,7 +17,9 @@ ghost use Rattle.pg_gateway.specs.Related.{Related};
 ghost use Rattle.pg_gateway.specs.Sharing.{Seats};
 ghost use Rattle.pg_gateway.specs.Shared.{noted_as, code_of, at_seat, with_note, added, seat_of, grant_refusal};
 ghost use Rattle.pg_gateway.specs.Shown.{SeatShows};
-ghost use Rattle.pg_gateway.specs.Taking.{AsksNothing, IsPlain, TakesAt, DrainsAt, AllSeats, HasNone, KeepsBuffer};
+ghost use Rattle.pg_gateway.specs.Taking.{AsksNothing, TakesAt, DrainsAt, HasNone};
+ghost use Rattle.pg_gateway.specs.Posting.{IsPlain, KeepsBuffer};
+ghost use Rattle.pg_gateway.specs.Frugal.{AllSeats};
 
 use crate::event::Reply;
 use crate::seat::Seat;

@@ -5,7 +5,8 @@ ghost use Rattle.indexmap.specs.IndexMap.{index_map_len};
 ghost use Rattle.pg_gateway.specs.Related.{Related};
 ghost use Rattle.pg_gateway.specs.Sharing.{Seats};
 ghost use Rattle.pg_gateway.specs.Shown.{SeatShows};
-ghost use Rattle.pg_gateway.specs.Taking.{offered, IsRising, Awaits, AllSeats, HasNone, Fits, Spares, FansOut};
+ghost use Rattle.pg_gateway.specs.Taking.{offered, IsRising, Awaits, HasNone, Fits, FansOut};
+ghost use Rattle.pg_gateway.specs.Frugal.{AllSeats, Spares};
 
 use crate::event::Event;
 use crate::seat::Seat;

@@ -12,10 +12,13 @@ ghost use Rattle.std.specs.Option.{option_map_or};
 ghost use Rattle.pg_registry.specs.Registered.{has_source};
 ghost use Rattle.pg_gateway.specs.Shared.{Shared, added, noted_as, seat_of, own_of};
 ghost use Rattle.pg_gateway.specs.Shown.{SeatShows, SeatValue, GatewayShows, Goes, IsWithinLimits};
-ghost use Rattle.pg_gateway.specs.Taking.{offered, IsRising, AsksNothing, AllSeats, HasNone, IsPlain, KeepsBuffer, measured};
-ghost use Rattle.pg_gateway.specs.Frugal.{Frugal, MayCopy};
+ghost use Rattle.pg_gateway.specs.Taking.{offered, IsRising, AsksNothing, HasNone, measured};
+ghost use Rattle.pg_gateway.specs.Frugal.{AllSeats, Frugal};
+ghost use Rattle.pg_gateway.specs.Posting.{IsPlain, KeepsBuffer};
+ghost use Rattle.pg_gateway.specs.Taking.{MayCopy};
 ghost use Rattle.pg_gateway.specs.Consistent.{IsReached};
-ghost use Rattle.pg_gateway.specs.Posting.{Answers, IsForAll};
+ghost use Rattle.pg_gateway.specs.Posting.{Answers};
+ghost use Rattle.pg_gateway.specs.Taking.{IsForAll};
 ghost use Rattle.pg_session.specs.Ready.{AreRising};
 ghost use Rattle.std.specs.Arc.{arc_value};
 ghost use Rattle.std.specs.Prelude.{List};
@@ -68,7 +71,8 @@ impl Model for Kernel {
     ghost use Rattle.std.specs.Prelude.{◌≡◌, ◌≤◌, vec_capacity};
     ghost use Rattle.indexmap.specs.IndexMap.{index_map_len};
     ghost use Rattle.pg_gateway.specs.Shown.{GatewayValue};
-    ghost use Rattle.pg_gateway.specs.Taking.{AllSeats, HasNone};
+    ghost use Rattle.pg_gateway.specs.Taking.{HasNone};
+    ghost use Rattle.pg_gateway.specs.Frugal.{AllSeats};
 
     ghost Value = { GatewayValue };
 

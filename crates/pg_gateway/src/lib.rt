@@ -23,6 +23,3 @@ pub use laws::{
     each_goes_by_its_view, equal_views_leave_alike, nothing_lost_is_full, own_blocks_alone,
 };
 pub use pg_ring::Drained;
-
-#[cfg(test)]
-mod tests;

@@ -1,22 +1,20 @@
 //! One subscriber with its audit.
 
-ghost use Rattle.std.specs.Prelude.{◌≡◌, ◌≢◌, ◌+◌, ◌<◌, ◌≤◌, [], ◌∷◌, ℕ, true, false, length, filter, vec_capacity, slice_get, IfOk, IfErr, IsOk, Some, None, option_map, IfSome};
+ghost use Rattle.std.specs.Prelude.{◌≡◌, ◌<◌, ◌≤◌, true, false, length, filter, vec_capacity, slice_get, IfOk, IfErr, Some, None, option_map, IfSome};
 ghost use Rattle.std.specs.Arc.{arc_value};
 ghost use Rattle.pg_audit.specs.Noting.{newest_at};
 ghost use Rattle.pg_config.specs.Parts.{block_id};
 ghost use Rattle.pg_session.specs.Events.{grant};
 ghost use Rattle.pg_session.specs.Ready.{IsPlain as PlainReply};
-ghost use Rattle.pg_gateway.specs.Taking.{Grants, GrantsNoted};
 ghost use Rattle.pg_entitle.specs.Grants.{has_key};
-ghost use Rattle.pg_session.specs.Events.{happening, drain, revoke, announce, measure, tick, announced_at, samples_at};
-ghost use Rattle.pg_session.specs.Private.{told, done, refused, refusal};
-ghost use Rattle.pg_session.specs.ByAll.{by_arrivals, by_numbers};
-ghost use Rattle.pg_session.specs.Steps.{HasNoCopies, MakesFew};
-ghost use Rattle.pg_session.specs.Ready.{NeedsNone, ReturnsBuffer, Accepts, IsReady, KeepsBuffer, AreRising};
-ghost use Rattle.pg_gateway.specs.Sharing.{Seat as SeatState, announces, revokes, share};
+ghost use Rattle.pg_session.specs.Events.{happening, drain, announced_at};
+ghost use Rattle.pg_session.specs.Private.{told};
+ghost use Rattle.pg_session.specs.Steps.{MakesFew};
+ghost use Rattle.pg_session.specs.Ready.{ReturnsBuffer, AreRising};
+ghost use Rattle.pg_gateway.specs.Sharing.{Seat as SeatState, announces, revokes};
 ghost use Rattle.pg_gateway.specs.Shared.{added, with_note, noted_as};
 ghost use Rattle.pg_gateway.specs.Shown.{SeatShows};
-ghost use Rattle.pg_gateway.specs.Taking.{Asks, AsksNothing, HasNone, offered, measured, part_passes, IsRising, IsFit, IsLaid, NeedsNoCopy, Awaits, TakesShare, counts_of};
+ghost use Rattle.pg_gateway.specs.Taking.{Asks, AsksNothing, HasNone, offered, measured, part_passes, IsRising, Fits, LaysShare, Awaits, TakesOffer, TakesGrant, counts_of};
 
 use crate::asking::code;
 use crate::event::Event;
@@ -94,13 +92,8 @@ impl Seat {
     pub(crate) fn grant(&mut self, key: &PmuKey, config: Option<&Arc<PmuConfig>>) -> PrivateReply
         requires none { HasNone self.old }
         requires keyed { IfSome (option_map (λ c. arc_value c.now) config) (λ c. block_id c.block ≡ key.now.pmu) }
-        ensures takes { (s : SeatState) → SeatShows self.old s
-            → Grants s (grant key.now (option_map (λ c. arc_value c.now) config.entry)) (told result) self.new }
-        ensures frugal { (s : SeatState) → SeatShows self.old s
-            → refusal by_arrivals by_numbers s.own (grant key.now (option_map (λ c. arc_value c.now) config.entry)) ≡ None
-            → NeedsNone self.old.subscriber (grant key.now (option_map (λ c. arc_value c.now) config.entry)) → told result ≢ refused Refusal.NoMemory }
+        ensures takes { TakesGrant (grant key.now (option_map (λ c. arc_value c.now) config.entry)) None self.old (told result) self.new }
         ensures plain { PlainReply result }
-        ensures none { HasNone self.new }
     {
         let event = PrivateEvent::Grant(*key, config);
         match self.subscriber.copies(&event) {
@@ -118,13 +111,8 @@ impl Seat {
     ) -> PrivateReply
         requires none { HasNone self.old }
         requires keyed { IfSome (option_map (λ c. arc_value c.now) config) (λ c. block_id c.block ≡ key.now.pmu) }
-        ensures takes { (s : SeatState) → SeatShows self.old s
-            → GrantsNoted s (grant key.now (option_map (λ c. arc_value c.now) config.entry)) (told result) self.new }
-        ensures frugal { (s : SeatState) → SeatShows self.old s
-            → refusal by_arrivals by_numbers s.own (grant key.now (option_map (λ c. arc_value c.now) config.entry)) ≡ None
-            → NeedsNone self.old.subscriber (grant key.now (option_map (λ c. arc_value c.now) config.entry)) → told result ≢ refused Refusal.NoMemory }
+        ensures takes { TakesGrant (grant key.now (option_map (λ c. arc_value c.now) config.entry)) (Some What.Grant) self.old (told result) self.new }
         ensures plain { PlainReply result }
-        ensures none { HasNone self.new }
     {
         let reply = self.grant(key, config);
         self.audit.note(What::Grant, code(&reply));
@@ -165,13 +153,8 @@ impl Seat {
         requires rising { IsRising event.now places.now }
         requires room { 16 ≤ vec_capacity held.old }
         requires none { HasNone self.old }
-        requires fit { IsFit self.old.subscriber (share (offered event.now places.now) self.old.subscriber.own.grants) }
-        ensures laid { IfOk result (λ u. IsLaid self.new.subscriber (share (offered event.now places.now) self.old.subscriber.own.grants)) }
-        ensures memory { IfErr result (λ refusal. refusal ≡ Refusal.NoMemory) }
-        ensures needless { NeedsNoCopy self.old.subscriber (share (offered event.now places.now) self.old.subscriber.own.grants) → IsOk result }
-        ensures spared { IfOk result (λ u. self.new.spared ≡ true → share (offered event.now places.now) self.old.subscriber.own.grants ≡ None) }
-        ensures own { self.new.subscriber.own ≡ self.old.subscriber.own }
-        ensures audit { self.new.audit ≡ self.old.audit }
+        requires fit { Fits (offered event.now places.now) self.old }
+        ensures lays { LaysShare (offered event.now places.now) self.old result self.new }
         ensures room { 16 ≤ vec_capacity held.new }
     {
         match event {
@@ -194,13 +177,8 @@ impl Seat {
         requires rising { AreRising 0 (length config.now.parts) places.now }
         requires room { 16 ≤ vec_capacity held.old }
         requires none { HasNone self.old }
-        requires fit { IsFit self.old.subscriber (share (announces (announced_at config.now places.now)) self.old.subscriber.own.grants) }
-        ensures laid { IfOk result (λ u. IsLaid self.new.subscriber (share (announces (announced_at config.now places.now)) self.old.subscriber.own.grants)) }
-        ensures memory { IfErr result (λ refusal. refusal ≡ Refusal.NoMemory) }
-        ensures needless { NeedsNoCopy self.old.subscriber (share (announces (announced_at config.now places.now)) self.old.subscriber.own.grants) → IsOk result }
-        ensures spared { IfOk result (λ u. self.new.spared ≡ true → share (announces (announced_at config.now places.now)) self.old.subscriber.own.grants ≡ None) }
-        ensures own { self.new.subscriber.own ≡ self.old.subscriber.own }
-        ensures audit { self.new.audit ≡ self.old.audit }
+        requires fit { Fits (announces (announced_at config.now places.now)) self.old }
+        ensures lays { LaysShare (announces (announced_at config.now places.now)) self.old result self.new }
         ensures room { 16 ≤ vec_capacity held.new }
     {
         if !hold(&self.subscriber, config, places, held) {
@@ -222,13 +200,8 @@ impl Seat {
         requires rising { AreRising 0 (length (arc_value frame.now).config.parts) places.now }
         requires room { 16 ≤ vec_capacity held.old }
         requires none { HasNone self.old }
-        requires fit { IsFit self.old.subscriber (share (measured (arc_value frame.now) places.now) self.old.subscriber.own.grants) }
-        ensures laid { IfOk result (λ u. IsLaid self.new.subscriber (share (measured (arc_value frame.now) places.now) self.old.subscriber.own.grants)) }
-        ensures memory { IfErr result (λ refusal. refusal ≡ Refusal.NoMemory) }
-        ensures needless { NeedsNoCopy self.old.subscriber (share (measured (arc_value frame.now) places.now) self.old.subscriber.own.grants) → IsOk result }
-        ensures spared { IfOk result (λ u. self.new.spared ≡ true → share (measured (arc_value frame.now) places.now) self.old.subscriber.own.grants ≡ None) }
-        ensures own { self.new.subscriber.own ≡ self.old.subscriber.own }
-        ensures audit { self.new.audit ≡ self.old.audit }
+        requires fit { Fits (measured (arc_value frame.now) places.now) self.old }
+        ensures lays { LaysShare (measured (arc_value frame.now) places.now) self.old result self.new }
         ensures room { 16 ≤ vec_capacity held.new }
     {
         if !hold_blocks(&self.subscriber, frame, places, held) {
@@ -261,11 +234,8 @@ impl Seat {
         requires rising { IsRising event.now places.now }
         requires room { 16 ≤ vec_capacity held.old }
         requires awaits { Awaits (offered event.now places.now) self.old }
-        ensures takes { (s : SeatState) → SeatShows self.old s
-            → TakesShare (offered event.now places.now) lost result.0 result.1 s self.new }
-        ensures few { result.0 ≤ 640 }
-        ensures kept { result.1 ≤ result.0 }
-        ensures none { HasNone self.new }
+        ensures takes { TakesOffer (offered event.now places.now) lost self.old result self.new }
+        ensures spared { self.new.spared ≡ false }
         ensures room { 16 ≤ vec_capacity held.new }
     {
         if self.spared {
@@ -287,10 +257,7 @@ impl Seat {
     /// A PMU is dropped, and so revoked where it is granted.
     fn take_revoked(&mut self, key: &PmuKey, lost: bool) -> (u64, u64)
         requires awaits { Awaits (revokes key.now) self.old }
-        ensures takes { (s : SeatState) → SeatShows self.old s → TakesShare (revokes key.now) lost result.0 result.1 s self.new }
-        ensures few { result.0 ≤ 640 }
-        ensures kept { result.1 ≤ result.0 }
-        ensures none { HasNoCopies self.new.subscriber }
+        ensures takes { TakesOffer (revokes key.now) lost self.old result self.new }
         ensures spared { self.new.spared ≡ self.old.spared }
     {
         if !self.subscriber.holds(*key) {
@@ -311,11 +278,7 @@ impl Seat {
         requires rising { AreRising 0 (length config.now.parts) places.now }
         requires room { 16 ≤ vec_capacity held.old }
         requires awaits { Awaits (announces (announced_at config.now places.now)) self.old }
-        ensures takes { (s : SeatState) → SeatShows self.old s
-            → TakesShare (announces (announced_at config.now places.now)) lost result.0 result.1 s self.new }
-        ensures few { result.0 ≤ 640 }
-        ensures kept { result.1 ≤ result.0 }
-        ensures none { HasNoCopies self.new.subscriber }
+        ensures takes { TakesOffer (announces (announced_at config.now places.now)) lost self.old result self.new }
         ensures spared { self.new.spared ≡ self.old.spared }
         ensures room { 16 ≤ vec_capacity held.new }
     {
@@ -339,11 +302,7 @@ impl Seat {
         requires rising { AreRising 0 (length (arc_value frame.now).config.parts) places.now }
         requires room { 16 ≤ vec_capacity held.old }
         requires awaits { Awaits (measured (arc_value frame.now) places.now) self.old }
-        ensures takes { (s : SeatState) → SeatShows self.old s
-            → TakesShare (measured (arc_value frame.now) places.now) lost result.0 result.1 s self.new }
-        ensures few { result.0 ≤ 640 }
-        ensures kept { result.1 ≤ result.0 }
-        ensures none { HasNoCopies self.new.subscriber }
+        ensures takes { TakesOffer (measured (arc_value frame.now) places.now) lost self.old result self.new }
         ensures spared { self.new.spared ≡ self.old.spared }
         ensures room { 16 ≤ vec_capacity held.new }
     {

@@ -15,11 +15,11 @@ use Rattle.pg_ingest.specs.Items.{Item, AreTold}
 use Rattle.pg_ingest.specs.Commands.{Act, tells, asks, told_in, is_accepted, is_start, is_question, owes_config, owes_start, owed_word}
 use Rattle.pg_ingest.specs.Linking.{Linking}
 use Rattle.pg_ingest.specs.Shown.{LinkPast, Shows, IsAllTold, feeding, doing, word_due}
-use Rattle.pg_ingest.specs.Runs.{Step, begins, reads, posts, stepping, after_steps, AreSteps, bytes_of, events_of, events_told, frame_of, RanFrom, Ran}
+use Rattle.pg_ingest.specs.Runs.{Step, begins, reads, posts, stepping, after_steps, AreSteps, bytes_of, events_of, events_told, frame_of, Wires, RanFrom}
 use Rattle.pg_ingest.specs.Ends.{is_cut, LastRead, Why, TookAll, Ends}
-use Rattle.pg_ingest.specs.Served.{IsFresh, EndsDry, SoFar, Turn, bytes_read, items_read, words_due, turning, AreTurns, after_turns, commands_in, frames_of, Served}
+use Rattle.pg_ingest.specs.Served.{IsFresh, EndsDry, IsCall, SoFar, Turn, bytes_read, items_read, words_due, turning, AreTurns, after_turns, commands_in, frames_of, Served}
 use Rattle.pg_ingest.proofs.Telling.{told_in-append}
-use Rattle.pg_ingest.proofs.Stepping.{Bytes, Calls, from_more, source_stays}
+use Rattle.pg_ingest.proofs.Stepping.{Bytes, from_more, source_stays}
 use Rattle.pg_ingest.proofs.Turns.{last_more, told_more, one_told}
 
 -- ---- what is owed, asked for until none
@@ -343,14 +343,14 @@ served_told past steps bytes items fresh told b i =
     (subst (λ s. AreTold (after_steps past steps).source (reverse (frames_in s)) (reverse items)) stream
     (subst (λ xs. AreTold (after_steps past steps).source (reverse (frames_in (after_steps past steps).stream)) (reverse xs)) all told))
 
-served_by : (end : End) (past : LinkPast) (v : Linking) (r r' w w' : Bytes) (p p' : Calls) (turns : List Turn) (unasked : List Word) → IsFresh past → (so : SoFar end past v r r' w w' p p')
+served_by : (end : End) (past : LinkPast) (v : Linking) (before after : Wires) (turns : List Turn) (unasked : List Word) → IsFresh past → (so : SoFar end past v before after)
     → AreTurns past turns → bytes_in so.ran.steps ≡ bytes_read turns → items_in so.ran.steps ≡ items_read turns → words_in so.ran.steps ++ unasked ≡ commands_in past turns
     → (is_cut end ≡ false → (unasked ≡ []) × (v.left ≡ []) × ((before : List Turn) × (turn : Turn) × (turns ≡ before ++ turn ∷ []) × EndsDry end turn.piece))
-    → Served end past v.left r r' w w' p p'
-served_by end past v r r' w w' p p' turns unasked fresh so are bytes items words whole = record {
+    → Served end past v.left before after
+served_by end past v before after turns unasked fresh so are bytes items words whole = record {
   turns = turns;
   are = are;
-  read = subst (Consumes r r') bytes so.ran.read;
+  read = subst (Consumes before.unread after.unread) bytes so.ran.read;
   told = served_told past so.ran.steps (bytes_read turns) (items_read turns) fresh so.told bytes items;
   calls = so.ran.calls;
   posted = so.ran.posted;
@@ -364,15 +364,15 @@ served_by end past v r r' w w' p p' turns unasked fresh so are bytes items words
   whole = whole;
 }
 
-pub served : (end : End) (past : LinkPast) (v : Linking) (r r' w w' : Bytes) (p p' : Calls) → IsFresh past → SoFar end past v r r' w w' p p' → Served end past v.left r r' w w' p p'
-served end past v r r' w w' p p' fresh so =
+pub served : (end : End) (past : LinkPast) (v : Linking) (before after : Wires) → IsFresh past → SoFar end past v before after → Served end past v.left before after
+served end past v before after fresh so =
     by (last_read None so.ran.steps) refl (cut so.ran.steps past (asking []) past (sym (begun_none past), refl, fresh_told past fresh) so.ran.are so.told)
   where
     by : (close : Option (List ℕ)) → last_read None so.ran.steps ≡ close → Cut past (bytes_in so.ran.steps) (items_in so.ran.steps) (words_in so.ran.steps) close
-        → Served end past v.left r r' w w' p p'
+        → Served end past v.left before after
     by (Some piece) is c =
         let closed = c.closes piece refl in
-        served_by end past v r r' w w' p p' c.turns [] fresh so c.are c.bytes_are c.items_are
+        served_by end past v before after c.turns [] fresh so c.are c.bytes_are c.items_are
         (append-nil (words_in so.ran.steps) ∙ c.words_are ∙ ap (λ ws. commands_in past c.turns ++ ws) closed.0 ∙ append-nil (commands_in past c.turns))
         (λ uncut.
         let last = so.last uncut in
@@ -380,7 +380,7 @@ served end past v r r' w w' p p' fresh so =
         (refl, so.whole uncut, (closed.1.0, closed.1.1, closed.1.2, subst (EndsDry end) (same ∙ sym closed.1.3) last.1)))
     by None is c =
         let now = after_turns past c.turns in
-        served_by end past v r r' w w' p p' (c.turns ++ dry ∷ []) c.rest fresh so
+        served_by end past v before after (c.turns ++ dry ∷ []) c.rest fresh so
         (are-append past c.turns (dry ∷ []) c.are (omega arith, dry_told now c.last c.told, tt))
         (c.bytes_are ∙ sym (append-nil (bytes_read c.turns)) ∙ sym (flat_map-append (λ (turn : Turn). turn.piece) c.turns (dry ∷ [])))
         (c.items_are ∙ sym (append-nil (items_read c.turns)) ∙ sym (flat_map-append (λ (turn : Turn). turn.items) c.turns (dry ∷ [])))
@@ -405,23 +405,23 @@ ends_last Quiet turns left r past steps ends some uncut = by ends.why
 ends_last Stalled turns left r past steps ends some uncut = let last = ends.last uncut some in (last.0, tt, last.1)
 ends_last (Fault n) turns left r past steps ends some uncut = let last = ends.last uncut some in (last.0, tt, last.1)
 
-pub first_call : (end : End) (turns : ℕ) (past : LinkPast) (v v' : Linking) (r r' w w' : Bytes) (p p' : Calls) → 0 < turns → v.left ≡ [] → Shows v past
-    → Ran (Ends end turns v'.left r') v v' r r' w w' p p' → (is_cut end ≡ false → v'.left ≡ []) → SoFar end past v' r r' w w' p p'
-first_call end turns past v v' r r' w w' p p' some empty shows ran whole =
-    let a = subst (λ left. (x : RanFrom past left v' r r' w w' p p') × Ends end turns v'.left r' past x.steps) empty (ran past shows) in
-    record { ran = a.0; told = a.1.told; last = ends_last end turns v'.left r' past a.0.steps a.1 some; whole = whole }
+pub first_call : (end : End) (turns : ℕ) (past : LinkPast) (v v' : Linking) (before after : Wires) → 0 < turns → Shows v past → v.left ≡ []
+    → IsCall end turns v v' before after → SoFar end past v' before after
+first_call end turns past v v' before after some shows empty call =
+    let a = subst (λ left. (x : RanFrom past left v' before after) × Ends end turns v'.left after.unread past x.steps) empty (call.ran past shows) in
+    record { ran = a.0; told = a.1.told; last = ends_last end turns v'.left after.unread past a.0.steps a.1 some; whole = call.whole some }
 
-pub next_call : (end end' : End) (turns : ℕ) (past : LinkPast) (v v' : Linking) (r r' r'' w w' w'' : Bytes) (p p' p'' : Calls) → 0 < turns → SoFar end past v r r' w w' p p'
-    → Ran (Ends end' turns v'.left r'') v v' r' r'' w' w'' p' p'' → (is_cut end' ≡ false → v'.left ≡ []) → SoFar end' past v' r r'' w w'' p p''
-next_call end end' turns past v v' r r' r'' w w' w'' p p' p'' some so ran whole =
+pub next_call : (end end' : End) (turns : ℕ) (past : LinkPast) (v v' : Linking) (first before after : Wires) → 0 < turns → SoFar end past v first before
+    → IsCall end' turns v v' before after → SoFar end' past v' first after
+next_call end end' turns past v v' first before after some so call =
     let now = after_steps past so.ran.steps in
-    let b = ran now so.ran.shows in
-    let both = from_more past [] v v' r r' r'' w w' w'' p p' p'' so.ran b.0 in
+    let b = call.ran now so.ran.shows in
+    let both = from_more past [] v v' first.unread before.unread after.unread first.written before.written after.written first.posted before.posted after.posted so.ran b.0 in
     record {
       ran = both.0;
       told = subst (λ s. IsAllTold (after_steps past s)) (sym both.1) (told_more past so.ran.steps b.0.steps b.1.told);
       last = λ uncut.
-          let last = ends_last end' turns v'.left r'' now b.0.steps b.1 some uncut in
+          let last = ends_last end' turns v'.left after.unread now b.0.steps b.1 some uncut in
           (last.0, last.1, subst (LastRead last.0) (sym both.1) (last_more last.0 so.ran.steps b.0.steps last.2));
-      whole = whole;
+      whole = call.whole some;
     }

@@ -13,7 +13,7 @@ use Rattle.pg_ingest.specs.Begun.{Begins}
 use Rattle.pg_ingest.specs.Commands.{tells}
 use Rattle.pg_ingest.specs.Linking.{Linking}
 use Rattle.pg_ingest.specs.Shown.{LinkPast, Shows, IsAllTold, doing}
-use Rattle.pg_ingest.specs.Runs.{Step, begins, reads, posts, stepping, after_steps, MayStep, AreSteps, bytes_of, events_of, events_told, frame_of, event_posted, RanFrom, Ran, RanOn}
+use Rattle.pg_ingest.specs.Runs.{Step, begins, reads, posts, stepping, after_steps, MayStep, AreSteps, bytes_of, events_of, events_told, frame_of, event_posted, wires, RanFrom, Ran, RanOn}
 use Rattle.pg_ingest.proofs.Known.{notes_nil, notes_more, appends_nil, appends_more, consumes_nil, consumes_more}
 
 abbrev pub Bytes : Type 0
@@ -24,7 +24,7 @@ Calls = Option (List Posted)
 
 -- these steps were done
 abbrev pub Did : List Step → LinkPast → List ℕ → Linking → Bytes → Bytes → Bytes → Bytes → Calls → Calls → Type 0
-Did steps past left v r r' w w' p p' = (ran : RanFrom past left v r r' w w' p p') × (ran.steps ≡ steps)
+Did steps past left v r r' w w' p p' = (ran : RanFrom past left v (wires r w p) (wires r' w' p')) × (ran.steps ≡ steps)
 
 pub after-append : (past : LinkPast) (a b : List Step) → after_steps past (a ++ b) ≡ after_steps (after_steps past a) b
 after-append past [] b = refl
@@ -84,7 +84,7 @@ from_step past left v' r r' w p p' step calls may shows read posted events is = 
 
 -- one run after another is one run
 pub from_more : (past : LinkPast) (left : List ℕ) (v' v'' : Linking) (r r' r'' w w' w'' : Bytes) (p p' p'' : Calls)
-    → (a : RanFrom past left v' r r' w w' p p') (b : RanFrom (after_steps past a.steps) v'.left v'' r' r'' w' w'' p' p'')
+    → (a : RanFrom past left v' (wires r w p) (wires r' w' p')) (b : RanFrom (after_steps past a.steps) v'.left v'' (wires r' w' p') (wires r'' w'' p''))
     → Did (a.steps ++ b.steps) past left v'' r r'' w w'' p p''
 from_more past left v' v'' r r' r'' w w' w'' p p' p'' a b =
     let frames : flat_map (frame_of (after_steps past a.steps).source) b.steps ≡ flat_map (frame_of past.source) b.steps =
@@ -111,7 +111,7 @@ from_more past left v' v'' r r' r'' w w' w'' p p' p'' a b =
 
 -- the same, with what is known of the steps
 pub ran_more : (P Q R : LinkPast → List Step → Type 0) → ((past : LinkPast) (a b : List Step) → P past a → Q (after_steps past a) b → R past (a ++ b))
-    → (v v' v'' : Linking) (r r' r'' w w' w'' : Bytes) (p p' p'' : Calls) → Ran P v v' r r' w w' p p' → Ran Q v' v'' r' r'' w' w'' p' p'' → Ran R v v'' r r'' w w'' p p''
+    → (v v' v'' : Linking) (r r' r'' w w' w'' : Bytes) (p p' p'' : Calls) → Ran P v v' (wires r w p) (wires r' w' p') → Ran Q v' v'' (wires r' w' p') (wires r'' w'' p'') → Ran R v v'' (wires r w p) (wires r'' w'' p'')
 ran_more P Q R join v v' v'' r r' r'' w w' w'' p p' p'' first second past shows =
     let a = first past shows in
     let b = second (after_steps past a.0.steps) a.0.shows in
@@ -121,7 +121,7 @@ ran_more P Q R join v v' v'' r r' r'' w w' w'' p p' p'' first second past shows 
 -- the same where the second run needs that all is told
 pub ran_on : (P Q R : LinkPast → List Step → Type 0) → ((past : LinkPast) (a b : List Step) → P past a → Q (after_steps past a) b → R past (a ++ b))
     → ((past : LinkPast) (a : List Step) → P past a → IsAllTold (after_steps past a))
-    → (v v' v'' : Linking) (r r' r'' w w' w'' : Bytes) (p p' p'' : Calls) → Ran P v v' r r' w w' p p' → RanOn Q v' v'' r' r'' w' w'' p' p'' → Ran R v v'' r r'' w w'' p p''
+    → (v v' v'' : Linking) (r r' r'' w w' w'' : Bytes) (p p' p'' : Calls) → Ran P v v' (wires r w p) (wires r' w' p') → RanOn Q v' v'' (wires r' w' p') (wires r'' w'' p'') → Ran R v v'' (wires r w p) (wires r'' w'' p'')
 ran_on P Q R join told v v' v'' r r' r'' w w' w'' p p' p'' first second past shows =
     let a = first past shows in
     let b = second (after_steps past a.0.steps) a.0.shows (told past a.0.steps a.1) in
@@ -131,7 +131,7 @@ ran_on P Q R join told v v' v'' r r' r'' w w' w'' p p' p'' first second past sho
 -- the same of two runs that both need it
 pub on_more : (P Q R : LinkPast → List Step → Type 0) → ((past : LinkPast) (a b : List Step) → P past a → Q (after_steps past a) b → R past (a ++ b))
     → ((past : LinkPast) (a : List Step) → P past a → IsAllTold past → IsAllTold (after_steps past a))
-    → (v v' v'' : Linking) (r r' r'' w w' w'' : Bytes) (p p' p'' : Calls) → RanOn P v v' r r' w w' p p' → RanOn Q v' v'' r' r'' w' w'' p' p'' → RanOn R v v'' r r'' w w'' p p''
+    → (v v' v'' : Linking) (r r' r'' w w' w'' : Bytes) (p p' p'' : Calls) → RanOn P v v' (wires r w p) (wires r' w' p') → RanOn Q v' v'' (wires r' w' p') (wires r'' w'' p'') → RanOn R v v'' (wires r w p) (wires r'' w'' p'')
 on_more P Q R join keeps v v' v'' r r' r'' w w' w'' p p' p'' first second past shows told =
     let a = first past shows told in
     let b = second (after_steps past a.0.steps) a.0.shows (keeps past a.0.steps a.1 told) in
@@ -139,21 +139,21 @@ on_more P Q R join keeps v v' v'' r r' r'' w w' w'' p p' p'' first second past s
     (both.0, subst (R past) (sym both.1) (join past a.0.steps b.0.steps a.1 b.1))
 
 pub on_as : (P Q : LinkPast → List Step → Type 0) → ((past : LinkPast) (a : List Step) → P past a → Q past a)
-    → (v v' : Linking) (r r' w w' : Bytes) (p p' : Calls) → Ran P v v' r r' w w' p p' → RanOn Q v v' r r' w w' p p'
+    → (v v' : Linking) (r r' w w' : Bytes) (p p' : Calls) → Ran P v v' (wires r w p) (wires r' w' p') → RanOn Q v v' (wires r w p) (wires r' w' p')
 on_as P Q is v v' r r' w w' p p' ran past shows told = let a = ran past shows in (a.0, is past a.0.steps a.1)
 
 pub ran_as : (P Q : LinkPast → List Step → Type 0) → ((past : LinkPast) (a : List Step) → P past a → Q past a)
-    → (v v' : Linking) (r r' w w' : Bytes) (p p' : Calls) → Ran P v v' r r' w w' p p' → Ran Q v v' r r' w w' p p'
+    → (v v' : Linking) (r r' w w' : Bytes) (p p' : Calls) → Ran P v v' (wires r w p) (wires r' w' p') → Ran Q v v' (wires r w p) (wires r' w' p')
 ran_as P Q is v v' r r' w w' p p' ran past shows = let a = ran past shows in (a.0, is past a.0.steps a.1)
 
 abbrev pub Nothing : LinkPast → List Step → Type 0
 Nothing past steps = steps ≡ []
 
 pub ran_wrote : (v v' : Linking) (r w w' : Bytes) (p : Calls) (out : List ℕ) → Appends w w' out → out ++ v'.left ≡ v.left
-    → ((past : LinkPast) → Shows v past → Shows v' past) → Ran Nothing v v' r r w w' p p
+    → ((past : LinkPast) → Shows v past → Shows v' past) → Ran Nothing v v' (wires r w p) (wires r w' p)
 ran_wrote v v' r w w' p out wrote is keeps past shows = from_wrote past v.left v' r w w' p out wrote is (keeps past shows)
 
-pub ran_nothing : (v : Linking) (r w : Bytes) (p : Calls) → Ran Nothing v v r r w w p p
+pub ran_nothing : (v : Linking) (r w : Bytes) (p : Calls) → Ran Nothing v v (wires r w p) (wires r w p)
 ran_nothing v r w p = ran_wrote v v r w w p [] (appends_nil w) refl (λ past shows. shows)
 
 -- what was told was posted
@@ -194,8 +194,8 @@ left_unshown v v' past same shows = subst (λ x. Shows x past) (sym same) (recor
   stats = shows.stats;
 })
 
-pub ran_same : (P : LinkPast → List Step → Type 0) (v v' v'' : Linking) (r r' w w' : Bytes) (p p' : Calls) → v'' ≡ v' → Ran P v v' r r' w w' p p' → Ran P v v'' r r' w w' p p'
-ran_same P v v' v'' r r' w w' p p' same ran = subst (λ x. Ran P v x r r' w w' p p') (sym same) ran
+pub ran_same : (P : LinkPast → List Step → Type 0) (v v' v'' : Linking) (r r' w w' : Bytes) (p p' : Calls) → v'' ≡ v' → Ran P v v' (wires r w p) (wires r' w' p') → Ran P v v'' (wires r w p) (wires r' w' p')
+ran_same P v v' v'' r r' w w' p p' same ran = subst (λ x. Ran P v x (wires r w p) (wires r' w' p')) (sym same) ran
 
 pub take_small : (n k : ℕ) (xs : List ℕ) → n ≤ k → n ≤ length xs → length (take n xs) ≤ k
 take_small n k xs small within = omega (arith, small, within, length-take n xs)

@@ -19,7 +19,7 @@ use Rattle.pg_ingest.specs.Shown.{LinkPast, Shows, IsAllTold, feeding, doing, wo
 use Rattle.pg_wire.specs.Split.{frames_in}
 use Rattle.pg_gateway.specs.Posting.{Posted as Call, Notes}
 use Rattle.pg_ingest.specs.Begun.{Begins}
-use Rattle.pg_ingest.specs.Runs.{Step, begins, reads, posts, stepping, after_steps, events_told, event_posted, Ran, RanOn}
+use Rattle.pg_ingest.specs.Runs.{Step, begins, reads, posts, stepping, after_steps, events_told, event_posted, wires, Ran, RanOn}
 use Rattle.pg_ingest.specs.Ends.{AreFed, is_cut, pieces_in, LastRead, break_after, Why, Ends}
 use Rattle.pg_ingest.specs.Turning.{EndsTurn, EndsRead, OnlyBegins, TellsAll, IsStuck}
 use Rattle.pg_ingest.proofs.Known.{appends_nil, notes_nil}
@@ -104,7 +104,7 @@ pub posted_none : (past : LinkPast) (a : List Step) → a ≡ [] → Posted past
 posted_none past a is = ([], is)
 
 -- a command was begun
-pub ran_begun : (v v' : Linking) (r w : Bytes) (p : Calls) → v.left ≡ [] → ((past : LinkPast) → Shows v past → Begins past v' true) → RanOn Begun v v' r r w w p p
+pub ran_begun : (v v' : Linking) (r w : Bytes) (p : Calls) → v.left ≡ [] → ((past : LinkPast) → Shows v past → Begins past v' true) → RanOn Begun v v' (wires r w p) (wires r w p)
 ran_begun v v' r w p empty gives past shows told =
     let given = gives past shows in
     let did = from_begun past v v' r w p empty told given in
@@ -112,22 +112,22 @@ ran_begun v v' r w p empty gives past shows told =
 
 -- what was told was posted
 pub ran_told : (v v' : Linking) (r w : Bytes) (p p' : Calls) (item : Item) (call : Call) → ((past : LinkPast) → Shows v past → Shows v' (doing past (tells item)))
-    → Notes p p' (call ∷ []) → events_told item ≡ event_posted call ∷ [] → v'.left ≡ v.left → Ran Posted v v' r r w w p p'
+    → Notes p p' (call ∷ []) → events_told item ≡ event_posted call ∷ [] → v'.left ≡ v.left → Ran Posted v v' (wires r w p) (wires r w p')
 ran_told v v' r w p p' item call told posted is left past shows =
     let did = from_told past v v' r w p p' item call (told past shows) posted is left in
     (did.0, (item ∷ [], did.1))
 
 -- a frame was ignored
 pub ran_ignored : (v v' : Linking) (r w : Bytes) (p : Calls) (refusal : Refusal)
-    → ((past : LinkPast) → Shows v past → (item : Item) × (reason_of item ≡ Some refusal) × Shows v' (doing past (tells item))) → v'.left ≡ v.left → Ran Posted v v' r r w w p p
+    → ((past : LinkPast) → Shows v past → (item : Item) × (reason_of item ≡ Some refusal) × Shows v' (doing past (tells item))) → v'.left ≡ v.left → Ran Posted v v' (wires r w p) (wires r w p)
 ran_ignored v v' r w p refusal gives left past shows =
     let given = gives past shows in
     let did = from_ignored past v v' r w p refusal given.0 given.1 given.2 left in
     (did.0, (given.0 ∷ [], did.1))
 
 -- the events were told, and there are no more
-pub ran_told_all : (v v' v'' : Linking) (r w : Bytes) (p p' : Calls) (broken : Option Refusal) → Ran Posted v v' r r w w p p'
-    → ((past : LinkPast) → Shows v' past → IsAllTold past × (break_in past.stream ≡ broken) × Shows v'' past) → v''.left ≡ v'.left → Ran (TellsAll broken) v v'' r r w w p p'
+pub ran_told_all : (v v' v'' : Linking) (r w : Bytes) (p p' : Calls) (broken : Option Refusal) → Ran Posted v v' (wires r w p) (wires r w p')
+    → ((past : LinkPast) → Shows v' past → IsAllTold past × (break_in past.stream ≡ broken) × Shows v'' past) → v''.left ≡ v'.left → Ran (TellsAll broken) v v'' (wires r w p) (wires r w p')
 ran_told_all v v' v'' r w p p' broken first gives left past shows =
     let a = first past shows in
     let now = after_steps past a.0.steps in
@@ -144,9 +144,9 @@ Completes piece broken past steps =
     LastRead piece steps × (pieces_in steps ≡ piece ∷ []) × IsAllTold (after_steps past steps) × (break_after past steps ≡ broken)
 
 pub turn_done : (v v1 v2 v3 : Linking) (r r' w w' : Bytes) (p p' : Calls) (piece : List ℕ) (broken : Option Refusal)
-    → RanOn Begun v v1 r r w w' p p → ((past : LinkPast) → Shows v1 past → word_due past ≡ None)
+    → RanOn Begun v v1 (wires r w p) (wires r w' p) → ((past : LinkPast) → Shows v1 past → word_due past ≡ None)
     → length piece ≤ 4096 → Consumes r r' piece → ((past : LinkPast) → Shows v1 past → Shows v2 (feeding past piece)) → v2.left ≡ v1.left
-    → Ran (TellsAll broken) v2 v3 r' r' w' w' p p' → RanOn (Completes piece broken) v v3 r r' w w' p p'
+    → Ran (TellsAll broken) v2 v3 (wires r' w' p) (wires r' w' p') → RanOn (Completes piece broken) v v3 (wires r w p) (wires r' w' p')
 turn_done v v1 v2 v3 r r' w w' p p' piece broken asked none small read fed left tell past shows told =
     let a = asked past shows told in
     let now = after_steps past a.0.steps in
@@ -238,11 +238,11 @@ ends_cut (Fault n) left r past steps is begun told = (
   λ cut unbroken. ap (break_after past) begun.1 ∙ ap break_in (stream-begins past begun.0) ∙ unbroken,
 )
 
-pub turn_cut : (v v' : Linking) (r w w' : Bytes) (p : Calls) (end : End) → IsStuck end v'.left → RanOn Begun v v' r r w w' p p → RanOn (EndsTurn (Some end) v'.left r) v v' r r w w' p p
+pub turn_cut : (v v' : Linking) (r w w' : Bytes) (p : Calls) (end : End) → IsStuck end v'.left → RanOn Begun v v' (wires r w p) (wires r w' p) → RanOn (EndsTurn (Some end) v'.left r) v v' (wires r w p) (wires r w' p)
 turn_cut v v' r w w' p end is ran past shows told = let a = ran past shows told in (a.0, ends_cut end v'.left r past a.0.steps is a.1 told)
 
 pub turn_as : (P Q : LinkPast → List Step → Type 0) → ((past : LinkPast) (a : List Step) → P past a → Q past a)
-    → (v v' : Linking) (r r' w w' : Bytes) (p p' : Calls) → RanOn P v v' r r' w w' p p' → RanOn Q v v' r r' w w' p p'
+    → (v v' : Linking) (r r' w w' : Bytes) (p p' : Calls) → RanOn P v v' (wires r w p) (wires r' w' p') → RanOn Q v v' (wires r w p) (wires r' w' p')
 turn_as P Q is v v' r r' w w' p p' ran past shows told = let a = ran past shows told in (a.0, is past a.0.steps a.1)
 
 -- ---- the turns of a call

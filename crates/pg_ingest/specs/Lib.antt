@@ -1,15 +1,19 @@
--- Definitions that the contracts of links cite.
+-- Definitions that the contracts of links cite, in the order in which to read them. What a link tells of its source's frames, and
+-- which commands it owes, by looking back (Owed says the same by places in the past):
 pub mod Items
 pub mod Commands
 pub mod Owed
+-- what a link keeps, what that shows of its past (Shows), and what its calls answer:
 pub mod Asked
 pub mod Linking
 pub mod Shown
-pub mod Reading
 pub mod Links
-pub mod Pendings
+-- one call of `run_link` (IsCall), how it ends, and all calls together (Served)
 pub mod Runs
 pub mod Ends
-pub mod Turning
 pub mod Served
+-- only private contracts and proofs use these
+pub mod Reading
+pub mod Pendings
 pub mod Begun
+pub mod Turning

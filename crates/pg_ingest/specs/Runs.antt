@@ -67,26 +67,34 @@ frame_of source (posts item) = []
 abbrev pub event_posted : Posted → Occurrence
 event_posted p = p.0
 
+-- What stands at the other ends of a link, as far as they tell it: the bytes that its reader has left, the bytes that its writer
+-- was given, and what was posted at its gate.
+pub record Wires : Type 0 where
+  pub unread : Option (List ℕ)
+  pub written : Option (List ℕ)
+  pub posted : Option (List Posted)
+
+abbrev pub wires : Option (List ℕ) → Option (List ℕ) → Option (List Posted) → Wires
+wires unread written posted = record { unread = unread; written = written; posted = posted }
+
 -- From this past, with these bytes left to write, some steps were done: the reader gave the pieces, the events that they
 -- tell were posted, each once and in order, and the commands were written behind what was left, but for what is left now.
-pub record RanFrom (past : LinkPast) (left : List ℕ) (v : Linking) (r r' w w' : Option (List ℕ)) (p p' : Option (List Posted)) : Type 0 where
+pub record RanFrom (past : LinkPast) (left : List ℕ) (v : Linking) (before after : Wires) : Type 0 where
   pub steps : List Step
   pub are : AreSteps past steps
   pub shows : Shows v (after_steps past steps)
-  pub read : Consumes r r' (flat_map bytes_of steps)
+  pub read : Consumes before.unread after.unread (flat_map bytes_of steps)
   pub calls : List Posted
-  pub posted : Notes p p' calls
+  pub posted : Notes before.posted after.posted calls
   pub events : map event_posted calls ≡ flat_map events_of steps
   pub out : List ℕ
-  pub wrote : Appends w w' out
+  pub wrote : Appends before.written after.written out
   pub goes_on : out ++ v.left ≡ left ++ flat_map (frame_of past.source) steps
 
 -- Whatever past the link shows before, it ran from there, and this holds of that past and of its steps.
-abbrev pub Ran : (LinkPast → List Step → Type 0) → Linking → Linking → Option (List ℕ) → Option (List ℕ) → Option (List ℕ) → Option (List ℕ)
-    → Option (List Posted) → Option (List Posted) → Type 0
-Ran Did v v' r r' w w' p p' = (past : LinkPast) → Shows v past → (ran : RanFrom past v.left v' r r' w w' p p') × Did past ran.steps
+abbrev pub Ran : (LinkPast → List Step → Type 0) → Linking → Linking → Wires → Wires → Type 0
+Ran Did v v' before after = (past : LinkPast) → Shows v past → (ran : RanFrom past v.left v' before after) × Did past ran.steps
 
 -- the same where all that it was fed is told
-abbrev pub RanOn : (LinkPast → List Step → Type 0) → Linking → Linking → Option (List ℕ) → Option (List ℕ) → Option (List ℕ) → Option (List ℕ)
-    → Option (List Posted) → Option (List Posted) → Type 0
-RanOn Did v v' r r' w w' p p' = (past : LinkPast) → Shows v past → IsAllTold past → (ran : RanFrom past v.left v' r r' w w' p p') × Did past ran.steps
+abbrev pub RanOn : (LinkPast → List Step → Type 0) → Linking → Linking → Wires → Wires → Type 0
+RanOn Did v v' before after = (past : LinkPast) → Shows v past → IsAllTold past → (ran : RanFrom past v.left v' before after) × Did past ran.steps

@@ -1,5 +1,5 @@
 -- What a link's loop did over all its calls since the link was new or reset.
-use Rattle.std.specs.Prelude.{◌≡◌, ◌≤◌, ◌<◌, ℕ, false, if◌then◌else◌, List, [], ◌∷◌, ◌++◌, map, reverse, length, Option}
+use Rattle.std.specs.Prelude.{◌≡◌, ◌≤◌, ◌<◌, ℕ, false, if◌then◌else◌, List, [], ◌∷◌, ◌++◌, map, reverse, length}
 use Rattle.std.specs.List.{flat_map}
 use Rattle.std.specs.Io.KnownBytes.{Appends, Consumes}
 use Rattle.pg_wire.specs.Split.{frames_in}
@@ -14,7 +14,7 @@ use Rattle.pg_ingest.specs.Items.{Item, AreTold}
 use Rattle.pg_ingest.specs.Commands.{asks, tells, owes_config, owes_start}
 use Rattle.pg_ingest.specs.Linking.{Linking}
 use Rattle.pg_ingest.specs.Shown.{LinkPast, IsAllTold}
-use Rattle.pg_ingest.specs.Runs.{after_steps, events_told, event_posted, RanFrom, Ran}
+use Rattle.pg_ingest.specs.Runs.{after_steps, events_told, event_posted, Wires, RanFrom, Ran}
 use Rattle.pg_ingest.specs.Ends.{is_cut, LastRead, Ends}
 
 -- a new or a reset link
@@ -28,14 +28,16 @@ EndsDry Quiet piece = piece ≡ []
 EndsDry Stalled piece = Unit {0}
 EndsDry (Fault n) piece = Unit {0}
 
--- what `run_link` ensures of a call
-abbrev pub IsCall : End → ℕ → Linking → Linking → Option (List ℕ) → Option (List ℕ) → Option (List ℕ) → Option (List ℕ)
-    → Option (List Posted) → Option (List Posted) → Type 0
-IsCall end turns v v' r r' w w' p p' = Ran (Ends end turns v'.left r') v v' r r' w w' p p' × (0 < turns → is_cut end ≡ false → v'.left ≡ [])
+-- What `run_link` ensures of a call: all events of the bytes that were read are posted, each once and in order, the commands
+-- that fall due before a read are written, and the end has its cause; whatever was begun is written whole, but where a write
+-- was cut short.
+pub record IsCall (end : End) (turns : ℕ) (v v' : Linking) (before after : Wires) : Type 0 where
+  pub ran : Ran (Ends end turns v'.left after.unread) v v' before after
+  pub whole : 0 < turns → is_cut end ≡ false → v'.left ≡ []
 
 -- The calls since this past are one run, of which the last ended so.
-pub record SoFar (end : End) (past : LinkPast) (v : Linking) (r r' w w' : Option (List ℕ)) (p p' : Option (List Posted)) : Type 0 where
-  pub ran : RanFrom past [] v r r' w w' p p'
+pub record SoFar (end : End) (past : LinkPast) (v : Linking) (before after : Wires) : Type 0 where
+  pub ran : RanFrom past [] v before after
   pub told : IsAllTold (after_steps past ran.steps)
   pub last : is_cut end ≡ false → (piece : List ℕ) × EndsDry end piece × LastRead piece ran.steps
   pub whole : is_cut end ≡ false → v.left ≡ []
@@ -82,16 +84,16 @@ frames_of source words = flat_map (λ word. written source 0 (word_number word))
 -- order; and what was written, with what is left to write, is the frames of the link's commands, but for some at the end that
 -- were not asked for. Where the last call was not cut short by its writer, there are none of those and nothing is left; and
 -- where its reader had ended or would have blocked, the last piece is empty.
-pub record Served (end : End) (past : LinkPast) (left : List ℕ) (r r' w w' : Option (List ℕ)) (p p' : Option (List Posted)) : Type 0 where
+pub record Served (end : End) (past : LinkPast) (left : List ℕ) (before after : Wires) : Type 0 where
   pub turns : List Turn
   pub are : AreTurns past turns
-  pub read : Consumes r r' (bytes_read turns)
+  pub read : Consumes before.unread after.unread (bytes_read turns)
   pub told : AreTold past.source (reverse (frames_in (bytes_read turns))) (reverse (items_read turns))
   pub calls : List Posted
-  pub posted : Notes p p' calls
+  pub posted : Notes before.posted after.posted calls
   pub events : map event_posted calls ≡ flat_map events_told (items_read turns)
   pub out : List ℕ
-  pub wrote : Appends w w' out
+  pub wrote : Appends before.written after.written out
   pub unasked : List Word
   pub commands : out ++ left ++ frames_of past.source unasked ≡ frames_of past.source (commands_in past turns)
   pub whole : is_cut end ≡ false → (unasked ≡ []) × (left ≡ []) × ((before : List Turn) × (turn : Turn) × (turns ≡ before ++ turn ∷ []) × EndsDry end turn.piece)

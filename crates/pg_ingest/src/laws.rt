@@ -1,15 +1,15 @@
 //! Laws of what is told and of what is owed, as contracts of functions that do nothing.
 
-ghost use Rattle.std.specs.Prelude.{◌≡◌, ◌<◌, ◌↔◌, ℕ, true, false, List, [], ◌∷◌, ◌++◌, reverse, All, Option, Some, None};
+ghost use Rattle.std.specs.Prelude.{◌≡◌, ◌<◌, ◌↔◌, ℕ, true, false, List, [], ◌∷◌, ◌++◌, reverse, All, Some, None};
 ghost use Rattle.std.specs.List.{list_any};
 ghost use Rattle.pg_wire.specs.Split.{frames_in};
 ghost use Rattle.pg_command.specs.declared.word.Word.{Word};
-ghost use Rattle.pg_gateway.specs.Posting.{Posted};
 ghost use Rattle.pg_ingest.specs.declared.run.End.{End};
 ghost use Rattle.pg_ingest.specs.Items.{Item, AreTold, IsOwn, is_want, told_of};
 ghost use Rattle.pg_ingest.specs.Commands.{Act, asks, is_unanswered, owes_config};
 ghost use Rattle.pg_ingest.specs.Owed.{HasUnanswered, HasOwed};
 ghost use Rattle.pg_ingest.specs.Linking.{Linking};
+ghost use Rattle.pg_ingest.specs.Runs.{Wires};
 ghost use Rattle.pg_ingest.specs.Shown.{LinkPast, Shows, doing, word_due};
 ghost use Rattle.pg_ingest.specs.Served.{IsFresh, IsCall, SoFar, Served, words_due};
 
@@ -46,16 +46,16 @@ pub fn words_are_due()
 /// Calls of `run_link` one after another are one run: a first call on a link with nothing left to write, and then call after
 /// call, each where the one before it ended, its reader, writer and gate as that one left them.
 pub fn calls_are_one_run()
-    ensures first { (end : End) (turns : ℕ) (past : LinkPast) (v v' : Linking) (r r' w w' : Option (List ℕ)) (p p' : Option (List Posted))
-        → 0 < turns → Shows v past → v.left ≡ [] → IsCall end turns v v' r r' w w' p p' → SoFar end past v' r r' w w' p p' }
-    ensures next { (end end' : End) (turns : ℕ) (past : LinkPast) (v v' : Linking) (r r' r'' w w' w'' : Option (List ℕ)) (p p' p'' : Option (List Posted))
-        → 0 < turns → SoFar end past v r r' w w' p p' → IsCall end' turns v v' r' r'' w' w'' p' p'' → SoFar end' past v' r r'' w w'' p p'' }
+    ensures first { (end : End) (turns : ℕ) (past : LinkPast) (v v' : Linking) (before after : Wires)
+        → 0 < turns → Shows v past → v.left ≡ [] → IsCall end turns v v' before after → SoFar end past v' before after }
+    ensures next { (end end' : End) (turns : ℕ) (past : LinkPast) (v v' : Linking) (first before after : Wires)
+        → 0 < turns → SoFar end past v first before → IsCall end' turns v v' before after → SoFar end' past v' first after }
 {}
 
 /// All calls of `run_link` since a link was new or reset posted what the bytes tell that they read, and wrote a prefix of the
 /// link's commands, `next_out` being asked until none before each piece of these bytes: the whole of it, unless the last call
 /// ended as `Stalled` or `Fault(40)`.
 pub fn calls_serve_the_source()
-    ensures { (end : End) (past : LinkPast) (v : Linking) (r r' w w' : Option (List ℕ)) (p p' : Option (List Posted))
-        → IsFresh past → SoFar end past v r r' w w' p p' → Served end past v.left r r' w w' p p' }
+    ensures { (end : End) (past : LinkPast) (v : Linking) (before after : Wires)
+        → IsFresh past → SoFar end past v before after → Served end past v.left before after }
 {}

@@ -15,6 +15,3 @@ pub use laws::{
 };
 pub use link::{Link, LinkEvent};
 pub use run::{End, run_link};
-
-#[cfg(test)]
-mod tests;

@@ -4,9 +4,10 @@ ghost use Rattle.std.specs.Prelude.{◌≡◌, ◌<◌, ◌≤◌, ℕ, List, []
 ghost use Rattle.std.specs.Io.KnownBytes.{Consumes};
 ghost use Rattle.pg_wire.specs.Held.{IsBreak};
 ghost use Rattle.pg_gateway.specs.Posting.{Posted};
-ghost use Rattle.pg_ingest.specs.Ends.{is_cut, Ends};
+ghost use Rattle.pg_ingest.specs.Ends.{is_cut};
 ghost use Rattle.pg_ingest.specs.Turning.{EndsTurn, EndsRead, IsStuck, OnlyBegins, TellsAll};
-ghost use Rattle.pg_ingest.specs.Runs.{Ran, RanOn};
+ghost use Rattle.pg_ingest.specs.Runs.{wires, Ran, RanOn};
+ghost use Rattle.pg_ingest.specs.Served.{IsCall};
 ghost use Rattle.pg_ingest.specs.Shown.{LinkPast, Shows, word_due};
 
 use crate::link::{Link, LinkEvent};
@@ -30,7 +31,7 @@ pub enum End {
 /// Writes what is left of a command.
 fn push_left<W: Write>(link: &mut Link, writer: &mut W) -> Option<End>
     ensures ran { (r : Option (List ℕ)) (p : Option (List Posted))
-        → Ran (λ past steps. steps ≡ []) link.old link.new r r (W.contents writer.old) (W.contents writer.new) p p }
+        → Ran (λ past steps. steps ≡ []) link.old link.new (wires r (W.contents writer.old) p) (wires r (W.contents writer.new) p) }
     ensures whole { result ≡ None → link.new.left ≡ [] }
     ensures same { link.new ≡ record link.old { left = link.new.left } }
     ensures stuck { IfSome result (λ end. IsStuck end link.new.left) }
@@ -51,7 +52,7 @@ fn push_left<W: Write>(link: &mut Link, writer: &mut W) -> Option<End>
 /// Writes what is left of a command, and then all commands that are owed.
 fn write_owed<W: Write>(link: &mut Link, writer: &mut W) -> Option<End>
     ensures ran { (r : Option (List ℕ)) (p : Option (List Posted))
-        → RanOn (λ past steps. OnlyBegins steps) link.old link.new r r (W.contents writer.old) (W.contents writer.new) p p }
+        → RanOn (λ past steps. OnlyBegins steps) link.old link.new (wires r (W.contents writer.old) p) (wires r (W.contents writer.new) p) }
     ensures whole { result ≡ None → link.new.left ≡ [] }
     ensures none { result ≡ None → (past : LinkPast) → Shows link.new past → word_due past ≡ None }
     ensures held { link.new.bytes ≡ link.old.bytes }
@@ -69,7 +70,8 @@ fn write_owed<W: Write>(link: &mut Link, writer: &mut W) -> Option<End>
 
 /// Posts the events of a source that are whole, and tells whether its bytes broke behind them.
 fn post_events<G: Gate>(link: &mut Link, gate: &mut G) -> Option<Refusal>
-    ensures ran { (r w : Option (List ℕ)) → Ran (TellsAll result) link.old link.new r r w w (G.posts gate.old) (G.posts gate.new) }
+    ensures ran { (r w : Option (List ℕ))
+        → Ran (TellsAll result) link.old link.new (wires r w (G.posts gate.old)) (wires r w (G.posts gate.new)) }
     ensures breaks { IfSome result IsBreak }
     ensures room { length link.new.bytes.held < 65535 }
     ensures left { link.new.left ≡ link.old.left }
@@ -118,8 +120,9 @@ fn turn<R: Read, W: Write, G: Gate>(
     gate: &mut G,
 ) -> Option<End>
     requires { length link.old.bytes.held < 65535 }
-    ensures ran { RanOn (EndsTurn result link.new.left (R.remaining reader.new)) link.old link.new (R.remaining reader.old) (R.remaining reader.new)
-        (W.contents writer.old) (W.contents writer.new) (G.posts gate.old) (G.posts gate.new) }
+    ensures ran { RanOn (EndsTurn result link.new.left (R.remaining reader.new)) link.old link.new
+        (wires (R.remaining reader.old) (W.contents writer.old) (G.posts gate.old))
+        (wires (R.remaining reader.new) (W.contents writer.new) (G.posts gate.new)) }
     ensures room { length link.new.bytes.held < 65535 }
     ensures goes { result ≡ None → link.new.left ≡ [] }
     ensures whole { IfSome result (λ end. is_cut end ≡ false → link.new.left ≡ []) }
@@ -148,12 +151,9 @@ pub fn run_link<R: Read, W: Write, G: Gate>(
     gate: &mut G,
     turns: u64,
 ) -> End
-    // All events of the bytes that were read are posted, each once and in order, the commands that fall due before a read are
-    // written, and the end has its cause.
-    ensures ran { Ran (Ends result turns link.new.left (R.remaining reader.new)) link.old link.new (R.remaining reader.old) (R.remaining reader.new)
-        (W.contents writer.old) (W.contents writer.new) (G.posts gate.old) (G.posts gate.new) }
-    // Whatever was begun is written whole, but where a write was cut short.
-    ensures whole { 0 < turns → is_cut result ≡ false → link.new.left ≡ [] }
+    ensures { IsCall result turns link.old link.new
+        (wires (R.remaining reader.old) (W.contents writer.old) (G.posts gate.old))
+        (wires (R.remaining reader.new) (W.contents writer.new) (G.posts gate.new)) }
 {
     // What it was fed by others comes first, so that there is room. A break shows again in a turn.
     post_events(link, gate);

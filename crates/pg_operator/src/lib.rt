@@ -11,6 +11,3 @@ pub mod words;
 
 pub use line::{parse_line, words_of};
 pub use setup::{Setup, read_setup};
-
-#[cfg(test)]
-mod tests;

@@ -4,4 +4,3 @@ pub mod Blocks
 pub mod Joining
 pub mod Joined
 pub mod Reading
-pub mod Changes

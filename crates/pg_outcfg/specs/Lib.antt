@@ -1,6 +1,8 @@
+-- What a reader must believe, in this order: the CFG-1 list, the joined quality, the output frames, and what these tell whoever
+-- reads them.
 pub mod Listing
-pub mod Places
 pub mod Quality
 pub mod Frames
 pub mod Reading
-pub mod Changes
+-- Only private contracts and proofs use these: places in the list, and how it lies in memory.
+pub mod Places

@@ -1,11 +1,10 @@
 -- The configurations that a subscriber may see: its CFG-1 list.
-use Rattle.std.specs.Prelude.{◌≡◌, ℕ, true, not, List, [], ◌∷◌, Option, map, filter, if◌then◌else◌}
+use Rattle.std.specs.Prelude.{◌≡◌, true, not, List, [], ◌∷◌, Option, filter, if◌then◌else◌}
 use Rattle.std.specs.List.{AllByRecursion}
 use Rattle.std.specs.Map.{lookup}
 use Rattle.pg_wire.specs.declared.ids.PmuKey.{PmuKey}
 use Rattle.pg_wire.specs.Keys.{key_eq, key_before}
 use Rattle.pg_config.specs.Parts.{Part}
-use Rattle.pg_config.specs.Writing.{uncounted}
 
 -- PMUs' keys, each with its configuration
 abbrev pub Listing : Type 0
@@ -35,11 +34,3 @@ with_config (e ∷ es) key part =
 -- the list without the PMU of this key
 abbrev pub without_config : Listing → PmuKey → Listing
 without_config listed key = filter (λ e. not (key_eq key e.0)) listed
-
--- By what lists are compared: keys, and blocks without CFGCNT.
-abbrev pub shape_of : Listing → List (PmuKey × List ℕ)
-shape_of listed = map (λ e. (e.0, uncounted e.1)) listed
-
--- two lists are the same but for CFGCNT, resolution and rate
-abbrev pub IsSameList : Listing → Listing → Type 0
-IsSameList a b = shape_of a ≡ shape_of b

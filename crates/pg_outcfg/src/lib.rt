@@ -8,8 +8,5 @@ mod list;
 
 pub use config::{OutCfg, header};
 pub use data::data_frame;
-pub use laws::{changes_are_told, config_is_read, data_is_read, quality_is_joined};
+pub use laws::{config_is_read, data_is_read, quality_is_joined};
 pub use list::{ConfigList, Listed};
-
-#[cfg(test)]
-mod tests;

@@ -7,6 +7,3 @@ mod registry;
 
 pub use laws::{keys_stay_apart, others_stay, places_stay};
 pub use registry::Registry;
-
-#[cfg(test)]
-mod tests;

@@ -44,7 +44,7 @@ impl Pmu {
         self.config = Some(config);
     }
 
-    /// Counts a block or a configuration that was taken.
+    /// Counts a block that was taken.
     pub(crate) fn count_taken(&mut self)
         ensures { self.new ≡ taking self.old }
     {

@@ -45,9 +45,11 @@ impl Registry {
         ensures empty { IfOk result (λ registry. registry ≡ []) }
         ensures memory { IfErr result (λ refusal. refusal ≡ Refusal.NoMemory) }
     {
-        Ok(Registry {
-            pmus: IndexMap::with_capacity(alloc, PMU_LIMIT)?,
-        })
+        let pmus = IndexMap::with_capacity(alloc, PMU_LIMIT)?;
+        // Contracts see a registry as its list, and so none of them speaks of room.
+        let room = pmus.capacity();
+        prove!(room >= PMU_LIMIT);
+        Ok(Registry { pmus })
     }
 
     /// Registers a PMU behind the others, with no configuration and all counters at 0.
@@ -194,7 +196,7 @@ impl Registry {
         self.pmus[place].announce(config);
     }
 
-    /// Counts a block or a configuration that was taken of the PMU at a place.
+    /// Counts a block that was taken of the PMU at a place.
     pub fn count_taken_at(&mut self, place: usize)
         requires { place < length self.old }
         ensures list { self.new ≡ changed_at taking place self.old }

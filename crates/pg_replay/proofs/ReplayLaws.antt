@@ -16,7 +16,8 @@ use Rattle.pg_serve.proofs.Isolating.{isolated}
 use Rattle.pg_serve.specs.Shown.{WorldValue, queue_shown, link_counted, session_counted}
 use Rattle.pg_replay.specs.Lines.{Asked, nothing, hands, queue, link_stats, session_stats, asked_in}
 use Rattle.pg_replay.specs.Printing.{Text, output_lines}
-use Rattle.pg_replay.specs.Replaying.{without_end, lines_by, lines_in, asked_of, Does, PrintsSession, DoesAsked, AnswersLine, Runs, AnswersScript, AllTell, Tells, PrintsScript, SessionText, handed_over, text_at, text_of, refused_line, outputs_lines, queue_text, link_text, session_text}
+use Rattle.pg_replay.specs.Replaying.{without_end, lines_by, lines_in, asked_of, Does, Runs, PrintsScript, SessionText, handed_over, handed_in, text_at, text_of, refused_line, outputs_lines, queue_text, link_text, session_text}
+use Rattle.pg_replay.specs.Answering.{PrintsSession, DoesAsked, AnswersLine, AnswersScript}
 use Rattle.pg_replay.proofs.PrintLaws.{appends_more}
 
 pub appends-none : (a : Option (List ℕ)) → Appends a a []
@@ -248,24 +249,33 @@ runs_print w v (m ∷ ms) before had told text has runs lossless =
     let rest = runs_print u v ms (before ++ handed_over m) (had ++ os) more runs.4 (kept_after w u m before had os runs.3 has runs.7) runs.8 all in
     runs.6 ∙ ap (λ t. t ++ runs.4) here ∙ ap (λ t. text_at before m ++ t) rest
 
-runs_tell : (w v : WorldValue) (ms : List (Option Asked)) (told : List Outcome) (text : Text) → Runs w ms told text v → AllTell ms told text
-runs_tell w v [] told text runs = (runs.0, runs.1)
-runs_tell w v (m ∷ ms) told text runs = (runs.1, runs.2, runs.3, runs.4, runs.5, runs.6, tells m runs.7, runs_tell runs.0 v ms runs.2 runs.4 runs.8)
-  where
-    tells : (m : Option Asked) → Does w m runs.1 runs.3 runs.0 → Tells m runs.1 runs.3
-    tells None d = (d.0, d.1)
-    tells (Some nothing) d = (d.0, d.1)
-    tells (Some (hands f)) d = d.0
-    tells (Some (queue n)) d = d.0
-    tells (Some (link_stats n)) d = d.0
-    tells (Some (session_stats n)) d = d.0
+-- all that was taken and told by then
+runs_answer : (w v : WorldValue) (ms : List (Option Asked)) (before : List Fact) (had told : List Outcome) (text : Text) → HasAnswered w before had → Runs w ms told text v
+    → HasAnswered v (before ++ handed_in ms) (had ++ told)
+runs_answer w v [] before had told text has runs =
+    subst (λ u. HasAnswered u (before ++ []) (had ++ told)) (sym runs.2)
+    (subst (λ t. HasAnswered w (before ++ []) (had ++ t)) (sym runs.0)
+    (subst (λ l. HasAnswered w l (had ++ [])) (sym (append-nil before)) (subst (HasAnswered w before) (sym (append-nil had)) has)))
+runs_answer w v (m ∷ ms) before had told text has runs =
+    let u = runs.0 in
+    let os = runs.1 in
+    let more = runs.2 in
+    let rest = runs_answer u v ms (before ++ handed_over m) (had ++ os) more runs.4 (kept_after w u m before had os runs.3 has runs.7) runs.8 in
+    subst (λ t. HasAnswered v (before ++ handed_in (m ∷ ms)) (had ++ t)) (sym runs.5)
+    (subst (λ l. HasAnswered v l (had ++ (os ++ more))) (append_assoc before (handed_over m) (handed_in ms))
+    (subst (HasAnswered v ((before ++ handed_over m) ++ handed_in ms)) (append_assoc had os more) rest))
 
 pub prints_script : (w : WorldValue) (script : Text) (old new : Option (List ℕ)) → HasAnswered w [] [] → AnswersScript w script old new → PrintsScript script old new
 prints_script w script old new has answers = record {
   printed = answers.text;
   replays = record {
+    new = w;
+    begins = has;
     told = answers.told;
-    tells = subst (λ ms. AllTell ms answers.told answers.text) (sym answers.lines) (runs_tell w answers.later answers.asked answers.told answers.text answers.runs);
+    later = answers.later;
+    runs = subst (λ ms. Runs w ms answers.told answers.text answers.later) (sym answers.lines) answers.runs;
+    answered = subst (λ ms. HasAnswered answers.later (handed_in ms) answers.told) (sym answers.lines)
+        (runs_answer w answers.later answers.asked [] [] answers.told answers.text has answers.runs);
     full = λ lossless. runs_print w answers.later answers.asked [] [] answers.told answers.text has answers.runs lossless ∙ ap (text_of []) (sym answers.lines);
   };
   appends = answers.appends;

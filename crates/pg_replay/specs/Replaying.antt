@@ -67,7 +67,8 @@ SessionText w u text None =
     (r : Refusal) × ((S : Shared) → GatewayShows w.gateway S → r ≡ absence (is_some (seat_of u S.subs))) × (text ≡ refused_line r)
 SessionText w u text (Some s) = text ≡ session_text true (Some s)
 
--- What a line asks for is done, and printed.
+-- What a line asks for is done, and printed: of an input what the world answers, of a question what the world shows. Where it
+-- asks for none of these, the world stays as it is.
 abbrev pub Does : WorldValue → Option Asked → List Outcome → Text → WorldValue → Type 0
 Does w None told text v = (told ≡ []) × (text ≡ refused_line BadLine) × (v ≡ w)
 Does w (Some nothing) told text v = (told ≡ []) × (text ≡ []) × (v ≡ w)
@@ -77,43 +78,12 @@ Does w (Some (link_stats s)) told text v = (told ≡ []) × (text ≡ link_text 
 Does w (Some (session_stats u)) told text v =
     (told ≡ []) × SessionText w u text (session_counted u w) × (v ≡ w)
 
-pub record PrintsSession (w : WorldValue) (u : ℕ) (old new : Option (List ℕ)) : Type 0 where
-  pub text : Text
-  pub is : SessionText w u text (session_counted u w)
-  pub appends : Appends old new text
-
-pub record DoesAsked (w : WorldValue) (m : Option Asked) (old new : Option (List ℕ)) (v : WorldValue) : Type 0 where
-  pub told : List Outcome
-  pub text : Text
-  pub does : Does w m told text v
-  pub appends : Appends old new text
-
--- A line is answered.
-pub record AnswersLine (w : WorldValue) (line : Text) (old new : Option (List ℕ)) (v : WorldValue) : Type 0 where
-  pub asked : Option Asked
-  pub asks : asked_in line ≡ asked
-  pub does : DoesAsked w asked old new v
-
--- Lines that ask for this are answered, one after another, by a world that becomes another.
+-- What lines ask for is done, one after another: these are all outcomes and all that is printed, and the world becomes another.
 abbrev pub Runs : WorldValue → List (Option Asked) → List Outcome → Text → WorldValue → Type 0
 Runs w [] told text v = (told ≡ []) × (text ≡ []) × (v ≡ w)
 Runs w (m ∷ ms) told text v =
     (u : WorldValue) × (os : List Outcome) × (more : List Outcome) × (here : Text) × (rest : Text) × (told ≡ os ++ more) × (text ≡ here ++ rest)
     × Does w m os here u × Runs u ms more rest v
-
--- All lines of a script are answered.
-pub record AnswersScript (w : WorldValue) (script : Text) (old new : Option (List ℕ)) : Type 0 where
-  pub asked : List (Option Asked)
-  pub lines : asked_of script ≡ asked
-  pub told : List Outcome
-  pub text : Text
-  pub later : WorldValue
-  pub runs : Runs w asked told text later
-  pub appends : Appends old new text
-
--- The same, where it is known what a reader has left.
-abbrev pub AnswersAll : WorldValue → Option (List ℕ) → Option (List ℕ) → Option (List ℕ) → Type 0
-AnswersAll w remaining old new = (script : Text) → remaining ≡ Some script → AnswersScript w script old new
 
 -- ---- a script
 
@@ -134,34 +104,28 @@ handed_over (Some (queue u)) = []
 handed_over (Some (link_stats s)) = []
 handed_over (Some (session_stats u)) = []
 
+-- the inputs that lines hand over, in their order
+abbrev pub handed_in : List (Option Asked) → List Fact
+handed_in ms = flat_map handed_over ms
+
 -- all that lines print
 abbrev pub text_of : List Fact → List (Option Asked) → Text
 text_of before [] = []
 text_of before (m ∷ ms) = text_at before m ++ text_of (before ++ handed_over m) ms
 
--- What is printed of a line tells these outcomes: of an input's they are all that is printed.
-abbrev pub Tells : Option Asked → List Outcome → Text → Type 0
-Tells None told text = (told ≡ []) × (text ≡ refused_line BadLine)
-Tells (Some nothing) told text = (told ≡ []) × (text ≡ [])
-Tells (Some (hands f)) told text = text ≡ outputs_lines told
-Tells (Some (queue u)) told text = told ≡ []
-Tells (Some (link_stats s)) told text = told ≡ []
-Tells (Some (session_stats u)) told text = told ≡ []
-
-abbrev pub AllTell : List (Option Asked) → List Outcome → Text → Type 0
-AllTell [] told text = (told ≡ []) × (text ≡ [])
-AllTell (m ∷ ms) told text =
-    (os : List Outcome) × (more : List Outcome) × (here : Text) × (rest : Text) × (told ≡ os ++ more) × (text ≡ here ++ rest) × Tells m os here × AllTell ms more rest
-
 -- what a script prints, where no memory is refused
 abbrev pub printed_of : Text → Text
 printed_of script = text_of [] (asked_of script)
 
--- This may be printed of a script: of each line what its outcomes are; and where none of these tells want of memory or a loss,
--- just what is a function of the script.
+-- This may be printed of a script: line by line, what a new world answers that takes just the inputs which the lines hand over.
+-- Where none of its answers tells want of memory or a loss, that is a function of the script.
 pub record Replays (script printed : Text) : Type 0 where
+  pub new : WorldValue
+  pub begins : HasAnswered new [] []
   pub told : List Outcome
-  pub tells : AllTell (asked_of script) told printed
+  pub later : WorldValue
+  pub runs : Runs new (asked_of script) told printed later
+  pub answered : HasAnswered later (handed_in (asked_of script)) told
   pub full : AllLossless told → printed ≡ printed_of script
 
 -- A reader had this left, and what may be printed of it was written.

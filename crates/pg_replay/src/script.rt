@@ -6,7 +6,8 @@ ghost use Rattle.pg_serve.specs.Inputs.{fact};
 ghost use Rattle.pg_serve.specs.Shown.{queue_shown, link_counted};
 ghost use Rattle.pg_replay.specs.Faults.{told_as, fault_of};
 ghost use Rattle.pg_replay.specs.Lines.{asked, hands};
-ghost use Rattle.pg_replay.specs.Replaying.{Prints, AnswersAll, AnswersLine, PrintsSession, DoesAsked, queue_text, link_text};
+ghost use Rattle.pg_replay.specs.Replaying.{Prints, queue_text, link_text};
+ghost use Rattle.pg_replay.specs.Answering.{AnswersAll, AnswersLine, PrintsSession, DoesAsked};
 
 use crate::answers::{NotPrinted, print_counters, print_outputs, print_queue, print_refusal};
 use crate::lines::{Line, read_line, without_end};

@@ -10,6 +10,3 @@ mod sizes;
 pub use laws::{each_number_has_one_fate, gaps_count_numbers};
 pub use queue::{Drained, OutQueue};
 pub use sizes::{RingBytes, RingSize};
-
-#[cfg(test)]
-mod tests;

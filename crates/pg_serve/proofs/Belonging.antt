@@ -16,7 +16,7 @@ use Rattle.pg_wire.specs.Split.{frames_in, rest_in}
 use Rattle.pg_wire.proofs.Splitting.{frames_in-append}
 use Rattle.pg_entitle.specs.Grants.{has_key, granted}
 use Rattle.pg_registry.specs.Registered as registered
-use Rattle.pg_registry.specs.Registered.{Pmu, Pmus, changed, taking, announcing, refusing, unannounced}
+use Rattle.pg_registry.specs.Registered.{Pmu, Pmus, changed, announcing, refusing, unannounced}
 use Rattle.pg_registry.proofs.Lists.{keys-changed}
 use Rattle.pg_ingest.specs.Items as link
 use Rattle.pg_session.specs.Events as session
@@ -57,8 +57,7 @@ keys_memory pmus (key ∷ keys) = keys-changed (refusing NoMemory) key pmus
 keys_announced : (pmus : Pmus) (list : List Announcing) → keys_of (all_announced pmus list) ≡ keys_of pmus
 keys_announced pmus [] = refl
 keys_announced pmus (a ∷ list) =
-    let first = changed (announcing a.config) a.key pmus in
-    keys_announced (changed taking a.key first) list ∙ keys-changed taking a.key first ∙ keys-changed (announcing a.config) a.key pmus
+    keys_announced (changed (announcing a.config) a.key pmus) list ∙ keys-changed (announcing a.config) a.key pmus
 
 -- an event that registers or drops no PMU
 abbrev KeepsKeys : Occurrence → Type 0

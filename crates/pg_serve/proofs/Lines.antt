@@ -19,7 +19,8 @@ use Rattle.pg_serve.specs.Inputs.{Outcome}
 use Rattle.pg_serve.specs.Dues.{words_due, frames_of, gave}
 use Rattle.pg_serve.specs.Feeding.{TakesPiece, GivesAll}
 use Rattle.pg_serve.specs.Moments.{LinePast, new_line, words_given, fed_line, telling}
-use Rattle.pg_serve.specs.Shown.{LineShows, SessionShows, GoesUp, TakesBytes}
+use Rattle.pg_serve.specs.Shown.{LineShows, SessionShows}
+use Rattle.pg_serve.specs.Taking.{GoesUp, TakesBytes}
 
 told_asks : (words : List Word) → told_in (map asks words) ≡ []
 told_asks [] = refl

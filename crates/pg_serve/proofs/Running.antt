@@ -1,12 +1,10 @@
 -- Inputs are taken one after another.
 use Rattle.std.proofs.Common.{◌≡◌, ℕ, false, List, [], ◌∷◌, ◌++◌, refl, sym, ap, ap₂, ◌∙◌, subst}
 use Rattle.std.proofs.lemmas.List.{map-append}
-use Rattle.pg_session.specs.Commands.{Hearing}
-use Rattle.pg_gateway.specs.Shown.{GatewayValue}
-use Rattle.pg_serve.specs.declared.line.Line.{Line}
 use Rattle.pg_serve.specs.Inputs.{Fact, Outcome}
 use Rattle.pg_serve.specs.Moments.{Moment, opening, Turns, LegalTurns, after_turn, after_turns, outcome_of, all_outcomes}
-use Rattle.pg_serve.specs.Shown.{MomentShows, WorldValue, TakesFrom, TakesAll}
+use Rattle.pg_serve.specs.Shown.{Holding, holding, MomentShows, WorldValue}
+use Rattle.pg_serve.specs.Taking.{TakesInput, TakesInputs}
 use Rattle.pg_serve.specs.Full.{HasAnswered}
 
 pub after_turns-append : (m : Moment) (ts us : Turns) → after_turns m (ts ++ us) ≡ after_turns (after_turns m ts) us
@@ -21,14 +19,9 @@ pub outcomes-append : (m : Moment) (ts us : Turns) → all_outcomes m (ts ++ us)
 outcomes-append m [] us = refl
 outcomes-append m (t ∷ ts) us = ap (λ os. outcome_of m t ∷ os) (outcomes-append (after_turn m t) ts us)
 
-pub many_none : (g : GatewayValue) (links : List (ℕ × Line)) (hearings : List (ℕ × Hearing)) → TakesAll g links hearings [] [] g links hearings
-many_none g links hearings m shows = record { turns = []; taken = refl; legal = tt; outcomes = refl; shows = shows }
-
-pub many_more : (g h i : GatewayValue) (links links' links'' : List (ℕ × Line)) (hearings hearings' hearings'' : List (ℕ × Hearing))
-    (inputs : List Fact) (told : List Outcome) (f : Fact) (o : Outcome)
-    → TakesAll g links hearings inputs told h links' hearings' → TakesFrom h links' hearings' f o i links'' hearings''
-    → TakesAll g links hearings (inputs ++ f ∷ []) (told ++ o ∷ []) i links'' hearings''
-many_more g h i links links' links'' hearings hearings' hearings'' inputs told f o all takes m shows =
+pub many_more : (u v w : Holding) (inputs : List Fact) (told : List Outcome) (f : Fact) (o : Outcome) → TakesInputs u inputs told v → TakesInput v f o w
+    → TakesInputs u (inputs ++ f ∷ []) (told ++ o ∷ []) w
+many_more u v w inputs told f o all takes m shows =
     let many = all m shows in
     let mid = after_turns m many.turns in
     let one = takes mid many.shows in
@@ -37,11 +30,11 @@ many_more g h i links links' links'' hearings hearings' hearings'' inputs told f
       taken = map-append _ many.turns (one.turn ∷ []) ∙ ap₂ (λ (fs : List Fact) (x : Fact). fs ++ x ∷ []) many.taken one.is;
       legal = LegalTurns-append m many.turns (one.turn ∷ []) many.legal (one.legal, tt);
       outcomes = ap₂ (λ (os : List Outcome) (x : Outcome). os ++ x ∷ []) many.outcomes one.outcome ∙ sym (outcomes-append m many.turns (one.turn ∷ []));
-      shows = subst (MomentShows i links'' hearings'') (sym (after_turns-append m many.turns (one.turn ∷ []))) one.shows;
+      shows = subst (MomentShows w) (sym (after_turns-append m many.turns (one.turn ∷ []))) one.shows;
     }
 
 pub answered_more : (v w : WorldValue) (before inputs : List Fact) (told more : List Outcome) → HasAnswered v before told
-    → TakesAll v.gateway v.lines v.sessions inputs more w.gateway w.lines w.sessions → w.failed ≡ false
+    → TakesInputs (holding v) inputs more (holding w) → w.failed ≡ false
     → HasAnswered w (before ++ inputs) (told ++ more)
 answered_more v w before inputs told more has all ready =
     let many = all (after_turns opening has.turns) has.shows.shows in
@@ -51,7 +44,7 @@ answered_more v w before inputs told more has all ready =
       outcomes = ap₂ (λ (x y : List Outcome). x ++ y) has.outcomes many.outcomes ∙ sym (outcomes-append opening has.turns many.turns);
       shows = record {
         legal = LegalTurns-append opening has.turns many.turns has.shows.legal many.legal;
-        shows = subst (MomentShows w.gateway w.lines w.sessions) (sym (after_turns-append opening has.turns many.turns)) many.shows;
+        shows = subst (MomentShows (holding w)) (sym (after_turns-append opening has.turns many.turns)) many.shows;
         ready = ready;
       };
     }

@@ -23,8 +23,8 @@ use Rattle.pg_ingest.specs.declared.run.End.{End}
 use Rattle.pg_ingest.specs.declared.run.End.TheVariants.{Closed, Quiet, Stalled, Fault}
 use Rattle.pg_ingest.proofs.Known.{notes_nil, notes_more, appends_nil, appends_more, consumes_nil, consumes_more}
 use Rattle.pg_ingest.specs.Ends.{is_cut}
-use Rattle.pg_serve.specs.Turned.{Writes, IsReadEnd, DrainsLast, Turned}
-use Rattle.pg_serve.specs.Serving.{Post, passes, drains, hangs_up, Call, posted_by, command_in, passed_by, handed_by, bytes_answered, Follows, AreWritten, RanFrom, Ran, HasNoHangup, IsLast, EndsWith, Served, HasGivenAll, BreaksBy, EndsBy}
+use Rattle.pg_serve.specs.Turned.{HasGivenAll, Writes, IsReadEnd, DrainsLast, Turned}
+use Rattle.pg_serve.specs.Serving.{Post, passes, drains, hangs_up, Call, posted_by, command_in, passed_by, handed_by, bytes_answered, Follows, AreWritten, RanFrom, Ran, HasNoHangup, IsLast, EndsWith, Served, BreaksBy, EndsBy}
 
 abbrev Bytes : Type 0
 Bytes = Option (List ℕ)

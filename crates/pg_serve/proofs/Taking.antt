@@ -29,12 +29,16 @@ use Rattle.pg_serve.specs.declared.line.Line.{Line}
 use Rattle.pg_serve.specs.Inputs.{link_up, pmu_bytes, sub_bytes, names, Outcome, Noted, replied, closed}
 use Rattle.pg_serve.specs.Dues.{answered, refused, closed_at, refuses, posts, closes, pairs_of, item_due, hang_up, session_due, session_grows}
 use Rattle.pg_serve.specs.Moments.{LinePast, Moment, absence, has_source, new_line, is_done, lines_by, fed_by, begins, gives_all, gone_up, fed_line}
-use Rattle.pg_serve.specs.Shown.{LineShows, SessionShows, MomentShows, Takes, GoesUp, TakesBytes, Spares, Ends}
+use Rattle.pg_serve.specs.Shown.{LineShows, SessionShows, Holding, MomentShows}
+use Rattle.pg_serve.specs.Taking.{Takes, GoesUp, TakesBytes, Spares, Ends}
+
+abbrev with_parts : GatewayValue → List (ℕ × Line) → List (ℕ × Hearing) → Holding
+with_parts g links hearings = record { gateway = g; lines = links; sessions = hearings }
 
 pub named_taken : (m : Moment) (e : Occurrence) (a : Answer) (o : Outcome) (g : GatewayValue) (links : List (ℕ × Line)) (hearings : List (ℕ × Hearing))
     → o ≡ record { notes = replied a ∷ []; to_pmu = [] } → May m.shared e a → GatewayShows g (next m.shared e a)
     → Related LineShows links (lines_by m.lines m.shared (next m.shared e a) e (is_done a))
-    → Related SessionShows hearings (fed_by m.fed e (is_done a)) → Takes m (names e) o g links hearings
+    → Related SessionShows hearings (fed_by m.fed e (is_done a)) → Takes m (names e) o (with_parts g links hearings)
 named_taken m e a o g links hearings is may shows lines sessions = record {
   turn = record { input = names e; deeds = answered e a ∷ []; told = [] };
   is = refl;
@@ -46,7 +50,7 @@ named_taken m e a o g links hearings is may shows lines sessions = record {
 -- an event that concerns no link and no session
 pub spared : (m : Moment) (e : Occurrence) (a : Answer) (o : Outcome) (g : GatewayValue) (links : List (ℕ × Line)) (hearings : List (ℕ × Hearing))
     → Spares e → o ≡ record { notes = replied a ∷ []; to_pmu = [] } → May m.shared e a → GatewayShows g (next m.shared e a)
-    → Related LineShows links m.lines → Related SessionShows hearings m.fed → Takes m (names e) o g links hearings
+    → Related LineShows links m.lines → Related SessionShows hearings m.fed → Takes m (names e) o (with_parts g links hearings)
 spared m e a o g links hearings spares is may shows lines sessions =
     named_taken m e a o g links hearings is may shows
     (subst (Related LineShows links) (sym (spares.lines m.lines m.shared (next m.shared e a) (is_done a))) lines)
@@ -55,7 +59,7 @@ spared m e a o g links hearings spares is may shows lines sessions =
 -- an event that ends a session, where it is done
 pub ended : (u : ℕ) (m : Moment) (e : Occurrence) (a : Answer) (o : Outcome) (g : GatewayValue) (links : List (ℕ × Line)) (hearings : List (ℕ × Hearing))
     → Ends u e → is_done a ≡ true → o ≡ record { notes = replied a ∷ []; to_pmu = [] } → May m.shared e a → GatewayShows g (next m.shared e a)
-    → Related LineShows links m.lines → Related SessionShows hearings m.fed → Takes m (names e) o g links (remove_entry (nat_eq u) hearings)
+    → Related LineShows links m.lines → Related SessionShows hearings m.fed → Takes m (names e) o (with_parts g links (remove_entry (nat_eq u) hearings))
 ended u m e a o g links hearings ends done is may shows lines sessions =
     named_taken m e a o g links (remove_entry (nat_eq u) hearings) is may shows
     (subst (Related LineShows links) (sym (ends.lines m.lines m.shared (next m.shared e a) (is_done a))) lines)
@@ -64,7 +68,7 @@ ended u m e a o g links hearings ends done is may shows lines sessions =
 
 pub not_ended : (u : ℕ) (m : Moment) (e : Occurrence) (a : Answer) (o : Outcome) (g : GatewayValue) (links : List (ℕ × Line)) (hearings : List (ℕ × Hearing))
     → Ends u e → is_done a ≡ false → o ≡ record { notes = replied a ∷ []; to_pmu = [] } → May m.shared e a → GatewayShows g (next m.shared e a)
-    → Related LineShows links m.lines → Related SessionShows hearings m.fed → Takes m (names e) o g links hearings
+    → Related LineShows links m.lines → Related SessionShows hearings m.fed → Takes m (names e) o (with_parts g links hearings)
 not_ended u m e a o g links hearings ends done is may shows lines sessions =
     named_taken m e a o g links hearings is may shows
     (subst (Related LineShows links) (sym (ends.lines m.lines m.shared (next m.shared e a) (is_done a))) lines)
@@ -73,7 +77,7 @@ not_ended u m e a o g links hearings ends done is may shows lines sessions =
 -- a source that has no line
 pub up_none : (m : Moment) (s : ℕ) (o : Outcome) (g : GatewayValue) (links : List (ℕ × Line)) (hearings : List (ℕ × Hearing))
     → lookup (nat_eq s) m.lines ≡ None → o ≡ record { notes = replied (tells (private.refused NoSuchPmu)) ∷ []; to_pmu = [] }
-    → MomentShows g links hearings m → Takes m (link_up s) o g links hearings
+    → MomentShows (with_parts g links hearings) m → Takes m (link_up s) o (with_parts g links hearings)
 up_none m s o g links hearings none is shows = record {
   turn = record { input = link_up s; deeds = refused NoSuchPmu ∷ []; told = [] };
   is = refl;
@@ -88,7 +92,7 @@ is_answering o notes to_pmu n t = subst (λ (x : List Noted). o ≡ record { not
 
 pub up_some : (m : Moment) (s : ℕ) (line : LinePast) (o : Outcome) (g : GatewayValue) (links : List (ℕ × Line)) (v : Line) (hearings : List (ℕ × Hearing))
     → lookup (nat_eq s) m.lines ≡ Some line → o.notes ≡ [] → GoesUp line o.to_pmu v
-    → MomentShows g links hearings m → Takes m (link_up s) o g (set_value (nat_eq s) links v) hearings
+    → MomentShows (with_parts g links hearings) m → Takes m (link_up s) o (with_parts g (set_value (nat_eq s) links v) hearings)
 up_some m s line o g links v hearings found none goes shows = record {
   turn = record { input = link_up s; deeds = []; told = [] };
   is = refl;
@@ -103,7 +107,7 @@ up_some m s line o g links v hearings found none goes shows = record {
 
 pub bytes_none : (m : Moment) (s : ℕ) (bytes : List ℕ) (o : Outcome) (g : GatewayValue) (links : List (ℕ × Line)) (hearings : List (ℕ × Hearing))
     → lookup (nat_eq s) m.lines ≡ None → o ≡ record { notes = replied (tells (private.refused NoSuchPmu)) ∷ []; to_pmu = [] }
-    → MomentShows g links hearings m → Takes m (pmu_bytes s bytes) o g links hearings
+    → MomentShows (with_parts g links hearings) m → Takes m (pmu_bytes s bytes) o (with_parts g links hearings)
 bytes_none m s bytes o g links hearings none is shows = record {
   turn = record { input = pmu_bytes s bytes; deeds = refused NoSuchPmu ∷ []; told = [] };
   is = refl;
@@ -114,7 +118,7 @@ bytes_none m s bytes o g links hearings none is shows = record {
 
 pub bytes_some : (m : Moment) (s : ℕ) (bytes : List ℕ) (line : LinePast) (o : Outcome) (g h : GatewayValue) (links : List (ℕ × Line)) (v : Line) (hearings : List (ℕ × Hearing))
     → lookup (nat_eq s) m.lines ≡ Some line → TakesBytes m.shared line bytes o h v
-    → MomentShows g links hearings m → Takes m (pmu_bytes s bytes) o h (set_value (nat_eq s) links v) hearings
+    → MomentShows (with_parts g links hearings) m → Takes m (pmu_bytes s bytes) o (with_parts h (set_value (nat_eq s) links v) hearings)
 bytes_some m s bytes line o g h links v hearings found takes shows = record {
   turn = record { input = pmu_bytes s bytes; deeds = takes.did.deeds; told = takes.items };
   is = refl;
@@ -151,7 +155,7 @@ may_refused S e a r may is =
 -- there is no memory for the link or session of the event
 pub no_memory : (m : Moment) (e : Occurrence) (o : Outcome) (g : GatewayValue) (links : List (ℕ × Line)) (hearings : List (ℕ × Hearing))
     → begins e ≡ true → refusal m.shared e ≡ None → o ≡ record { notes = replied (tells (private.refused NoMemory)) ∷ []; to_pmu = [] }
-    → MomentShows g links hearings m → Takes m (names e) o g links hearings
+    → MomentShows (with_parts g links hearings) m → Takes m (names e) o (with_parts g links hearings)
 no_memory m e o g links hearings b none is shows = record {
   turn = record { input = names e; deeds = refused NoMemory ∷ []; told = [] };
   is = refl;
@@ -164,20 +168,20 @@ pub line_added : (m : Moment) (key : PmuKey) (a : Answer) (o : Outcome) (g : Gat
     → is_done a ≡ true → has_source m.shared key.source ≡ false → LineShows v (new_line key.source)
     → o ≡ record { notes = replied a ∷ []; to_pmu = [] } → May m.shared (add_pmu key) a → GatewayShows g (next m.shared (add_pmu key) a)
     → Related LineShows links m.lines → Related SessionShows hearings m.fed
-    → Takes m (names (add_pmu key)) o g (insert_entry nat_eq links key.source v) hearings
+    → Takes m (names (add_pmu key)) o (with_parts g (insert_entry nat_eq links key.source v) hearings)
 line_added m key a o g links v hearings done first new is may shows lines sessions =
     named_taken m (add_pmu key) a o g (insert_entry nat_eq links key.source v) hearings is may shows
     (rw (done, first) (Related-insert LineShows key.source v (new_line key.source) new links m.lines lines)) sessions
 
 pub line_not_added : (m : Moment) (key : PmuKey) (a : Answer) (o : Outcome) (g : GatewayValue) (links : List (ℕ × Line)) (hearings : List (ℕ × Hearing))
     → is_done a ≡ false → o ≡ record { notes = replied a ∷ []; to_pmu = [] } → May m.shared (add_pmu key) a → GatewayShows g (next m.shared (add_pmu key) a)
-    → Related LineShows links m.lines → Related SessionShows hearings m.fed → Takes m (names (add_pmu key)) o g links hearings
+    → Related LineShows links m.lines → Related SessionShows hearings m.fed → Takes m (names (add_pmu key)) o (with_parts g links hearings)
 line_not_added m key a o g links hearings done is may shows lines sessions =
     named_taken m (add_pmu key) a o g links hearings is may shows (rw done lines) sessions
 
 pub line_stays : (m : Moment) (key : PmuKey) (a : Answer) (o : Outcome) (g : GatewayValue) (links : List (ℕ × Line)) (hearings : List (ℕ × Hearing))
     → has_source m.shared key.source ≡ true → o ≡ record { notes = replied a ∷ []; to_pmu = [] } → May m.shared (add_pmu key) a → GatewayShows g (next m.shared (add_pmu key) a)
-    → Related LineShows links m.lines → Related SessionShows hearings m.fed → Takes m (names (add_pmu key)) o g links hearings
+    → Related LineShows links m.lines → Related SessionShows hearings m.fed → Takes m (names (add_pmu key)) o (with_parts g links hearings)
 line_stays m key a o g links hearings there is may shows lines sessions =
     named_taken m (add_pmu key) a o g links hearings is may shows
     (subst (Related LineShows links) (sym (by (is_done a))) lines) sessions
@@ -205,7 +209,7 @@ no_key key (p ∷ pmus) h = by (nat_eq p.0.source key.source) refl (nat_eq key.p
 
 pub full_refuses : (m : Moment) (key : PmuKey) (a : Answer) (o : Outcome) (g : GatewayValue) (links : List (ℕ × Line)) (hearings : List (ℕ × Hearing))
     → nat_le 256 (length m.shared.pmus) ≡ true → o ≡ record { notes = replied a ∷ []; to_pmu = [] } → May m.shared (add_pmu key) a → GatewayShows g (next m.shared (add_pmu key) a)
-    → Related LineShows links m.lines → Related SessionShows hearings m.fed → Takes m (names (add_pmu key)) o g links hearings
+    → Related LineShows links m.lines → Related SessionShows hearings m.fed → Takes m (names (add_pmu key)) o (with_parts g links hearings)
 full_refuses m key a o g links hearings full is may shows lines sessions =
     line_not_added m key a o g links hearings (by (is_some (lookup (key_eq key) m.shared.pmus)) refl) is may shows lines sessions
   where
@@ -219,7 +223,7 @@ may_add m key none room = rw (no_key key m.shared.pmus none, room) refl
 pub line_dropped : (m : Moment) (key : PmuKey) (a : Answer) (o : Outcome) (g : GatewayValue) (links : List (ℕ × Line)) (hearings : List (ℕ × Hearing))
     → has_source (next m.shared (drop_pmu key) a) key.source ≡ false
     → o ≡ record { notes = replied a ∷ []; to_pmu = [] } → May m.shared (drop_pmu key) a → GatewayShows g (next m.shared (drop_pmu key) a)
-    → Related LineShows links m.lines → Related SessionShows hearings m.fed → Takes m (names (drop_pmu key)) o g (remove_entry (nat_eq key.source) links) hearings
+    → Related LineShows links m.lines → Related SessionShows hearings m.fed → Takes m (names (drop_pmu key)) o (with_parts g (remove_entry (nat_eq key.source) links) hearings)
 line_dropped m key a o g links hearings none is may shows lines sessions =
     named_taken m (drop_pmu key) a o g (remove_entry (nat_eq key.source) links) hearings is may shows
     (subst (λ b. Related LineShows (remove_entry (nat_eq key.source) links) (if b then m.lines else remove_entry (nat_eq key.source) m.lines)) (sym none)
@@ -228,7 +232,7 @@ line_dropped m key a o g links hearings none is may shows lines sessions =
 pub line_kept : (m : Moment) (key : PmuKey) (a : Answer) (o : Outcome) (g : GatewayValue) (links : List (ℕ × Line)) (hearings : List (ℕ × Hearing))
     → has_source (next m.shared (drop_pmu key) a) key.source ≡ true
     → o ≡ record { notes = replied a ∷ []; to_pmu = [] } → May m.shared (drop_pmu key) a → GatewayShows g (next m.shared (drop_pmu key) a)
-    → Related LineShows links m.lines → Related SessionShows hearings m.fed → Takes m (names (drop_pmu key)) o g links hearings
+    → Related LineShows links m.lines → Related SessionShows hearings m.fed → Takes m (names (drop_pmu key)) o (with_parts g links hearings)
 line_kept m key a o g links hearings there is may shows lines sessions =
     named_taken m (drop_pmu key) a o g links hearings is may shows
     (subst (λ b. Related LineShows links (if b then m.lines else remove_entry (nat_eq key.source) m.lines)) (sym there) lines) sessions
@@ -260,7 +264,7 @@ may_connect m u there free = free_by (seat_of u m.shared.subs) there free
 
 pub not_connected : (m : Moment) (u : ℕ) (a : Answer) (o : Outcome) (g : GatewayValue) (links : List (ℕ × Line)) (hearings : List (ℕ × Hearing))
     → is_done a ≡ false → o ≡ record { notes = replied a ∷ []; to_pmu = [] } → May m.shared (asks u connect) a → GatewayShows g (next m.shared (asks u connect) a)
-    → Related LineShows links m.lines → Related SessionShows hearings m.fed → Takes m (names (asks u connect)) o g links hearings
+    → Related LineShows links m.lines → Related SessionShows hearings m.fed → Takes m (names (asks u connect)) o (with_parts g links hearings)
 not_connected m u a o g links hearings done is may shows lines sessions =
     named_taken m (asks u connect) a o g links hearings is may shows lines (rw done sessions)
 
@@ -272,7 +276,7 @@ busy_connects m u a busy may = may_refused m.shared (asks u connect) a Busy may 
 
 pub session_added : (m : Moment) (u : ℕ) (a : Answer) (o : Outcome) (g : GatewayValue) (links : List (ℕ × Line)) (hearings : List (ℕ × Hearing)) (v : Hearing)
     → is_done a ≡ true → SessionShows v [] → o ≡ record { notes = replied a ∷ []; to_pmu = [] } → May m.shared (asks u connect) a → GatewayShows g (next m.shared (asks u connect) a)
-    → Related LineShows links m.lines → Related SessionShows hearings m.fed → Takes m (names (asks u connect)) o g links (insert_entry nat_eq hearings u v)
+    → Related LineShows links m.lines → Related SessionShows hearings m.fed → Takes m (names (asks u connect)) o (with_parts g links (insert_entry nat_eq hearings u v))
 session_added m u a o g links hearings v done new is may shows lines sessions =
     named_taken m (asks u connect) a o g links (insert_entry nat_eq hearings u v) is may shows lines
     (rw done (Related-insert SessionShows u v [] new hearings m.fed sessions))
@@ -280,7 +284,7 @@ session_added m u a o g links hearings v done new is may shows lines sessions =
 pub heard_none : (m : Moment) (u : ℕ) (bytes : List ℕ) (o : Outcome) (g : GatewayValue) (links : List (ℕ × Line)) (hearings : List (ℕ × Hearing)) (r : Refusal)
     → lookup (nat_eq u) m.fed ≡ None → r ≡ absence (is_some (seat_of u m.shared.subs))
     → o ≡ record { notes = replied (tells (private.refused r)) ∷ []; to_pmu = [] }
-    → MomentShows g links hearings m → Takes m (sub_bytes u bytes) o g links hearings
+    → MomentShows (with_parts g links hearings) m → Takes m (sub_bytes u bytes) o (with_parts g links hearings)
 heard_none m u bytes o g links hearings r none why is shows = record {
   turn = record { input = sub_bytes u bytes; deeds = refused r ∷ []; told = [] };
   is = refl;
@@ -305,7 +309,7 @@ grows u stream piece more broken whole all end =
 
 pub heard_whole : (m : Moment) (u : ℕ) (bytes stream : List ℕ) (o : Outcome) (g h : GatewayValue) (links : List (ℕ × Line)) (hearings : List (ℕ × Hearing)) (v : Hearing)
     → lookup (nat_eq u) m.fed ≡ Some stream → break_in stream ≡ None → HearsAll m.shared u (stream ++ bytes) (items_of stream) None [] o.notes h v → o.to_pmu ≡ []
-    → MomentShows g links hearings m → Takes m (sub_bytes u bytes) o h links (set_value (nat_eq u) hearings v)
+    → MomentShows (with_parts g links hearings) m → Takes m (sub_bytes u bytes) o (with_parts h links (set_value (nat_eq u) hearings v))
 heard_whole m u bytes stream o g h links hearings v found whole hears none shows =
     let one : SessionShows v (stream ++ bytes) = record { shows = subst (session.Shows v (stream ++ bytes)) hears.all hears.shows; whole = hears.end } in
     record {
@@ -335,7 +339,7 @@ remove_set {V} test v (x ∷ xs) = by (test x.0) refl (remove_set test v xs)
 pub heard_break : (m : Moment) (u : ℕ) (bytes stream : List ℕ) (r : Refusal) (o : Outcome) (g h i : GatewayValue) (links : List (ℕ × Line)) (hearings : List (ℕ × Hearing)) (v : Hearing) (mid closed_notes : List Noted)
     → lookup (nat_eq u) m.fed ≡ Some stream → break_in stream ≡ None → HearsAll m.shared u (stream ++ bytes) (items_of stream) (Some r) [] mid h v
     → closed_notes ≡ mid ++ closed r ∷ [] → ((S : Shared) → GatewayShows h S → Did S (posts (asks u hangup) ∷ []) closed_notes o.notes i) → o.to_pmu ≡ []
-    → MomentShows g links hearings m → Takes m (sub_bytes u bytes) o i links (remove_entry (nat_eq u) (set_value (nat_eq u) hearings v))
+    → MomentShows (with_parts g links hearings) m → Takes m (sub_bytes u bytes) o (with_parts i links (remove_entry (nat_eq u) (set_value (nat_eq u) hearings v)))
 heard_break m u bytes stream r o g h i links hearings v mid closed_notes found whole hears noted goes none shows =
     let S = state_after m.shared (pairs_of hears.did.deeds) in
     let closed_so : Did S (closes r ∷ []) mid closed_notes h =

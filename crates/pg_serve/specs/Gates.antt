@@ -17,6 +17,8 @@ said_by (Some call) = said call ∷ []
 abbrev pub said_at : List Call → List ℕ → List Posted
 said_at history places = flat_map (λ place. said_by (slice_get history place)) places
 
+-- ---- only the gate's own model uses these
+
 -- the seat that is held, or one that knows nothing
 abbrev pub seat_in : TableId → Option (Known Event Reply) → Known Event Reply
 seat_in table None = record { table = table; seen = []; own = [] }

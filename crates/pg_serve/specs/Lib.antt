@@ -1,4 +1,5 @@
--- Definitions that the contracts of the world cite.
+-- To be believed, in this order. The world: what it is handed and answers; what bytes make; the turns that its inputs are; what
+-- it shows of them; what holds of each subscriber; of neighbours; and beside another world.
 pub mod Inputs
 pub mod Dues
 pub mod Moments
@@ -6,8 +7,11 @@ pub mod Shown
 pub mod Full
 pub mod Others
 pub mod Beside
-pub mod Feeding
+-- A shared gateway, its gates, and the loop of a session.
 pub mod Sharing
-pub mod Serving
-pub mod Turned
 pub mod Gates
+pub mod Serving
+-- only private contracts and proofs use these
+pub mod Feeding
+pub mod Taking
+pub mod Turned

@@ -133,10 +133,7 @@ abbrev pub Served : End → Hearing → Hearing → Option (List ℕ) → Option
 Served end v v' r r' w w' p p' =
     (stream : List ℕ) (given : List Item) → Shows v stream given → ServedFrom end stream given v v' r r' w w' p p'
 
--- Whatever the session was fed, it gave all its items; and this is the break behind them, if there is one.
-abbrev pub HasGivenAll : Hearing → Type 0
-HasGivenAll v = (stream : List ℕ) (given : List Item) → Shows v stream given → given ≡ items_of stream
-
+-- Whatever the session was fed, this is the break behind it, if there is one.
 abbrev pub BreaksBy : Option Refusal → Hearing → Type 0
 BreaksBy broken v = (stream : List ℕ) (given : List Item) → Shows v stream given → break_in stream ≡ broken
 

@@ -1,12 +1,16 @@
 -- Turns of a session's loop, before it hangs up.
 use Rattle.std.specs.Prelude.{◌≡◌, ℕ, List, [], ◌∷◌, ◌++◌, Option, Some, None}
 use Rattle.std.specs.Io.KnownBytes.{Appends}
-use Rattle.pg_session.specs.Commands.{Hearing, Item, Shows}
+use Rattle.pg_session.specs.Commands.{Hearing, Item, items_of, Shows}
 use Rattle.pg_gateway.specs.Occurrences.{Answer}
 use Rattle.pg_gateway.specs.Posting.{Posted, Notes}
 use Rattle.pg_ingest.specs.declared.run.End.{End}
 use Rattle.pg_ingest.specs.declared.run.End.TheVariants.{Closed, Quiet, Stalled, Fault}
 use Rattle.pg_serve.specs.Serving.{drains, hangs_up, Call, posted_by, RanFrom, HasNoHangup, IsLast}
+
+-- Whatever the session was fed, it gave all its items.
+abbrev pub HasGivenAll : Hearing → Type 0
+HasGivenAll v = (stream : List ℕ) (given : List Item) → Shows v stream given → given ≡ items_of stream
 
 -- Of what was left a part was written, and the others are left.
 abbrev pub Writes : List ℕ → List ℕ → Option (List ℕ) → Option (List ℕ) → Type 0

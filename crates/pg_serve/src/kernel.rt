@@ -7,7 +7,8 @@ ghost use Rattle.pg_gateway.specs.Shared.{Shared, seat_of, refusal};
 ghost use Rattle.pg_gateway.specs.Shown.{GatewayShows};
 ghost use Rattle.pg_serve.specs.Moments.{Moment, has_source, new_line, is_done, absence};
 ghost use Rattle.pg_serve.specs.Inputs.{fact, link_up, pmu_bytes, sub_bytes, names, noted, edited, outcome};
-ghost use Rattle.pg_serve.specs.Shown.{TakesInput, Takes, MomentShows, LineShows, SessionShows, Spares, Ends};
+ghost use Rattle.pg_serve.specs.Shown.{MomentShows, LineShows, SessionShows};
+ghost use Rattle.pg_serve.specs.Taking.{held, Takes, TakesInput, Spares, Ends};
 
 use crate::edits::event_of;
 use crate::feeding::{commands_owed, feed_link, feed_session, note, post};
@@ -43,7 +44,7 @@ fn output(alloc: Global, what: Note) -> Result<Output, AllocError>
 impl Core {
     /// Takes one input.
     pub(crate) fn take(&mut self, input: &Input) -> Result<Output, AllocError>
-        ensures takes { IfOk result (λ o. TakesInput self.old (fact input.now) (outcome o) self.new) }
+        ensures takes { IfOk result (λ o. TakesInput (held self.old) (fact input.now) (outcome o) (held self.new)) }
     {
         match input {
             Input::LinkUp(source) => self.link_up(*source),
@@ -60,7 +61,7 @@ impl Core {
     /// Posts an event that concerns no link and no session.
     fn answer(&mut self, event: Event) -> Result<Output, AllocError>
         requires spares { Spares (occurrence event) }
-        ensures takes { IfOk result (λ o. TakesInput self.old (names (occurrence event)) (outcome o) self.new) }
+        ensures takes { IfOk result (λ o. TakesInput (held self.old) (names (occurrence event)) (outcome o) (held self.new)) }
     {
         let reply = self.gateway.step(event);
         Ok(output(self.alloc, Note::Replied(reply))?)
@@ -68,7 +69,7 @@ impl Core {
 
     /// A source's connection is up.
     fn link_up(&mut self, source: PmuId) -> Result<Output, AllocError>
-        ensures takes { IfOk result (λ o. TakesInput self.old (link_up source) (outcome o) self.new) }
+        ensures takes { IfOk result (λ o. TakesInput (held self.old) (link_up source) (outcome o) (held self.new)) }
     {
         match self.lines.get_mut(&source) {
             None => Ok(output(
@@ -87,7 +88,7 @@ impl Core {
 
     /// Bytes of a source came.
     fn take_source(&mut self, source: PmuId, bytes: &[u8]) -> Result<Output, AllocError>
-        ensures takes { IfOk result (λ o. TakesInput self.old (pmu_bytes source bytes.now) (outcome o) self.new) }
+        ensures takes { IfOk result (λ o. TakesInput (held self.old) (pmu_bytes source bytes.now) (outcome o) (held self.new)) }
     {
         match self.lines.get_mut(&source) {
             None => Ok(output(
@@ -100,7 +101,7 @@ impl Core {
 
     /// Bytes of a subscriber came. Where they break it is hung up.
     fn take_subscriber(&mut self, sub: SubId, bytes: &[u8]) -> Result<Output, AllocError>
-        ensures takes { IfOk result (λ o. TakesInput self.old (sub_bytes sub bytes.now) (outcome o) self.new) }
+        ensures takes { IfOk result (λ o. TakesInput (held self.old) (sub_bytes sub bytes.now) (outcome o) (held self.new)) }
     {
         let mut notes = Vec::with_capacity(self.alloc, 1)?;
         let broken = match self.sessions.get_mut(&sub) {
@@ -127,7 +128,7 @@ impl Core {
 
     /// A subscriber connects. Its session is made first, so that want of memory changes nothing.
     fn connect(&mut self, sub: SubId) -> Result<Output, AllocError>
-        ensures takes { IfOk result (λ o. TakesInput self.old (names (asks sub events.connect)) (outcome o) self.new) }
+        ensures takes { IfOk result (λ o. TakesInput (held self.old) (names (asks sub events.connect)) (outcome o) (held self.new)) }
     {
         if !self.gateway.has_sub(sub) {
             let reply = self.gateway.step(Event::Connect(sub));
@@ -147,9 +148,8 @@ impl Core {
     fn add_session(&mut self, sub: SubId, session: Session) -> Result<Output, AllocError>
         requires new { SessionShows session [] }
         ensures takes { IfOk result (λ o. (m : Moment) → refusal m.shared (asks sub events.connect) ≡ None
-            → MomentShows self.old.gateway self.old.lines.entries self.old.sessions.entries m
-            → Takes m (names (asks sub events.connect)) (outcome o)
-            self.new.gateway self.new.lines.entries self.new.sessions.entries) }
+            → MomentShows (held self.old) m
+            → Takes m (names (asks sub events.connect)) (outcome o) (held self.new)) }
     {
         match self.sessions.reserve(1) {
             Ok(()) => {}
@@ -169,7 +169,7 @@ impl Core {
     /// A subscriber is hung up or dropped: its session ends, where that is done.
     fn end_session(&mut self, event: Event, sub: SubId) -> Result<Output, AllocError>
         requires ends { Ends sub (occurrence event) }
-        ensures takes { IfOk result (λ o. TakesInput self.old (names (occurrence event)) (outcome o) self.new) }
+        ensures takes { IfOk result (λ o. TakesInput (held self.old) (names (occurrence event)) (outcome o) (held self.new)) }
     {
         let reply = self.gateway.step(event);
         if is_done(&reply) {
@@ -181,7 +181,7 @@ impl Core {
 
     /// What waits for a subscriber is handed out into a new buffer.
     fn drain(&mut self, sub: SubId, size: u16) -> Result<Output, AllocError>
-        ensures takes { IfOk result (λ o. TakesInput self.old (names (asks sub (events.drain size))) (outcome o) self.new) }
+        ensures takes { IfOk result (λ o. TakesInput (held self.old) (names (asks sub (events.drain size))) (outcome o) (held self.new)) }
     {
         let buffer = vec![in self.alloc; 0; usize::from(size)]?;
         self.answer(Event::Drain(sub, buffer))
@@ -189,7 +189,7 @@ impl Core {
 
     /// What an operator asks for.
     fn edit(&mut self, edit: &Edit) -> Result<Output, AllocError>
-        ensures takes { IfOk result (λ o. TakesInput self.old (names (edited edit.now)) (outcome o) self.new) }
+        ensures takes { IfOk result (λ o. TakesInput (held self.old) (names (edited edit.now)) (outcome o) (held self.new)) }
     {
         match edit {
             Edit::AddPmu(key) => self.add_pmu(*key),
@@ -204,7 +204,7 @@ impl Core {
 
     /// A PMU is registered. The link of a new source is made first, so that want of memory changes nothing.
     fn add_pmu(&mut self, key: PmuKey) -> Result<Output, AllocError>
-        ensures takes { IfOk result (λ o. TakesInput self.old (names (add_pmu key)) (outcome o) self.new) }
+        ensures takes { IfOk result (λ o. TakesInput (held self.old) (names (add_pmu key)) (outcome o) (held self.new)) }
     {
         if self.gateway.has_source(key.source) {
             let reply = self.gateway.step(Event::AddPmu(key));
@@ -225,8 +225,8 @@ impl Core {
         requires new { LineShows line (new_line key.source) }
         ensures takes { IfOk result (λ o. (m : Moment) → has_source m.shared key.source ≡ false
             → refusal m.shared (add_pmu key) ≡ None
-            → MomentShows self.old.gateway self.old.lines.entries self.old.sessions.entries m
-            → Takes m (names (add_pmu key)) (outcome o) self.new.gateway self.new.lines.entries self.new.sessions.entries) }
+            → MomentShows (held self.old) m
+            → Takes m (names (add_pmu key)) (outcome o) (held self.new)) }
     {
         match self.lines.reserve(1) {
             Ok(()) => {}
@@ -245,7 +245,7 @@ impl Core {
 
     /// A PMU is dropped, and with a source's last one its link.
     fn drop_pmu(&mut self, key: PmuKey) -> Result<Output, AllocError>
-        ensures takes { IfOk result (λ o. TakesInput self.old (names (drop_pmu key)) (outcome o) self.new) }
+        ensures takes { IfOk result (λ o. TakesInput (held self.old) (names (drop_pmu key)) (outcome o) (held self.new)) }
     {
         let reply = self.gateway.step(Event::DropPmu(key));
         if !self.gateway.has_source(key.source) {

@@ -10,21 +10,13 @@ mod input;
 mod kernel;
 mod laws;
 mod line;
-#[cfg(test)]
-mod loopback_tests;
 mod seat_gate;
 mod serve;
-#[cfg(test)]
-mod serving_tests;
 mod shared;
 mod source_shell;
 mod subscriber_shell;
-#[cfg(test)]
-mod tests;
 mod ticker;
 mod work;
-#[cfg(test)]
-mod work_tests;
 mod world;
 
 pub use asked::event_of;

@@ -5,7 +5,8 @@ ghost use Rattle.pg_gateway.specs.Shared.{Shared};
 ghost use Rattle.pg_gateway.specs.Shown.{GatewayShows};
 ghost use Rattle.pg_serve.specs.Inputs.{outcome};
 ghost use Rattle.pg_serve.specs.Moments.{LinePast, new_line};
-ghost use Rattle.pg_serve.specs.Shown.{LineShows, GoesUp, TakesBytes};
+ghost use Rattle.pg_serve.specs.Shown.{LineShows};
+ghost use Rattle.pg_serve.specs.Taking.{GoesUp, TakesBytes};
 
 use crate::feeding::{commands_owed, feed_link};
 use crate::input::Output;

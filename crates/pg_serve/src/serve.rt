@@ -4,8 +4,8 @@ ghost use Rattle.std.specs.Prelude.{◌≡◌, ◌<◌, ◌≤◌, ℕ, List, []
 ghost use Rattle.std.specs.Io.KnownBytes.{Consumes, IsAtEnd};
 ghost use Rattle.pg_session.specs.Ready.{handed_len};
 ghost use Rattle.pg_ingest.specs.Ends.{is_cut};
-ghost use Rattle.pg_serve.specs.Serving.{Served, HasGivenAll, BreaksBy, EndsBy};
-ghost use Rattle.pg_serve.specs.Turned.{Turned, Writes, IsReadEnd, HangsUp};
+ghost use Rattle.pg_serve.specs.Serving.{Served, BreaksBy, EndsBy};
+ghost use Rattle.pg_serve.specs.Turned.{HasGivenAll, Turned, Writes, IsReadEnd, HangsUp};
 
 use pg_gateway::{Event, Gate, Reply};
 use pg_ingest::End;

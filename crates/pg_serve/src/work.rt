@@ -1,13 +1,13 @@
 //! Workers, each in a thread of its own.
 
-ghost use Rattle.std.specs.Prelude.{◌≡◌, IfErr};
+ghost use Rattle.std.specs.Prelude.{◌≡◌, IfOk, IfErr, vec_len};
 
 use pg_wire::Refusal;
-use std::alloc::Global;
+use std::alloc::{AllocError, Global};
 use std::sync::Wait;
 use std::sync::atomic::{AtomicBool, Ordering};
 use std::thread;
-use std::thread::Threads;
+use std::thread::{JoinHandle, Threads};
 
 /// What a thread does again and again (own rule).
 pub trait Work {
@@ -28,8 +28,8 @@ fn work_on<W: Work>(mut worker: W, turns: u64, stop: &AtomicBool) -> W {
 /// Gives each worker a thread, which ends when a turn answers false, after `turns` turns or once `stop` is set; joins all of
 /// them, and hands the workers back in their order (own rule). With no workers it returns at once.
 ///
-/// It waits until all threads have ended. That they run at once, and which workers come back, is shown by a test and not
-/// proved.
+/// It waits until all threads have ended. As many workers come back as went. That they run at once, that each comes back in its
+/// place, and how many turns it made, is shown by tests and not proved.
 ///
 /// # Errors
 ///
@@ -42,29 +42,29 @@ pub fn run_workers<R: Threads + Wait + Sync, W: Work + Send + Drop>(
     turns: u64,
     stop: &AtomicBool,
 ) -> Result<Vec<W>, Refusal>
+    ensures all { IfOk result (λ back. vec_len back ≡ vec_len workers) }
     ensures memory { IfErr result (λ refusal. refusal ≡ Refusal.NoMemory) }
 {
     let mut back = Vec::with_capacity(alloc, workers.len())?;
-    let mut handles = Vec::with_capacity(alloc, workers.len())?;
-    let mut refused = false;
-    thread::scope(thread::scope_env(), rt, |scope| {
-        for worker in workers {
-            match scope.spawn(move || work_on(worker, turns, stop)) {
-                Ok(handle) => {
-                    let _ = handles.push(handle);
-                }
-                Err(_) => {
+    let handles = thread::scope(
+        thread::scope_env(),
+        rt,
+        move |scope| -> Result<Vec<JoinHandle<W>>, AllocError>
+            ensures all { IfOk result (λ handles. vec_len handles ≡ vec_len workers) }
+        {
+            let mut handles = Vec::with_capacity(alloc, workers.len())?;
+            for worker in workers {
+                let Ok(handle) = scope.spawn(move || work_on(worker, turns, stop)) else {
                     stop.store(true, Ordering::SeqCst);
-                    refused = true;
-                }
+                    return Err(AllocError);
+                };
+                handles.push_reserved(handle);
             }
-        }
-    });
+            Ok(handles)
+        },
+    )?;
     for handle in handles {
-        let _ = back.push(handle.join(rt));
-    }
-    if refused {
-        return Err(Refusal::NoMemory);
+        back.push_reserved(handle.join(rt));
     }
     Ok(back)
 }

@@ -1,6 +1,7 @@
 //! The world.
 ghost use Rattle.std.specs.Prelude.{◌≡◌, Err, true, nat_eq, is_some, Some, None, IfSome, IfOk, IfErr, OnErr, [], List, ◌++◌};
-ghost use Rattle.pg_serve.specs.Shown.{queue_shown, link_counted, session_counted, TakesInputs};
+ghost use Rattle.pg_serve.specs.Shown.{queue_shown, link_counted, session_counted};
+ghost use Rattle.pg_serve.specs.Taking.{held, TakesInputs};
 ghost use Rattle.std.specs.Map.{lookup};
 ghost use Rattle.pg_gateway.specs.Shared.{Shared, seat_of};
 ghost use Rattle.pg_gateway.specs.Shown.{GatewayShows};
@@ -142,7 +143,7 @@ impl World {
 
 /// Takes the inputs, one after another.
 fn run_all(core: &mut Core, inputs: &[Input]) -> Result<Vec<Output>, AllocError>
-    ensures takes { IfOk result (λ outputs. TakesInputs core.old (facts inputs.now) (outcomes outputs.items) core.new) }
+    ensures takes { IfOk result (λ outputs. TakesInputs (held core.old) (facts inputs.now) (outcomes outputs.items) (held core.new)) }
 {
     let mut outputs = Vec::new(core.alloc);
     for input in inputs {

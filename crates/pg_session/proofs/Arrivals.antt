@@ -15,7 +15,8 @@ use Rattle.pg_session.specs.Streams.{Placed, place_of, with_place, placed, is_la
 use Rattle.pg_session.specs.Output.{times, one_late, one_twice, all_ignored}
 use Rattle.pg_session.specs.Sending.{Sending}
 use Rattle.pg_session.specs.Kept.{by_slots}
-use Rattle.pg_session.specs.Fields.{AreEffective, piece_of_placed, with_stats, one_ignored}
+use Rattle.pg_session.specs.Fields.{AreEffective, with_stats, one_ignored}
+use Rattle.pg_session.specs.Wanted.{piece_of_placed}
 use Rattle.pg_session.proofs.Changing.{key_made}
 use Rattle.pg_session.proofs.Simulating.{arrived_by}
 

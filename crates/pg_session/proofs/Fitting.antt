@@ -11,7 +11,7 @@ use Rattle.pg_wire.specs.Keys.{key_eq}
 use Rattle.pg_entitle.specs.Grants.{has_key, without_key}
 use Rattle.pg_entitle.proofs.Orders.{eq_refl, same_of_eq}
 use Rattle.pg_outcfg.specs.Listing.{Listing, config_at, without_config}
-use Rattle.pg_session.specs.Steps.{AreGranted}
+use Rattle.pg_session.specs.Fields.{AreGranted}
 use Rattle.pg_session.specs.Events.{Sample}
 use Rattle.pg_session.specs.Shape.{same_config, same_shape}
 use Rattle.pg_session.specs.Streams.{StreamOf, Turn, Placed, placed, base_of, effective_in, still, arrive_all, arrival_turn, measure_turn, reshape_turn, tick_turn}

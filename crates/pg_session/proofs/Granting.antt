@@ -17,11 +17,11 @@ use Rattle.pg_session.specs.Shape.{same_config, same_at, keys_of}
 use Rattle.pg_session.specs.Streams.{StreamOf, Turn, still, reshape_turn}
 use Rattle.pg_session.specs.Output.{Output, turns_taken}
 use Rattle.pg_session.specs.Kept.{by_slots, by_gaps}
-use Rattle.pg_session.specs.Fields.{granted_wanted}
+use Rattle.pg_session.specs.Wanted.{granted_wanted}
 use Rattle.pg_session.specs.Shown.{Own}
 use Rattle.pg_outcfg.proofs.Places.{rising-with}
 use Rattle.pg_session.specs.Ready.{AreOwn}
-use Rattle.pg_session.specs.Steps.{AreGranted}
+use Rattle.pg_session.specs.Fields.{AreGranted}
 use Rattle.pg_session.proofs.Fitting.{granted_step}
 use Rattle.pg_session.proofs.Shapes.{all_pass, same_self}
 use Rattle.pg_session.proofs.Turning.{own_changed, same_changed}

@@ -10,7 +10,8 @@ use Rattle.pg_wire.specs.declared.ids.PmuKey.{PmuKey}
 use Rattle.pg_outcfg.specs.Listing.{Listing}
 use Rattle.pg_session.specs.Ready.{AreRising, ArePlaces, AreHeld}
 use Rattle.pg_session.specs.Streams.{StreamOf, Placed, with_place, placed}
-use Rattle.pg_session.specs.Fields.{AreListed, piece_of_placed, wanted_of, all_wanted}
+use Rattle.pg_session.specs.Fields.{AreListed}
+use Rattle.pg_session.specs.Wanted.{piece_of_placed, wanted_of, all_wanted}
 use Rattle.pg_session.proofs.Changing.{key_made}
 use Rattle.pg_session.proofs.Putting.{part_at, one_announced}
 

@@ -18,3 +18,5 @@ pub mod Putting
 pub mod Laying
 pub mod Going
 pub mod Running
+pub mod Stamping
+pub mod Counting

@@ -1,17 +1,18 @@
 -- A measurement at one stream: what is asked of its slots, and what it makes.
-use Rattle.std.proofs.Common.{◌≡◌, ℕ, zero, suc, ◌+◌, ◌/◌, ◌^◌, ◌<◌, ◌≤◌, ◌&&◌, ◌==◌, nat_lt, List, [], ◌∷◌, ◌++◌, length, get_or, slice_get, Bool, true, false, if◌then◌else◌, IsTrue, Option, Some, None, is_some, Result, All, refl, sym, ap, ◌∙◌, arith}
+use Rattle.std.proofs.Common.{◌≡◌, ℕ, zero, suc, ◌+◌, ◌/◌, ◌^◌, ◌<◌, ◌≤◌, ◌&&◌, ◌==◌, nat_lt, nat_le, List, [], ◌∷◌, ◌++◌, length, get_or, slice_get, Bool, true, false, if◌then◌else◌, IsTrue, Option, Some, None, is_some, Result, Ok, Err, All, refl, sym, ap, ◌∙◌, arith}
 use Rattle.std.proofs.lemmas.List.{get_or-map}
 use Rattle.std.proofs.lemmas.Option.{slice_get-get_or}
 use Rattle.std.proofs.lemmas.Grind.{common_steps}
 use Rattle.std.proofs.lemmas.List.Quantifiers.{position-Some}
 use Rattle.pg_wire.specs.declared.refusal.Refusal.{Refusal}
+use Rattle.pg_wire.specs.declared.refusal.Refusal.TheVariants.{BadFraction, TimeEnd}
 use Rattle.pg_wire.specs.declared.ids.PmuKey.{PmuKey}
 use Rattle.pg_wire.specs.Keys.{key_eq}
 use Rattle.pg_config.specs.Parts.{Part}
 use Rattle.pg_data.specs.Measurements.{Measurement, IsMeasurement, resolution}
 use Rattle.pg_data.specs.Shared.{Piece}
 use Rattle.pg_data.proofs.Sources.{resolution-shared}
-use Rattle.pg_stream.specs.Slots.{slot_at}
+use Rattle.pg_stream.specs.Slots.{slot_at, number_at}
 use Rattle.pg_align.specs.Histories.{is_above}
 use Rattle.pg_align.specs.Slots.{Aligned, OpenSlot, part_at, put_into, opened, with_part, with_arrival}
 use Rattle.pg_outcfg.specs.Listing.{Listing, config_at}
@@ -19,6 +20,7 @@ use Rattle.pg_outcfg.proofs.Orders.{same_key}
 use Rattle.pg_session.specs.Events.{Sample, sampled_part, samples_at}
 use Rattle.pg_session.specs.Streams.{StreamOf, Placed, place_of, with_place, placed, base_of, effective_in, still, arrive_all, arrival_turn, measure_turn}
 use Rattle.pg_session.specs.Kept.{by_slots}
+use Rattle.pg_session.specs.Ready.{ArePlaces}
 use Rattle.pg_session.specs.Fields.{AreEffective, AreListed, AreTimed}
 
 -- a member whose key the CFG-1 list has is effective
@@ -138,3 +140,27 @@ measure_is listed m places s count base slot is w on counted some b e =
     turn_some s.slots.is_on (nat_lt 0 (length blocks)) _ (still s) on (is_below (length blocks) n)
     ∙ ap (λ k. arrival_turn by_slots listed s blocks (slot_at s.definition.rate k m.soc m.frac)) (base_shared m s.definition.members places is w n ∙ sym b)
     ∙ ap (arrival_turn by_slots listed s blocks) (sym e)
+
+-- the numerator of a frame is below its resolution
+pub below-base : (m : Measurement) (places : List ℕ) → IsMeasurement m → ArePlaces (length m.config.parts) places → m.frac < base_of (samples_at m places)
+below-base m [] is w = absurd (omega (arith, w.some))
+below-base m (i ∷ places) is w =
+    let within : i < length m.config.parts = w.rising.1 in
+    let same = base_part m i places (slice_get m.config.parts i) (part_some m.config.parts i within) (part_base m i is within) in
+    omega (arith, same, is.fraction)
+
+end_of_time : (a b : Bool) (n : ℕ) (r : Refusal) → a ≡ false → ◌≡◌ {A = Result ℕ Refusal} (if a then Err BadFraction else if b then Err TimeEnd else Ok n) (Err r)
+    → r ≡ TimeEnd
+end_of_time true b n r e h = absurd (cc e)
+end_of_time false true n r e h = cc
+end_of_time false false n r e h = absurd (cc h)
+
+pub only-time_end : (m : Measurement) (places : List ℕ) (rate : ℕ) (r : Refusal) → IsMeasurement m → ArePlaces (length m.config.parts) places
+    → slot_at rate (base_of (samples_at m places)) m.soc m.frac ≡ Err r → r ≡ TimeEnd
+only-time_end m places rate r is w h =
+    let base = base_of (samples_at m places) in
+    let number = number_at rate base m.soc m.frac in
+    end_of_time (nat_le base m.frac) (nat_le (2 ^ 32) (number / rate)) number r (not_up_to base m.frac (below-base m places is w)) h
+  where
+    not_up_to : (a b : ℕ) → b < a → nat_le a b ≡ false
+    not_up_to a b l = grind (arith, common_steps)

@@ -16,7 +16,7 @@ use Rattle.pg_session.specs.Kept.{by_slots, by_gaps}
 use Rattle.pg_session.specs.Fields.{AreFitted}
 use Rattle.pg_session.proofs.Fitting.{Fits}
 use Rattle.pg_session.specs.Shown.{Own}
-use Rattle.pg_session.specs.Steps.{Obeys}
+use Rattle.pg_session.specs.Fields.{Obeys}
 
 abbrev OneStream : Type 0
 OneStream = StreamOf (Aligned Piece)

@@ -19,12 +19,12 @@ same_truth true b f g = sym (f refl)
 same_truth false true f g = absurd (cc (g refl))
 same_truth false false f g = refl
 
-both : (b c : Bool) → (b && c) ≡ true → (b ≡ true) × (c ≡ true)
+pub both : (b c : Bool) → (b && c) ≡ true → (b ≡ true) × (c ≡ true)
 both true true h = (refl, refl)
 both true false h = absurd (cc h)
 both false c h = absurd (cc h)
 
-and_true : (b c : Bool) → b ≡ true → c ≡ true → (b && c) ≡ true
+pub and_true : (b c : Bool) → b ≡ true → c ≡ true → (b && c) ≡ true
 and_true true true e f = refl
 and_true false c e f = absurd (cc e)
 and_true true false e f = absurd (cc f)
@@ -34,7 +34,7 @@ pub all_pass : (f : PmuKey → Bool) (xs : List PmuKey) → ((x : PmuKey) → f 
 all_pass f [] h = refl
 all_pass f (x ∷ xs) h = and_true (f x) (list_all f xs) (h x) (all_pass f xs h)
 
-all_front : (f : PmuKey → Bool) (xs ys : List PmuKey) → list_all f (xs ++ ys) ≡ true → (list_all f xs ≡ true) × (list_all f ys ≡ true)
+pub all_front : (f : PmuKey → Bool) (xs ys : List PmuKey) → list_all f (xs ++ ys) ≡ true → (list_all f xs ≡ true) × (list_all f ys ≡ true)
 all_front f [] ys h = (refl, h)
 all_front f (x ∷ xs) ys h =
     let parts = both (f x) (list_all f (xs ++ ys)) h in
@@ -42,7 +42,7 @@ all_front f (x ∷ xs) ys h =
     (and_true (f x) (list_all f xs) parts.0 rest.0, rest.1)
 
 -- a key that a list has is among its keys
-listed_pass : (f : PmuKey → Bool) (listed : Listing) (key : PmuKey) (part : Part) → config_at listed key ≡ Some part → list_all f (keys_of listed) ≡ true → f key ≡ true
+pub listed_pass : (f : PmuKey → Bool) (listed : Listing) (key : PmuKey) (part : Part) → config_at listed key ≡ Some part → list_all f (keys_of listed) ≡ true → f key ≡ true
 listed_pass f [] key part e h = absurd (cc e)
 listed_pass f (x ∷ xs) key part e h =
     let parts = both (f x.0) (list_all f (keys_of xs)) h in

@@ -12,7 +12,8 @@ use Rattle.pg_session.specs.Streams.{StreamOf, Turn, effective_in, reshape_turn,
 use Rattle.pg_session.specs.Sending.{Sending, Sends}
 use Rattle.pg_session.specs.Taking.{Taken}
 use Rattle.pg_session.specs.Kept.{by_slots}
-use Rattle.pg_session.specs.Fields.{AreFitted, wanted_of, all_wanted, with_stats, turn_stats, stream_after}
+use Rattle.pg_session.specs.Fields.{AreFitted, with_stats, turn_stats, stream_after}
+use Rattle.pg_session.specs.Wanted.{wanted_of, all_wanted}
 use Rattle.pg_session.proofs.Turns.{taken-one}
 
 abbrev OneStream : Type 0

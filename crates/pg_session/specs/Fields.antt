@@ -1,19 +1,23 @@
--- What the fields of a stream keep.
-use Rattle.std.specs.Prelude.{◌≡◌, ◌/◌, ◌^◌, ◌<◌, ◌≤◌, ◌&&◌, ℕ, Bool, false, not, nat_lt, IsTrue, List, [], ◌∷◌, ◌++◌, length, map, is_some, Option, Some, None, if◌then◌else◌, slice_index_or}
+-- What private contracts and proofs say of a stream, of a subscriber's fields, and of what is under way. No public clause names any of it.
+use Rattle.std.specs.Prelude.{◌≡◌, ◌/◌, ◌^◌, ◌<◌, ◌≤◌, ℕ, true, IsTrue, List, [], ◌∷◌, length, is_some, None, MatchOption, slice_index_or, Bool, false}
 use Rattle.pg_wire.specs.declared.ids.PmuKey.{PmuKey}
-use Rattle.pg_config.specs.Parts.{Part}
+use Rattle.pg_wire.specs.declared.refusal.Refusal.{Refusal}
+use Rattle.pg_wire.specs.declared.refusal.Refusal.TheVariants.{NoMemory}
 use Rattle.pg_entitle.specs.Grants.{has_key}
 use Rattle.pg_data.specs.Shared.{Piece}
 use Rattle.pg_stream.specs.Limits.{IsWithinLimits}
 use Rattle.pg_align.specs.Slots.{Aligned, OpenSlot}
 use Rattle.pg_audit.specs.declared.counters.Stats.{Stats}
 use Rattle.pg_outcfg.specs.Listing.{Listing, config_at}
-use Rattle.pg_session.specs.Events.{Sample}
-use Rattle.pg_session.specs.Streams.{StreamOf, Placed, Turn, placed, effective_in}
+use Rattle.pg_session.specs.Events.{Sample, command}
+use Rattle.pg_session.specs.Streams.{StreamOf, Placed, Turn, effective_in}
 use Rattle.pg_align.specs.declared.answer.Arrived.{Arrived}
 use Rattle.pg_align.specs.declared.answer.Arrived.TheVariants.{Kept, Late, Twice}
 use Rattle.pg_session.specs.Output.{one_late, one_twice, all_ignored}
+use Rattle.pg_session.specs.Private.{refusal, effect, asks_reply}
+use Rattle.pg_session.specs.Kept.{by_slots, by_gaps}
 use Rattle.pg_session.specs.Sending.{Sending}
+use Rattle.pg_session.specs.Shown.{Own, SubscriberValue}
 
 -- the second of each slot can be told by a SOC
 abbrev pub AreTimed : ℕ → List (OpenSlot Piece) → Type 0
@@ -33,9 +37,6 @@ abbrev pub AreEffective : List Bool → List Placed → Type 0
 AreEffective effective [] = Unit {0}
 AreEffective effective (p ∷ ps) = IsTrue (slice_index_or effective p.place false) × AreEffective effective ps
 
-abbrev pub piece_of_placed : Placed → Piece
-piece_of_placed p = p.piece
-
 -- other counters
 abbrev pub with_stats : Sending → Stats → Sending
 with_stats sending stats = record sending { output = record sending.output { stats = stats } }
@@ -51,10 +52,6 @@ abbrev pub AreListed : Listing → List Sample → Type 0
 AreListed listed [] = Unit {0}
 AreListed listed (s ∷ samples) = IsTrue (is_some (config_at listed s.key)) × AreListed listed samples
 
--- the copies that a stream asks for: of each block that is a member's, where it is on
-abbrev pub wanted_of : StreamOf (Aligned Piece) → ℕ → List Sample → List Piece
-wanted_of s quality samples = if s.slots.is_on then map piece_of_placed (placed s.definition.members quality samples) else []
-
 -- the counters after what a stream ignored
 abbrev pub turn_stats : Turn (Aligned Piece) → Stats → Stats
 turn_stats turn stats = all_ignored turn.late turn.twice turn.past stats
@@ -64,15 +61,29 @@ abbrev pub AreFitted : Listing → List (StreamOf (Aligned Piece)) → Type 0
 AreFitted listed [] = Unit {0}
 AreFitted listed (s ∷ streams) = (s.slots.effective ≡ effective_in listed s.definition.members) × AreFitted listed streams
 
--- the copies that all streams ask for, in their order
-abbrev pub all_wanted : List (StreamOf (Aligned Piece)) → ℕ → List Sample → List Piece
-all_wanted [] quality samples = []
-all_wanted (s ∷ streams) quality samples = wanted_of s quality samples ++ all_wanted streams quality samples
-
 abbrev pub stream_after : Turn (Aligned Piece) → StreamOf (Aligned Piece)
 stream_after turn = turn.stream
 
--- the copies that a grant asks for: of what the PMU has announced, where it is granted anew
-abbrev pub granted_wanted : List PmuKey → PmuKey → Option Part → List Part
-granted_wanted grants key None = []
-granted_wanted grants key (Some config) = if not (has_key grants key) && nat_lt (length grants) 32 then config ∷ [] else []
+-- A command was done: no refusal of it holds.
+pub record Obeys (old : Own) (number word : ℕ) (new : Own) : Type 0 where
+  pub none : refusal by_slots by_gaps old (command number word) ≡ None
+  pub state : new ≡ effect by_slots by_gaps old (command number word) 0
+
+-- This refusal of a command may come: the first that holds, or want of memory where none does and a reply is asked for.
+abbrev pub MayRefuse : Own → ℕ → ℕ → Refusal → Type 0
+MayRefuse p number word r =
+    MatchOption (refusal by_slots by_gaps p (command number word)) ((r ≡ NoMemory) × (asks_reply word ≡ true)) (λ first. r ≡ first)
+
+-- each listed PMU is granted
+abbrev pub AreGranted : List PmuKey → Listing → Type 0
+AreGranted grants [] = Unit {0}
+AreGranted grants (e ∷ listed) = IsTrue (has_key grants e.0) × AreGranted grants listed
+
+-- what the fields of a subscriber keep
+pub record IsKept (v : SubscriberValue) (capacity places slots : ℕ) : Type 0 where
+  pub few : length v.own.streams ≤ 8
+  pub room : 8 ≤ capacity
+  pub fitted : AreFitted v.own.listed v.own.streams
+  pub granted : AreGranted v.own.grants v.own.listed
+  pub blocks : places ≡ 128
+  pub configs : slots ≡ 16

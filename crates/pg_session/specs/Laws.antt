@@ -1,15 +1,19 @@
 -- What follows for whole runs of private events.
-use Rattle.std.specs.Prelude.{◌≡◌, ◌<◌, ◌&&◌, ℕ, zero, suc, ◌-◌, nat_le, Bool, false, if◌then◌else◌, List, [], ◌∷◌, ◌++◌, length, Option, Some, None, option_map}
+use Rattle.std.specs.Prelude.{◌≡◌, ◌<◌, ◌&&◌, ℕ, zero, suc, ◌-◌, nat_le, Bool, false, if◌then◌else◌, List, [], ◌∷◌, ◌++◌, length, Option, Some, None, option_map, Err}
 use Rattle.pg_wire.specs.declared.refusal.Refusal.{Refusal}
+use Rattle.pg_wire.specs.declared.refusal.Refusal.TheVariants.{TimeEnd}
 use Rattle.pg_entitle.specs.Grants.{has_key}
 use Rattle.pg_ring.specs.Fates.{Call, Push, Lose, Reply, Drain, HangUp, history_of, fates, one_if}
 use Rattle.pg_align.specs.Histories.{History}
 use Rattle.pg_data.specs.Shared.{Piece}
-use Rattle.pg_session.specs.Streams.{Turn}
-use Rattle.pg_session.specs.Events.{Happening, Sample, grant, revoke, announce, measure, define, remove, tick, connect, hangup, command, drain}
+use Rattle.pg_data.specs.Measurements.{Measurement, IsMeasurement}
+use Rattle.pg_stream.specs.Slots.{slot_at}
+use Rattle.pg_session.specs.Streams.{Turn, base_of}
+use Rattle.pg_session.specs.Events.{Happening, Sample, samples_at, grant, revoke, announce, measure, define, remove, tick, connect, hangup, command, drain}
 use Rattle.pg_session.specs.Private.{Told, done, refused, handed, refusal, answer, May, next, turns_of, frames_of, asks_reply, reply_frame, stream_at}
 use Rattle.pg_session.specs.ByAll.{by_arrivals, by_numbers}
 use Rattle.pg_session.specs.Shown.{Model, begin}
+use Rattle.pg_session.specs.Ready.{ArePlaces}
 
 -- private events, each with the reply to it
 abbrev pub Run : Type 0
@@ -107,3 +111,10 @@ pub record NeedsNoMemory : Type 0 where
   pub reply : (p : Model) (soc quality frac : ℕ) (samples : List Sample) (lost : Bool) (r : Told)
       → frames_of by_arrivals by_numbers p (measure soc quality frac samples) ≡ []
       → May by_arrivals by_numbers p (measure soc quality frac samples) lost r → r ≡ done 0 0
+
+-- A data frame that was read has a numerator below its resolution, so that no time of it is refused a slot but for TimeEnd.
+pub record OnlyTimeEnds : Type 0 where
+  pub below : (m : Measurement) (places : List ℕ) → IsMeasurement m → ArePlaces (length m.config.parts) places
+      → m.frac < base_of (samples_at m places)
+  pub refusal : (m : Measurement) (places : List ℕ) (rate : ℕ) (r : Refusal) → IsMeasurement m → ArePlaces (length m.config.parts) places
+      → slot_at rate (base_of (samples_at m places)) m.soc m.frac ≡ Err r → r ≡ TimeEnd

@@ -13,7 +13,7 @@ use Rattle.pg_session.specs.declared.event.PrivateReply.{PrivateReply}
 use Rattle.pg_session.specs.declared.event.PrivateReply.TheVariants as reply
 use Rattle.pg_ring.specs.declared.queue.Drained.{Drained}
 use Rattle.pg_wire.specs.declared.refusal.Refusal.{Refusal}
-use Rattle.pg_session.specs.Fields.{all_wanted, granted_wanted}
+use Rattle.pg_session.specs.Wanted.{all_wanted, granted_wanted}
 use Rattle.pg_session.specs.Shown.{Own, SubscriberValue}
 
 -- places below n that rise, none below `least`
@@ -98,10 +98,10 @@ configs_wanted own hangup = []
 configs_wanted own (command number word) = []
 configs_wanted own (drain n) = []
 
--- From place `next` on these pieces lie there, and then the rest from place `after` on; or they do not.
-abbrev pub GoesOn : List Piece → ℕ → List Piece → Option ℕ → Type 0
+-- From place `next` on these copies lie there, and then the rest from place `after` on; or they do not.
+abbrev pub GoesOn : {X : Type 0} → List X → ℕ → List X → Option ℕ → Type 0
 GoesOn items next pieces (Some after) = (drop next items ≡ pieces ++ drop after items) × (after ≤ length items)
-GoesOn items next pieces None = (rest : List Piece) → drop next items ≢ pieces ++ rest
+GoesOn {X = X} items next pieces None = (rest : List X) → drop next items ≢ pieces ++ rest
 
 -- Just the copies that the event asks for lie ready.
 pub record IsReady (v : SubscriberValue) (e : Happening) : Type 0 where

@@ -117,7 +117,9 @@ module _ {A : Type 0} (by : Alignment A) where
       let answer = by.answer a slot p.place in
       record others { late = is_late answer + others.late; twice = is_twice answer + others.twice }
 
-  -- All arrive first, and only then do slots leave. An error is TimeEnd: no data frame that was read has a BadFraction.
+  -- All arrive first, and only then do slots leave. An error is TimeEnd, and so its blocks count as past the end of time: `slot_at`
+  -- gives BadFraction only of a numerator that is not below the resolution, and no measurement has one, since the reader of data
+  -- frames refuses such a frame with BadFraction (law `only_time_ends`).
   abbrev pub arrival_turn : Listing → StreamOf A → List Placed → Result ℕ Refusal → Turn A
   arrival_turn listed s blocks (Err r) = record (still s) { past = length blocks }
   arrival_turn listed s blocks (Ok slot) =

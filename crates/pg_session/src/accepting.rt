@@ -8,7 +8,7 @@ ghost use Rattle.pg_outcfg.specs.Listing.{config_at};
 ghost use Rattle.pg_session.specs.Events.{announced_at, config_of, samples_at};
 ghost use Rattle.pg_data.specs.Shared.{piece_of};
 ghost use Rattle.pg_session.specs.Streams.{place_of, with_place, placed};
-ghost use Rattle.pg_session.specs.Fields.{piece_of_placed, all_wanted};
+ghost use Rattle.pg_session.specs.Wanted.{piece_of_placed, all_wanted};
 ghost use Rattle.pg_session.specs.Ready.{AreHeld, AreOwn, ArePlaces, GoesOn};
 
 use crate::change::config_of;
@@ -92,24 +92,59 @@ pub(crate) fn is_copy(
     }
 }
 
-/// Whether just those copies lie there that an announcement of these PMUs needs.
+/// Whether just those copies lie there that an announcement of these PMUs needs. A place past the source's PMUs is no PMU's.
 pub(crate) fn are_copies(
     config: &SourceConfig,
     places: &[usize],
     configs: &HeapCircularBuffer<Arc<PmuConfig>>,
 ) -> bool
-    requires places { All (λ i. i < length config.now.parts) places.now }
     ensures { Decides result (map arc_value configs.now.items ≡ map config_of (announced_at config.now places.now)) }
 {
-    if configs.len() != places.len() {
+    let Some(at) = after_configs(config, places, configs) else {
+        return false;
+    };
+    if at != configs.len() {
         return false;
     }
-    for i in 0..places.len() {
-        if !is_copy(configs, i, &config.parts[places[i]]) {
-            return false;
-        }
-    }
     true
+}
+
+/// Where the copies go on behind those of these PMUs' configurations; or these do not lie in front.
+fn after_configs(
+    config: &SourceConfig,
+    places: &[usize],
+    configs: &HeapCircularBuffer<Arc<PmuConfig>>,
+) -> Option<usize>
+    ensures { GoesOn (map arc_value configs.now.items) 0 (map config_of (announced_at config.now places.now)) result }
+{
+    let mut at = 0;
+    for place in places {
+        let Some(after) = after_config(config, *place, configs, at) else {
+            return None;
+        };
+        at = after;
+    }
+    Some(at)
+}
+
+/// Where the copies go on behind that of a PMU's configuration, where the source has that PMU; or that does not lie next.
+fn after_config(
+    config: &SourceConfig,
+    place: usize,
+    configs: &HeapCircularBuffer<Arc<PmuConfig>>,
+    next: usize,
+) -> Option<usize>
+    requires within { next ≤ length (map arc_value configs.now.items) }
+    ensures { GoesOn (map arc_value configs.now.items) next (map config_of (announced_at config.now (place ∷ []))) result }
+{
+    let _len = configs.len();
+    if place >= config.count() {
+        return Some(next);
+    }
+    if !is_copy(configs, next, &config.parts[place]) {
+        return None;
+    }
+    Some(next + 1)
 }
 
 /// Whether a block is this one of a frame.
@@ -136,8 +171,27 @@ fn is_block(
     }
 }
 
-/// Where the copies go on behind that of a PMU's block, where it is a member's; or that does not lie next.
+/// Where the copies go on behind that of a block, where the frame has it and it is a member's; or that does not lie next.
 fn after_block(
+    definition: &Definition,
+    frame: &DataFrame,
+    place: usize,
+    blocks: &HeapCircularBuffer<SharedBlock>,
+    next: usize,
+) -> Option<usize>
+    requires within { next ≤ length blocks.now.items }
+    ensures { GoesOn blocks.now.items next (map piece_of_placed (placed definition.now.members frame.now.quality (samples_at frame.now (place ∷ [])))) result }
+{
+    let count = frame.count();
+    if place >= count {
+        return Some(next);
+    }
+    let key = frame.key(place);
+    after_own_block(definition, &key, frame, place, blocks, next)
+}
+
+/// Where the copies go on behind that of a PMU's block, where it is a member's; or that does not lie next.
+fn after_own_block(
     definition: &Definition,
     key: &PmuKey,
     frame: &DataFrame,
@@ -167,15 +221,12 @@ pub(crate) fn after_members(
     blocks: &HeapCircularBuffer<SharedBlock>,
     next: usize,
 ) -> Option<usize>
-    requires places { All (λ i. i < length frame.now.config.parts) places.now }
     requires within { next ≤ length blocks.now.items }
     ensures { GoesOn blocks.now.items next (map piece_of_placed (placed definition.now.members frame.now.quality (samples_at frame.now places.now))) result }
 {
-    let _count = frame.count();
     let mut at = next;
     for place in places {
-        let Some(after) = after_block(definition, &frame.key(*place), frame, *place, blocks, at)
-        else {
+        let Some(after) = after_block(definition, frame, *place, blocks, at) else {
             return None;
         };
         at = after;
@@ -190,7 +241,6 @@ pub(crate) fn are_wanted(
     streams: &[Stream],
     blocks: &HeapCircularBuffer<SharedBlock>,
 ) -> bool
-    requires places { All (λ i. i < length frame.now.config.parts) places.now }
     ensures { Decides result (blocks.now.items ≡ all_wanted streams.now frame.now.quality (samples_at frame.now places.now)) }
 {
     let Some(at) = after_wanted(frame, places, streams, blocks) else {
@@ -209,7 +259,6 @@ fn after_wanted(
     streams: &[Stream],
     blocks: &HeapCircularBuffer<SharedBlock>,
 ) -> Option<usize>
-    requires places { All (λ i. i < length frame.now.config.parts) places.now }
     ensures { GoesOn blocks.now.items 0 (all_wanted streams.now frame.now.quality (samples_at frame.now places.now)) result }
 {
     let mut at = 0;

@@ -8,7 +8,8 @@ ghost use Rattle.pg_session.specs.Streams.{Placed, place_of, with_place, placed,
 ghost use Rattle.pg_session.specs.Output.{all_ignored};
 ghost use Rattle.pg_session.specs.Sending.{Sending};
 ghost use Rattle.pg_session.specs.Kept.{by_slots};
-ghost use Rattle.pg_session.specs.Fields.{AreEffective, piece_of_placed, with_stats, one_ignored};
+ghost use Rattle.pg_session.specs.Fields.{AreEffective, with_stats, one_ignored};
+ghost use Rattle.pg_session.specs.Wanted.{piece_of_placed};
 
 use crate::output::Output;
 use crate::stream::place_in;

@@ -6,7 +6,7 @@ ghost use Rattle.pg_data.specs.Shared.{piece_of};
 ghost use Rattle.pg_session.specs.Events.{announced_at, config_of, samples_at};
 ghost use Rattle.pg_session.specs.Streams.{Placed, place_of, with_place, placed};
 ghost use Rattle.pg_session.specs.Ready.{ArePlaces};
-ghost use Rattle.pg_session.specs.Fields.{piece_of_placed, wanted_of, all_wanted};
+ghost use Rattle.pg_session.specs.Wanted.{piece_of_placed, wanted_of, all_wanted};
 
 use crate::stream::{Stream, place_in};
 use circular_buffer::HeapCircularBuffer;

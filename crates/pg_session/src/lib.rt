@@ -18,9 +18,9 @@ mod streams;
 mod subscriber;
 
 pub use event::{PrivateEvent, PrivateReply};
-pub use laws::{no_slot_needs_no_memory, numbers_are_kept, runs_go_on};
+pub use laws::{
+    changes_are_told, no_slot_needs_no_memory, numbers_are_kept, only_time_ends, runs_go_on,
+    stamps_rise,
+};
 pub use session::{Next, Session};
 pub use subscriber::Subscriber;
-
-#[cfg(test)]
-mod tests;

@@ -16,7 +16,8 @@ ghost use Rattle.pg_session.specs.Private.{stopped, started};
 ghost use Rattle.pg_session.specs.Sending.{Sending, Sends};
 ghost use Rattle.pg_session.specs.Kept.{by_slots, by_gaps};
 ghost use Rattle.pg_session.specs.Ready.{GoesOn};
-ghost use Rattle.pg_session.specs.Fields.{IsStream, AreListed, wanted_of, turn_stats, with_stats};
+ghost use Rattle.pg_session.specs.Fields.{IsStream, AreListed, turn_stats, with_stats};
+ghost use Rattle.pg_session.specs.Wanted.{wanted_of};
 
 use crate::accepting::after_members;
 use crate::arriving::{arrive_all_in, count_placed, pass_all};
@@ -49,7 +50,8 @@ impl Model for Stream {
     ghost use Rattle.pg_data.specs.Shared.{Piece};
     ghost use Rattle.pg_align.specs.Slots.{Aligned};
     ghost use Rattle.pg_session.specs.Streams.{StreamOf};
-    ghost use Rattle.pg_session.specs.Fields.{IsStream, AreListed, wanted_of, turn_stats, with_stats};
+    ghost use Rattle.pg_session.specs.Fields.{IsStream, AreListed, turn_stats, with_stats};
+    ghost use Rattle.pg_session.specs.Wanted.{wanted_of};
 
     ghost Value = { StreamOf (Aligned Piece) };
 
@@ -299,7 +301,6 @@ impl Stream {
         blocks: &HeapCircularBuffer<SharedBlock>,
         next: usize,
     ) -> Option<usize>
-        requires places { All (λ i. i < length frame.now.config.parts) places.now }
         requires within { next ≤ length blocks.now.items }
         ensures { GoesOn blocks.now.items next (wanted_of self.now frame.now.quality (samples_at frame.now places.now)) result }
     {

@@ -9,7 +9,8 @@ ghost use Rattle.pg_session.specs.Private.{stopped, stream_at, at_stream, switch
 ghost use Rattle.pg_session.specs.Sending.{Sending};
 ghost use Rattle.pg_session.specs.Taking.{Taken};
 ghost use Rattle.pg_session.specs.Kept.{by_slots, by_gaps};
-ghost use Rattle.pg_session.specs.Fields.{AreListed, AreFitted, all_wanted, stream_after};
+ghost use Rattle.pg_session.specs.Fields.{AreListed, AreFitted, stream_after};
+ghost use Rattle.pg_session.specs.Wanted.{all_wanted};
 
 use crate::change::Change;
 use crate::output::Output;

@@ -9,8 +9,9 @@ ghost use Rattle.pg_config.specs.Parts.{Part};
 ghost use Rattle.pg_session.specs.Private.{told};
 ghost use Rattle.pg_session.specs.Ready.{Accepts, AreHeld, AreOwn, ArePlaces, IsPlain, IsReady, KeepsBuffer, NeedsNone, ReturnsBuffer};
 ghost use Rattle.pg_session.specs.Shown.{SubscriberValue, Shows, Takes, begin};
-ghost use Rattle.pg_session.specs.Steps.{Steps, MakesFew, HasNoCopies, Obeys, MayRefuse};
-ghost use Rattle.pg_session.specs.Fields.{all_wanted, granted_wanted};
+ghost use Rattle.pg_session.specs.Steps.{Steps, MakesFew, HasNoCopies};
+ghost use Rattle.pg_session.specs.Fields.{Obeys, MayRefuse};
+ghost use Rattle.pg_session.specs.Wanted.{all_wanted, granted_wanted};
 
 use crate::accepting::{are_copies, are_held, are_own, are_places, are_wanted, is_copy};
 use crate::change::Change;
@@ -63,7 +64,7 @@ impl Model for Subscriber {
     ghost use Rattle.std.specs.Prelude.{map, vec_capacity};
     ghost use Rattle.std.specs.Arc.{arc_value};
     ghost use Rattle.pg_session.specs.Shown.{SubscriberValue};
-    ghost use Rattle.pg_session.specs.Steps.{IsKept};
+    ghost use Rattle.pg_session.specs.Fields.{IsKept};
 
     ghost Value = { SubscriberValue };
 
@@ -208,9 +209,9 @@ impl Subscriber {
         }
     }
 
-    /// Whether just the copies lie ready that an event needs. It asks for one that the subscriber accepts.
+    /// Whether just the copies lie ready that an event needs. Any event may be asked about: a place that its frame does not have
+    /// needs none.
     pub fn ready(&self, event: &PrivateEvent<'_>) -> bool
-        requires accepts { Accepts self.now event.now }
         ensures { Decides result (IsReady self.now (happening event.now)) }
     {
         match event {

@@ -1,4 +1,2 @@
-mod Counting
 mod Histories
-mod Pairs
 mod Turning

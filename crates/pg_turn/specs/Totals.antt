@@ -1,5 +1,5 @@
 -- What the counter's total is after a history.
-use Rattle.std.specs.Prelude.{ℕ, ◌+◌, ◌^◌, ◌-◌, ◌≤◌, ◌⊎◌, min, List, fold}
+use Rattle.std.specs.Prelude.{ℕ, ◌+◌, ◌^◌, ◌-◌, min, List, fold}
 use Rattle.pg_turn.specs.declared.counter.Add.{Add}
 
 -- the total after n more, at most the greatest u64
@@ -9,11 +9,3 @@ capped_add total n = min (total + n) (2 ^ 64 - 1)
 -- the total after these calls, from 0
 abbrev pub total_of : List (Add × ℕ) → ℕ
 total_of history = fold (λ total call. capped_add total (call.0.0)) 0 history
-
--- one of the two totals counts both numbers
-abbrev pub CountsBoth : ℕ → ℕ → ℕ → ℕ → Type 0
-CountsBoth m n one two = (capped_add m n ≤ one) ⊎ (capped_add m n ≤ two)
-
--- each of the two totals counts its own number
-abbrev pub CountsOwn : ℕ → ℕ → ℕ → ℕ → Type 0
-CountsOwn m n one two = (capped_add 0 m ≤ one) × (capped_add 0 n ≤ two)

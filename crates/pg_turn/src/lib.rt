@@ -11,11 +11,9 @@ mod seat;
 #[cfg(test)]
 mod tests;
 mod turnstile;
-mod two_calls;
 mod view;
 
 pub use counter::{Add, Counter};
 pub use machine::Machine;
 pub use seat::Seat;
 pub use turnstile::Turnstile;
-pub use two_calls::{add_both, call_both, call_twice};

@@ -4,7 +4,7 @@
 //! Making the table and parking and waking are the base crate's own; the steps here are take, give back, split, join, and
 //! the load after a join that compares two histories.
 ghost use Rattle.std.specs.Prelude.{[], false};
-ghost use Rattle.pg_turn.specs.Turns.{Kept, took, gave, settled, newcomer, told, both};
+ghost use Rattle.pg_turn.specs.Steps.{Kept, took, gave, settled, newcomer, told, both};
 
 use crate::machine::Machine;
 use crate::view::{Telling, View};

@@ -1,8 +1,7 @@
 //! The row of two threads, and each other public function once.
 ghost use Rattle.std.specs.Prelude.{◌≡◌};
 
-use crate::{Add, Counter, Machine, Seat, Turnstile, add_both, call_both, call_twice};
-use std::alloc::AllocError;
+use crate::{Add, Counter, Machine, Seat, Turnstile};
 use std::sync::Wait;
 use std::test::Fail;
 use std::thread::join;
@@ -57,19 +56,16 @@ fn counter_of_two_threads(rt: HostRuntime) -> Result<(), Fail> {
 }
 
 #[test]
-fn two_calls_of_each_kind(rt: HostRuntime) -> Result<(), Fail> {
+fn one_seat_calls_twice(rt: HostRuntime) -> Result<(), Fail> {
     let (turns, seat) = Turnstile::new(rt.alloc(), Counter::new())?;
-    let (seat, three, seven) = call_twice(&rt, &turns, seat, Add(3), Add(4));
+    let (seat, three) = turns.call(&rt, seat, Add(3));
+    let (seat, seven) = turns.call(&rt, seat, Add(4));
     assert!(rt; three == 3 && seven == 7);
-    let (seat, one, two) = call_both(&rt, &turns, seat, Add(1), Add(2));
-    assert!(rt; (one == 8 && two == 10) || (one == 10 && two == 9));
     let Some(mut counter) = turns.close(seat) else {
         panic!(&rt; "the value is at home")
     };
-    assert!(rt; counter.total == 10 && counter.step(Add(u32::MAX)) == 4_294_967_305);
+    assert!(rt; counter.total == 7 && counter.step(Add(u32::MAX)) == 4_294_967_302);
     counter.total = u64::MAX - 1;
     assert!(rt; counter.step(Add(5)) == u64::MAX && counter.step(Add(0)) == u64::MAX);
-    let (one, two) = add_both(&rt, rt.alloc(), Add(20), Add(30))?;
-    assert!(rt; (one == 20 && two == 50) || (one == 50 && two == 30));
     Ok(())
 }

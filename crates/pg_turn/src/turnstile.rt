@@ -2,7 +2,8 @@
 ghost use Rattle.std.specs.Prelude.{◌≡◌, ◌+◌, ◌≤◌, ℕ, true, false, [], ◌∷◌, ◌++◌, IfOk, IfSome, List, length};
 ghost use mathlib.Core.List.{IsPrefix};
 ghost use Rattle.pg_turn.specs.Known.{times};
-ghost use Rattle.pg_turn.specs.Turns.{Called, IsLonger, IsLegal, view_of};
+ghost use Rattle.pg_turn.specs.Turns.{Called, IsLonger, IsLegal};
+ghost use Rattle.pg_turn.specs.Steps.{view_of};
 
 use crate::machine::Machine;
 use crate::plays::{Board, GiveBack, OneHistory, Place, Seen, Settle, Slot, Take, Tell};

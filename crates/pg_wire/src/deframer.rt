@@ -37,11 +37,8 @@ impl Model for Deframer {
 }
 
 impl Deframer {
-    ghost use Rattle.std.specs.Prelude.{⊤};
-    ghost use Rattle.std.specs.Borrow.{sem, follows_so};
-    ghost use mathlib.Core.Option.{none};
-    ghost use Rattle.pg_wire.specs.contracts.deframer.Deframer.{the_row};
-    ghost use Rattle.pg_wire.specs.Taking.{Takes, Gives};
+    ghost use Rattle.std.specs.Borrow.{sem};
+    ghost use Rattle.pg_wire.specs.Taking.{GivesNext, TakesNext};
 
     /// A deframer of an empty stream, with room for `CAPACITY` bytes. The one refusal is `NoMemory`.
     pub fn new(alloc: Global) -> Result<Deframer, Refusal>
@@ -90,14 +87,14 @@ impl Deframer {
     ///
     /// The frame stays where it is; it is gone from what the deframer holds.
     pub fn next(&mut self) -> Taken<'_>
-        ensures* after { sem 𝓛 (follows_so the_row the_row self.entry.ghost_name none (λ _ _. ⊤) (λ new. Takes self.old result new × Gives self.old result new)) }
+        ensures* after { sem 𝓛 (GivesNext self.entry result) }
     {
         self.take()
     }
 
     /// One step of `next`.
     fn take(&mut self) -> Taken<'_>
-        ensures* after { sem 𝓛 (follows_so the_row the_row self.entry.ghost_name none (λ _ _. ⊤) (λ new. Takes self.old result new)) }
+        ensures* after { sem 𝓛 (TakesNext self.entry result) }
     {
         if let Some(refusal) = self.broken {
             return Taken::Broken(refusal);

@@ -19,6 +19,3 @@ pub use laws::{
     spelling_is_frame, split_appends, started_is_spelled, stream_is_split,
 };
 pub use refusal::Refusal;
-
-#[cfg(test)]
-mod tests;

@@ -18,9 +18,9 @@ unreachable-requires c =
 pub loop-place-preserved : goal.loop-place-preserved
 loop-place-preserved c =
     let inv = c.loop-place.invariant in
-    let step = announce_step arc_value c.args.config.now c.args.places.now c.loop-place.place-index c.loop-place.copies.items c.in-Some.copy c.loop-place.registry c.announce_one.new.registry
+    let step = announce_step arc_value c.args.config.now c.args.places.now c.loop-place.place-index c.loop-place.copies.items c.in-Some.copy c.loop-place.registry c.announce-listed.new.self
     (all_announced c.args.registry.now (announced_at c.args.config.now c.args.places.now)) c.key-key.result c.requires.rising c.loop-place-test.true
-    c.in-Some.ensures.value inv.ready c.key-key.ensures.source c.key-key.ensures.pmu c.announce_one.ensures inv.announced in
+    c.in-Some.ensures.value inv.ready c.key-key.ensures.source c.key-key.ensures.pmu c.announce-listed.ensures.list inv.announced in
     record {
       ready = rw c.pop_front.ensures.items step.0;
       announced = step.1;

@@ -33,20 +33,20 @@ returns-in-Some-clause-takes c = λ seats h.
     let t = told c.grant_noted.result in
     let x = grant c.args.key.now (option_map (λ k. arc_value k.now) c.args.config) in
     record {
-      may = rw found.1 (c.grant_noted.ensures.takes found.0 found.2).may;
+      may = rw found.1 (c.grant_noted.ensures.takes.grants found.0 found.2).may;
       shows = rw (wrote.0, at_seat-twice c.args.sub (with_note (audited.Grant, code_of t)) (moved x t) seats)
           (Related-at_seat SeatShows c.args.sub (λ s. with_note (audited.Grant, code_of t) (moved x t s)) c.args.subs.now.entries seats c.in-Some.seat.now c.grant_noted.new.self h (sym c.in-Some.ensures.value)
-          (λ s shown. (c.grant_noted.ensures.takes s shown).shows));
+          (λ s shown. (c.grant_noted.ensures.takes.grants s shown).shows));
     }
 
 pub returns-in-Some-clause-none : goal.returns-in-Some-clause-none
 returns-in-Some-clause-none c =
     let wrote = c.get_mut.follows.holds c.grant_noted.new.self in
-    rw wrote.0 (seats-set_value HasNone (nat_eq c.args.sub) c.args.subs.now.entries c.grant_noted.new.self c.requires.none c.grant_noted.ensures.none)
+    rw wrote.0 (seats-set_value HasNone (nat_eq c.args.sub) c.args.subs.now.entries c.grant_noted.new.self c.requires.none c.grant_noted.ensures.takes.none)
 
 pub returns-in-Some-clause-frugal : goal.returns-in-Some-clause-frugal
 returns-in-Some-clause-frugal c = λ seats h none needs.
     let found = lookup-some SeatShows (nat_eq c.args.sub) c.in-Some.seat.now c.args.subs.now.entries seats h (sym c.in-Some.ensures.value) in
     let x = grant c.args.key.now (option_map (λ k. arc_value k.now) c.args.config) in
-    c.grant_noted.ensures.frugal found.0 found.2 (sym (ap (λ o. grant_refusal o true x) found.1) ∙ none)
+    c.grant_noted.ensures.takes.frugal found.0 found.2 (sym (ap (λ o. grant_refusal o true x) found.1) ∙ none)
     (subst (λ o. IfSome o (λ (v : SeatValue). NeedsNone v.subscriber x)) (sym c.in-Some.ensures.value) needs)

@@ -18,18 +18,18 @@ loop-i-preserved c =
     let step = λ (ps : Seats) (h : Related SeatShows c.args.subs.now.entries ps).
     let len = Related-length SeatShows _ ps h in
     fan_step (offered c.args.event.now c.args.places.now) ps c.loop-i.i c.loop-i.made c.loop-i.kept c.loop-i.lost c.take_share-more.result.0 c.take_share-more.result.1 c.loop-i.subs.entries c.index_mut.result.now c.take_share-more.new.self
-    (omega (arith, c.len-i-end.ensures.len)) (inv.count ps h) inv.kept inv.all (inv.shows ps h) c.index_mut.ensures.value c.take_share-more.ensures.takes c.take_share-more.ensures.kept in
+    (omega (arith, c.len-i-end.ensures.len)) (inv.count ps h) inv.kept inv.all (inv.shows ps h) c.index_mut.ensures.value c.take_share-more.ensures.takes.shares c.take_share-more.ensures.takes.kept in
     record {
       len = index_map_len-with_value_at c.loop-i.subs c.loop-i.i c.take_share-more.new.self ∙ inv.len;
-      few = omega (arith, c.take_share-more.ensures.few, inv.few);
-      kept = omega (arith, c.take_share-more.ensures.kept, inv.kept);
+      few = omega (arith, c.take_share-more.ensures.takes.few, inv.few);
+      kept = omega (arith, c.take_share-more.ensures.takes.kept, inv.kept);
       all = elim c.if-more_kept-more.branch [
         | then-more_kept-more w ↦ λ calm. absurd (true≢false (sym w.lost-is ∙ calm))
         | else-more_kept-more w ↦ λ calm. let same = inv.all (sym w.lost-is ∙ calm) in omega arith
       ];
       room = c.take_share-more.ensures.room;
       awaits = seats-after (Awaits (offered c.args.event.now c.args.places.now)) c.loop-i.subs.entries c.loop-i.i c.take_share-more.new.self inv.awaits;
-      none = seats-before HasNone c.loop-i.subs.entries c.loop-i.i c.take_share-more.new.self inv.none c.take_share-more.ensures.none;
+      none = seats-before HasNone c.loop-i.subs.entries c.loop-i.i c.take_share-more.new.self inv.none (c.take_share-more.ensures.takes.none, c.take_share-more.ensures.spared);
       count = λ ps h. (step ps h).0;
       shows = λ ps h. (step ps h).1;
     }

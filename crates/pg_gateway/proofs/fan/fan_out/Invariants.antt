@@ -3,7 +3,8 @@ use Rattle.indexmap.specs.IndexMap.{index_map_len}
 use Rattle.pg_gateway.specs.Related.{Related}
 use Rattle.pg_gateway.specs.Sharing.{Seats, fan_out, total}
 use Rattle.pg_gateway.specs.Shown.{SeatShows}
-use Rattle.pg_gateway.specs.Taking.{offered, Awaits, AllSeats, HasNone}
+use Rattle.pg_gateway.specs.Taking.{offered, Awaits, HasNone}
+use Rattle.pg_gateway.specs.Frugal.{AllSeats}
 use Rattle.pg_gateway.proofs.fan.fan_out.Given as goal
 
 abbrev pub invariant-loop-i : goal.invariant-loop-i

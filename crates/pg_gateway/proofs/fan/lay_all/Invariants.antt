@@ -3,7 +3,8 @@ use Rattle.indexmap.specs.IndexMap.{index_map_len}
 use Rattle.pg_gateway.specs.Related.{Related}
 use Rattle.pg_gateway.specs.Sharing.{Seats}
 use Rattle.pg_gateway.specs.Shown.{SeatShows}
-use Rattle.pg_gateway.specs.Taking.{offered, Awaits, AllSeats, HasNone, Fits, Spares}
+use Rattle.pg_gateway.specs.Taking.{offered, Awaits, HasNone, Fits}
+use Rattle.pg_gateway.specs.Frugal.{AllSeats, Spares}
 use Rattle.pg_gateway.proofs.fan.lay_all.Given as goal
 
 abbrev pub invariant-loop-i : goal.invariant-loop-i

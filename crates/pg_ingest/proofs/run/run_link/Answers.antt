@@ -10,9 +10,11 @@ turns-init g c = record {
   whole = λ h. absurd (omega (arith, h));
 }
 
-pub returns-in-Some-clause-ran : goal.returns-in-Some-clause-ran
-returns-in-Some-clause-ran g c =
-    ran_on (Turned c.turns.counter) _ _ (ends_call _ c.turns.counter _ _ _ c.turns-test.true) (λ past a turned. turned.told) _ _ _ _ _ _ _ _ _ _ _ _ c.turns.invariant.ran c.in-Some.ensures.ran
+pub returns-in-Some : goal.returns-in-Some
+returns-in-Some g c = record {
+  ran = ran_on (Turned c.turns.counter) _ _ (ends_call _ c.turns.counter _ _ _ c.turns-test.true) (λ past a turned. turned.told) _ _ _ _ _ _ _ _ _ _ _ _ c.turns.invariant.ran c.in-Some.ensures.ran;
+  whole = λ some. c.in-Some.ensures.whole;
+}
 
 pub turns-preserved : goal.turns-preserved
 turns-preserved g c = record {
@@ -21,8 +23,8 @@ turns-preserved g c = record {
   whole = λ h. c.turn.ensures.goes c.in_default.is;
 }
 
-pub returns-clause-ran : goal.returns-clause-ran
-returns-clause-ran g c = ran_as (Turned c.turns.counter) _ (ends_all c.turns.counter _ _ _ (omega (arith, c.turns-test.false, c.turns.auto.counter-end))) _ _ _ _ _ _ _ _ c.turns.invariant.ran
-
-pub returns-clause-whole : goal.returns-clause-whole
-returns-clause-whole g c = λ some e. c.turns.invariant.whole (omega (arith, some, c.turns-test.false, c.turns.auto.counter-end))
+pub returns : goal.returns
+returns g c = record {
+  ran = ran_as (Turned c.turns.counter) _ (ends_all c.turns.counter _ _ _ (omega (arith, c.turns-test.false, c.turns.auto.counter-end))) _ _ _ _ _ _ _ _ c.turns.invariant.ran;
+  whole = λ some e. c.turns.invariant.whole (omega (arith, some, c.turns-test.false, c.turns.auto.counter-end));
+}

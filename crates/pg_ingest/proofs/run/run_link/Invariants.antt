@@ -1,12 +1,12 @@
 use Rattle.std.proofs.Common.{◌≡◌, ◌<◌, [], length}
-use Rattle.pg_ingest.specs.Runs.{Ran}
+use Rattle.pg_ingest.specs.Runs.{wires, Ran}
 use Rattle.pg_ingest.proofs.Turns.{Turned}
 use Rattle.pg_ingest.proofs.run.run_link.Given as goal
 
 abbrev pub invariant-turns : goal.invariant-turns
 invariant-turns g l = record {
-  ran : Ran (Turned l.counter) l.fn.link l.link (g.R.Read.remaining l.fn.reader) (g.R.Read.remaining l.reader)
-      (g.W.Write.contents l.fn.writer) (g.W.Write.contents l.writer) (g.G.Gate.posts l.fn.gate) (g.G.Gate.posts l.gate);
+  ran : Ran (Turned l.counter) l.fn.link l.link (wires (g.R.Read.remaining l.fn.reader) (g.W.Write.contents l.fn.writer) (g.G.Gate.posts l.fn.gate))
+      (wires (g.R.Read.remaining l.reader) (g.W.Write.contents l.writer) (g.G.Gate.posts l.gate));
   room : length l.link.bytes.held < 65535;
   whole : 0 < l.counter → l.link.left ≡ [];
 }

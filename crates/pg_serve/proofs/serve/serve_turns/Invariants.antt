@@ -1,6 +1,5 @@
 use Rattle.std.proofs.Common.{◌≡◌, ◌<◌, [], length, None}
-use Rattle.pg_serve.specs.Serving.{HasGivenAll}
-use Rattle.pg_serve.specs.Turned.{Turned}
+use Rattle.pg_serve.specs.Turned.{HasGivenAll, Turned}
 use Rattle.pg_serve.proofs.serve.serve_turns.Given as goal
 
 abbrev pub invariant-turns : goal.invariant-turns

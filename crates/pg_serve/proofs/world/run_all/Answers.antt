@@ -14,5 +14,5 @@ loop-input-preserved c =
     ∙ ap (λ x. facts (take c.loop-input.input-index c.args.inputs.now) ++ fact x ∷ []) (sym c.input-item.is) in
     let out : outcomes c.push.new.self.items ≡ outcomes c.loop-input.outputs.items ++ outcome c.in_ok-output.output ∷ [] =
     ap outcomes c.in_ok-push.ensures.items ∙ map-append outcome c.loop-input.outputs.items (c.in_ok-output.output ∷ []) in
-    rw (items, out) (many_more _ _ _ _ _ _ _ _ _ (facts (take c.loop-input.input-index c.args.inputs.now)) (outcomes c.loop-input.outputs.items) (fact c.input-item.result) (outcome c.in_ok-output.output)
+    rw (items, out) (many_more _ _ _ (facts (take c.loop-input.input-index c.args.inputs.now)) (outcomes c.loop-input.outputs.items) (fact c.input-item.result) (outcome c.in_ok-output.output)
     c.loop-input.invariant c.in_ok-output.ensures.takes)

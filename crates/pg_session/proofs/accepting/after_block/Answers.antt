@@ -1,29 +1,28 @@
-use Rattle.std.proofs.Common.{◌+◌, Some, None, sym, ◌∙◌, subst, arith}
-use Rattle.std.proofs.lemmas.Option.{slice_get_within}
-use Rattle.pg_data.specs.Shared.{piece_of}
-use Rattle.pg_session.specs.Streams.{place_of}
+use Rattle.std.proofs.Common.{◌≡◌, List, ◌∷◌, [], map, Some, refl, sym, ap, subst, arith}
+use Rattle.pg_data.specs.Shared.{Piece, piece_of}
+use Rattle.pg_session.specs.Events.{samples_at}
+use Rattle.pg_session.specs.Streams.{place_of, with_place, placed}
+use Rattle.pg_session.specs.Wanted.{piece_of_placed}
 use Rattle.pg_session.specs.Ready.{GoesOn}
-use Rattle.pg_session.proofs.Going.{one_next, one_not, member_pieces}
+use Rattle.pg_session.proofs.Arrivals.{placed_next}
+use Rattle.pg_session.proofs.Going.{no_block}
 use Rattle.pg_session.proofs.accepting.after_block.Goals as goal
 
-pub returns-then-not-is_block : goal.returns-then-not-is_block
-returns-then-not-is_block c =
-    let p = piece_of c.args.frame.now c.args.place in
+pub returns-then-place-count : goal.returns-then-place-count
+returns-then-place-count c =
+    let m = c.args.frame.now in
     let items = c.args.blocks.now.items in
-    let pieces = member_pieces (place_of c.args.definition.now.members c.args.key.now) p c.in-Some._member (sym c.place_in.ensures ∙ c.in-Some.is) in
-    subst (λ ps. GoesOn items c.args.next ps None) (sym pieces)
-    (one_not items c.args.next p (λ e. absurd (cc (c.is_block.ensures.1 e, c.if-not-is_block.true))))
-
-pub overflow_add-result : goal.overflow_add-result
-overflow_add-result c =
-    let there = c.is_block.ensures.0 c.if-not-is_block.false in
-    let within = slice_get_within c.args.blocks.now.items c.args.next (piece_of c.args.frame.now c.args.place) there in
-    omega (arith, within, c.len-len.ensures.within.0, c.len-len.ensures.within.1, c.len-len.ensures.len)
+    subst (λ (ps : List Piece). GoesOn items c.args.next ps (Some c.args.next))
+    (sym (no_block m c.args.definition.now.members c.args.place (omega (arith, c.if-place-count.true, c.count-count.ensures.value)))) (refl, c.requires.within)
 
 pub returns : goal.returns
 returns c =
-    let p = piece_of c.args.frame.now c.args.place in
+    let m = c.args.frame.now in
+    let members = c.args.definition.now.members in
     let items = c.args.blocks.now.items in
-    let pieces = member_pieces (place_of c.args.definition.now.members c.args.key.now) p c.in-Some._member (sym c.place_in.ensures ∙ c.in-Some.is) in
-    subst (λ ps. GoesOn items c.args.next ps (Some (c.args.next + 1))) (sym pieces)
-    (one_next items c.args.next p (c.is_block.ensures.0 c.if-not-is_block.false))
+    let place = c.args.place in
+    let pieces : map piece_of_placed (placed members m.quality (samples_at m (place ∷ [])))
+    ≡ map piece_of_placed (with_place (place_of members c.key-key.result) (piece_of m place) []) =
+    ap (map piece_of_placed) (placed_next m members (place ∷ []) 0 c.key-key.result c.count-count.ensures.keeps (omega arith)
+    (omega (arith, c.if-place-count.false, c.count-count.ensures.value)) c.key-key.ensures.source c.key-key.ensures.pmu) in
+    subst (λ (ps : List Piece). GoesOn items c.args.next ps c.after_own_block.result) (sym pieces) c.after_own_block.ensures

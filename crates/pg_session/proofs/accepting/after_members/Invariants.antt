@@ -1,7 +1,7 @@
 use Rattle.std.proofs.Common.{map, drop}
 use Rattle.pg_session.specs.Events.{samples_at}
 use Rattle.pg_session.specs.Streams.{placed}
-use Rattle.pg_session.specs.Fields.{piece_of_placed}
+use Rattle.pg_session.specs.Wanted.{piece_of_placed}
 use Rattle.pg_session.proofs.Going.{PassedSoFar}
 use Rattle.pg_session.proofs.accepting.after_members.Given as goal
 

@@ -1,6 +1,6 @@
 use Rattle.std.proofs.Common.{drop}
 use Rattle.pg_session.specs.Events.{samples_at}
-use Rattle.pg_session.specs.Fields.{all_wanted}
+use Rattle.pg_session.specs.Wanted.{all_wanted}
 use Rattle.pg_session.proofs.Going.{PassedSoFar}
 use Rattle.pg_session.proofs.accepting.after_wanted.Given as goal
 

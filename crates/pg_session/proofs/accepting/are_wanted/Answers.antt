@@ -1,6 +1,6 @@
 use Rattle.std.proofs.Common.{refl, sym, ◌∙◌}
 use Rattle.pg_session.specs.Events.{samples_at}
-use Rattle.pg_session.specs.Fields.{all_wanted}
+use Rattle.pg_session.specs.Wanted.{all_wanted}
 use Rattle.pg_session.proofs.Going.{whole_there, there_whole, never_whole}
 use Rattle.pg_session.proofs.accepting.are_wanted.Goals as goal
 

@@ -2,7 +2,7 @@ use Rattle.std.proofs.Common.{◌≡◌, true, false, sym, ◌∙◌, subst, ari
 use Rattle.std.specs.Arc.{arc_value}
 use Rattle.pg_data.specs.Measurements.{Measurement, IsMeasurement}
 use Rattle.pg_session.specs.Events.{samples_at}
-use Rattle.pg_session.specs.Fields.{all_wanted}
+use Rattle.pg_session.specs.Wanted.{all_wanted}
 use Rattle.pg_session.proofs.Laying.{places_few, places_within, wanted_next, none_of}
 use Rattle.pg_session.proofs.copying.copy_blocks.Goals as goal
 

@@ -1,7 +1,7 @@
 use Rattle.std.proofs.Common.{◌≡◌, ◌≤◌, ◌*◌, ◌++◌, length, drop}
 use Rattle.std.specs.Arc.{arc_value}
 use Rattle.pg_session.specs.Events.{samples_at}
-use Rattle.pg_session.specs.Fields.{all_wanted}
+use Rattle.pg_session.specs.Wanted.{all_wanted}
 use Rattle.pg_session.proofs.copying.copy_blocks.Given as goal
 
 abbrev pub invariant-loop-s : goal.invariant-loop-s

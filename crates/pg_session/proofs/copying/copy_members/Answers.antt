@@ -5,7 +5,7 @@ use Rattle.pg_data.specs.Measurements.{Measurement, IsMeasurement}
 use Rattle.pg_session.specs.Events.{samples_at}
 use Rattle.pg_data.specs.Shared.{piece_of}
 use Rattle.pg_session.specs.Streams.{place_of, placed}
-use Rattle.pg_session.specs.Fields.{piece_of_placed}
+use Rattle.pg_session.specs.Wanted.{piece_of_placed}
 use Rattle.pg_session.proofs.Arrivals.{placed_next}
 use Rattle.pg_session.proofs.Laying.{none_wanted, none_left}
 use Rattle.pg_session.proofs.copying.copy_members.Goals as goal

@@ -2,7 +2,7 @@ use Rattle.std.proofs.Common.{◌≡◌, ◌≤◌, ◌+◌, ◌++◌, length, m
 use Rattle.std.specs.Arc.{arc_value}
 use Rattle.pg_session.specs.Events.{samples_at}
 use Rattle.pg_session.specs.Streams.{placed}
-use Rattle.pg_session.specs.Fields.{piece_of_placed}
+use Rattle.pg_session.specs.Wanted.{piece_of_placed}
 use Rattle.pg_session.proofs.copying.copy_members.Given as goal
 
 abbrev pub invariant-loop-place : goal.invariant-loop-place

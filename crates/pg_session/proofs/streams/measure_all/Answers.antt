@@ -5,7 +5,8 @@ use Rattle.pg_session.specs.Events.{samples_at}
 use Rattle.pg_session.specs.Streams.{StreamOf, effective_in, measure_turn}
 use Rattle.pg_session.specs.Sending.{Sends}
 use Rattle.pg_session.specs.Kept.{by_slots}
-use Rattle.pg_session.specs.Fields.{wanted_of, with_stats, turn_stats}
+use Rattle.pg_session.specs.Fields.{with_stats, turn_stats}
+use Rattle.pg_session.specs.Wanted.{wanted_of}
 use Rattle.pg_session.proofs.Streaming.{behind_turns, stream_more, turn_more, wanted_next, wanted_front, wanted_rest, fitted_at}
 use Rattle.pg_session.proofs.streams.measure_all.Goals as goal
 

@@ -3,7 +3,8 @@ use Rattle.pg_session.specs.Events.{samples_at}
 use Rattle.pg_session.specs.Streams.{measure_turn}
 use Rattle.pg_session.specs.Kept.{by_slots}
 use Rattle.pg_session.specs.Taking.{Taken}
-use Rattle.pg_session.specs.Fields.{all_wanted, stream_after}
+use Rattle.pg_session.specs.Fields.{stream_after}
+use Rattle.pg_session.specs.Wanted.{all_wanted}
 use Rattle.pg_session.proofs.streams.measure_all.Given as goal
 
 abbrev pub invariant-loop-s : goal.invariant-loop-s

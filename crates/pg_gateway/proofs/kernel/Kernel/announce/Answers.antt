@@ -2,7 +2,8 @@ use Rattle.std.proofs.Common.{sym, ap, subst, ◌∙◌, map}
 use Rattle.pg_session.specs.Events.{Announcing, announced_at}
 use Rattle.pg_gateway.specs.Sharing.{announces}
 use Rattle.pg_gateway.specs.Judging.{all_announced, memory_counted, registered_of}
-use Rattle.pg_gateway.specs.Taking.{AllSeats, Fits, FansOut}
+use Rattle.pg_gateway.specs.Taking.{Fits, FansOut}
+use Rattle.pg_gateway.specs.Frugal.{AllSeats}
 use Rattle.pg_gateway.proofs.Places.{announced-some}
 use Rattle.pg_gateway.proofs.Fitting.{all_fit_announced}
 use Rattle.pg_gateway.proofs.AnnounceLaws.{announced_refused, announced_memory, announced_goes, registered_shown, none_announced}

@@ -1,6 +1,7 @@
 use Rattle.std.proofs.Common.{sym, ap, subst, ◌∙◌}
 use Rattle.pg_registry.specs.Registered.{has_key}
-use Rattle.pg_gateway.specs.Taking.{Awaits, HasNone, AllSeats, FansOut}
+use Rattle.pg_gateway.specs.Taking.{Awaits, HasNone, FansOut}
+use Rattle.pg_gateway.specs.Frugal.{AllSeats}
 use Rattle.pg_gateway.specs.Sharing.{revokes}
 use Rattle.pg_gateway.proofs.AllLaws.{seats-map, awaits_revoke, dropped_none, dropped_goes}
 use Rattle.pg_gateway.proofs.kernel.Kernel.drop_pmu.Goals as goal

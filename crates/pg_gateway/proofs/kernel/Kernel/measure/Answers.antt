@@ -4,7 +4,8 @@ use Rattle.pg_session.specs.Events.{samples_at}
 use Rattle.pg_gateway.specs.Sharing.{measures}
 use Rattle.pg_gateway.specs.Judging.{samples_in}
 use Rattle.pg_gateway.specs.Placing.{placed_counted, placed_refusal, placed_memory}
-use Rattle.pg_gateway.specs.Taking.{AllSeats, Fits, FansOut}
+use Rattle.pg_gateway.specs.Taking.{Fits, FansOut}
+use Rattle.pg_gateway.specs.Frugal.{AllSeats}
 use Rattle.pg_gateway.proofs.Places.{samples-some}
 use Rattle.pg_gateway.proofs.Counted.{placed_within, counted_placed, memory_placed, refusal_placed}
 use Rattle.pg_gateway.proofs.Fitting.{all_fit_measured}

@@ -1,7 +1,8 @@
 use Rattle.std.proofs.Common.{sym, subst}
 use Rattle.pg_gateway.specs.Occurrences.{occurrence, told}
 use Rattle.pg_gateway.specs.Shown.{Goes}
-use Rattle.pg_gateway.specs.Frugal.{Frugal, MayCopy}
+use Rattle.pg_gateway.specs.Frugal.{Frugal}
+use Rattle.pg_gateway.specs.Taking.{MayCopy}
 use Rattle.pg_gateway.proofs.kernel.Kernel.step.Goals as goal
 
 pub returns-in-Grant-clause-goes : goal.returns-in-Grant-clause-goes

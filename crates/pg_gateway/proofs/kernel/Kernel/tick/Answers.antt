@@ -1,5 +1,6 @@
 use Rattle.std.proofs.Common.{sym, subst}
-use Rattle.pg_gateway.specs.Taking.{Awaits, HasNone, AllSeats}
+use Rattle.pg_gateway.specs.Taking.{Awaits, HasNone}
+use Rattle.pg_gateway.specs.Frugal.{AllSeats}
 use Rattle.pg_gateway.specs.Sharing.{ticks}
 use Rattle.pg_gateway.proofs.AllLaws.{seats-map, awaits_tick}
 use Rattle.pg_gateway.proofs.kernel.Kernel.tick.Goals as goal

@@ -1,19 +1,15 @@
-use Rattle.std.proofs.Common.{true≢false, sym, ap, ◌∙◌}
+use Rattle.std.proofs.Common.{sym, ap, ◌∙◌}
+use Rattle.std.proofs.lemmas.Result.{err_from_is_err_and}
 use Rattle.pg_session.specs.Events.{announced_at}
 use Rattle.pg_gateway.specs.Sharing.{announces, share}
-use Rattle.pg_gateway.proofs.Taking.{announced_none, announced_share, fit_at, lays, lays_none, needless_at}
+use Rattle.pg_gateway.proofs.Taking.{announced_none, announced_share, fit_at, lays_nothing, lays_some, lays_refused}
 use Rattle.pg_gateway.proofs.seat.Seat.lay_announced.Goals as goal
 
-pub returns-then-not-hold-clause-laid : goal.returns-then-not-hold-clause-laid
-returns-then-not-hold-clause-laid c =
+pub returns-then-not-hold-clause-lays : goal.returns-then-not-hold-clause-lays
+returns-then-not-hold-clause-lays c =
     let none = announced_none c.args.config.now c.args.places.now c.hold.new.held.items c.self.inside.subscriber.own.grants c.hold.ensures.held (c.hold.ensures.none c.if-not-hold.true) in
-    let had = rw (← c.self.view_is) at c.requires.none in
-    lays_none c.self.inside.subscriber _ (ap (λ v. share (announces (announced_at c.args.config.now c.args.places.now)) v.subscriber.own.grants) (sym c.self.view_is) ∙ none) had.0
-
-pub returns-then-not-hold-clause-spared : goal.returns-then-not-hold-clause-spared
-returns-then-not-hold-clause-spared c = λ spared.
-    let none = announced_none c.args.config.now c.args.places.now c.hold.new.held.items c.self.inside.subscriber.own.grants c.hold.ensures.held (c.hold.ensures.none c.if-not-hold.true) in
-    ap (λ v. share (announces (announced_at c.args.config.now c.args.places.now)) v.subscriber.own.grants) (sym c.self.view_is) ∙ none
+    lays_nothing (announces (announced_at c.args.config.now c.args.places.now)) c.args.self.now _ c.self.view_is c.requires.none
+    (ap (λ v. share (announces (announced_at c.args.config.now c.args.places.now)) v.subscriber.own.grants) (sym c.self.view_is) ∙ none)
 
 pub copies-requires : goal.copies-requires
 copies-requires c =
@@ -27,14 +23,19 @@ copies-requires c =
       };
     }
 
-pub returns-in_err-copies-clause-needless : goal.returns-in_err-copies-clause-needless
-returns-in_err-copies-clause-needless c = λ needs.
+pub returns-in_err-copies-clause-lays : goal.returns-in_err-copies-clause-lays
+returns-in_err-copies-clause-lays c =
     let some = announced_share c.args.config.now c.args.places.now c.hold.new.held.items c.self.inside.subscriber.own.grants c.hold.ensures.held c.hold.ensures.rising (c.hold.ensures.some c.if-not-hold.false) in
-    let own = rw (← c.self.view_is) at needs in
-    absurd (true≢false (sym (c.in_err-copies.ensures.needless (rw c.deref.ensures.value (needless_at c.self.inside.subscriber _ _ some own)))))
+    let needless = rw c.deref.ensures.value at c.in_err-copies.ensures.needless in
+    let err = err_from_is_err_and c.from_residual.result c.from_residual.ensures.1 in
+    rw (err.1, err.2) (lays_refused (announces (announced_at c.args.config.now c.args.places.now)) c.args.self.now _ _ _ c.copies.new.self c.self.view_is
+    (ap (λ v. share (announces (announced_at c.args.config.now c.args.places.now)) v.subscriber.own.grants) (sym c.self.view_is) ∙ some)
+    c.in_err-copies.ensures.memory needless c.copies.ensures.own)
 
-pub returns-clause-laid : goal.returns-clause-laid
-returns-clause-laid c =
+pub returns-clause-lays : goal.returns-clause-lays
+returns-clause-lays c =
     let some = announced_share c.args.config.now c.args.places.now c.hold.new.held.items c.self.inside.subscriber.own.grants c.hold.ensures.held c.hold.ensures.rising (c.hold.ensures.some c.if-not-hold.false) in
     let ready = rw c.deref.ensures.value at c.in_ok-copies.ensures.ready in
-    lays c.copies.new.self _ _ (ap (λ v. share (announces (announced_at c.args.config.now c.args.places.now)) v.subscriber.own.grants) (sym c.self.view_is) ∙ some) ready
+    lays_some (announces (announced_at c.args.config.now c.args.places.now)) c.args.self.now _ _ c.copies.new.self c.self.view_is c.requires.none
+    (ap (λ v. share (announces (announced_at c.args.config.now c.args.places.now)) v.subscriber.own.grants) (sym c.self.view_is) ∙ some)
+    ready c.copies.ensures.own

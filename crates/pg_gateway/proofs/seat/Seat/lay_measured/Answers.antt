@@ -1,20 +1,16 @@
-use Rattle.std.proofs.Common.{true≢false, sym, ap, ◌∙◌}
+use Rattle.std.proofs.Common.{sym, ap, ◌∙◌}
+use Rattle.std.proofs.lemmas.Result.{err_from_is_err_and}
 use Rattle.std.specs.Arc.{arc_value}
 use Rattle.pg_gateway.specs.Sharing.{share}
 use Rattle.pg_gateway.specs.Taking.{measured}
-use Rattle.pg_gateway.proofs.Taking.{measured_none, measured_share, fit_at, lays, lays_none, needless_at}
+use Rattle.pg_gateway.proofs.Taking.{measured_none, measured_share, fit_at, lays_nothing, lays_some, lays_refused}
 use Rattle.pg_gateway.proofs.seat.Seat.lay_measured.Goals as goal
 
-pub returns-then-not-hold_blocks-clause-laid : goal.returns-then-not-hold_blocks-clause-laid
-returns-then-not-hold_blocks-clause-laid c =
+pub returns-then-not-hold_blocks-clause-lays : goal.returns-then-not-hold_blocks-clause-lays
+returns-then-not-hold_blocks-clause-lays c =
     let none = measured_none (arc_value c.args.frame.now) c.args.places.now c.hold_blocks.new.held.items c.self.inside.subscriber.own.grants c.hold_blocks.ensures.held (c.hold_blocks.ensures.none c.if-not-hold_blocks.true) in
-    let had = rw (← c.self.view_is) at c.requires.none in
-    lays_none c.self.inside.subscriber _ (ap (λ v. share (measured (arc_value c.args.frame.now) c.args.places.now) v.subscriber.own.grants) (sym c.self.view_is) ∙ none) had.0
-
-pub returns-then-not-hold_blocks-clause-spared : goal.returns-then-not-hold_blocks-clause-spared
-returns-then-not-hold_blocks-clause-spared c = λ spared.
-    let none = measured_none (arc_value c.args.frame.now) c.args.places.now c.hold_blocks.new.held.items c.self.inside.subscriber.own.grants c.hold_blocks.ensures.held (c.hold_blocks.ensures.none c.if-not-hold_blocks.true) in
-    ap (λ v. share (measured (arc_value c.args.frame.now) c.args.places.now) v.subscriber.own.grants) (sym c.self.view_is) ∙ none
+    lays_nothing (measured (arc_value c.args.frame.now) c.args.places.now) c.args.self.now _ c.self.view_is c.requires.none
+    (ap (λ v. share (measured (arc_value c.args.frame.now) c.args.places.now) v.subscriber.own.grants) (sym c.self.view_is) ∙ none)
 
 pub copies-requires : goal.copies-requires
 copies-requires c =
@@ -28,14 +24,19 @@ copies-requires c =
       };
     }
 
-pub returns-in_err-copies-clause-needless : goal.returns-in_err-copies-clause-needless
-returns-in_err-copies-clause-needless c = λ needs.
+pub returns-in_err-copies-clause-lays : goal.returns-in_err-copies-clause-lays
+returns-in_err-copies-clause-lays c =
     let some = measured_share (arc_value c.args.frame.now) c.args.places.now c.hold_blocks.new.held.items c.self.inside.subscriber.own.grants c.hold_blocks.ensures.held c.hold_blocks.ensures.rising (c.hold_blocks.ensures.some c.if-not-hold_blocks.false) in
-    let own = rw (← c.self.view_is) at needs in
-    absurd (true≢false (sym (c.in_err-copies.ensures.needless (rw c.deref.ensures.value (needless_at c.self.inside.subscriber _ _ some own)))))
+    let needless = rw c.deref.ensures.value at c.in_err-copies.ensures.needless in
+    let err = err_from_is_err_and c.from_residual.result c.from_residual.ensures.1 in
+    rw (err.1, err.2) (lays_refused (measured (arc_value c.args.frame.now) c.args.places.now) c.args.self.now _ _ _ c.copies.new.self c.self.view_is
+    (ap (λ v. share (measured (arc_value c.args.frame.now) c.args.places.now) v.subscriber.own.grants) (sym c.self.view_is) ∙ some)
+    c.in_err-copies.ensures.memory needless c.copies.ensures.own)
 
-pub returns-clause-laid : goal.returns-clause-laid
-returns-clause-laid c =
+pub returns-clause-lays : goal.returns-clause-lays
+returns-clause-lays c =
     let some = measured_share (arc_value c.args.frame.now) c.args.places.now c.hold_blocks.new.held.items c.self.inside.subscriber.own.grants c.hold_blocks.ensures.held c.hold_blocks.ensures.rising (c.hold_blocks.ensures.some c.if-not-hold_blocks.false) in
     let ready = rw c.deref.ensures.value at c.in_ok-copies.ensures.ready in
-    lays c.copies.new.self _ _ (ap (λ v. share (measured (arc_value c.args.frame.now) c.args.places.now) v.subscriber.own.grants) (sym c.self.view_is) ∙ some) ready
+    lays_some (measured (arc_value c.args.frame.now) c.args.places.now) c.args.self.now _ _ c.copies.new.self c.self.view_is c.requires.none
+    (ap (λ v. share (measured (arc_value c.args.frame.now) c.args.places.now) v.subscriber.own.grants) (sym c.self.view_is) ∙ some)
+    ready c.copies.ensures.own

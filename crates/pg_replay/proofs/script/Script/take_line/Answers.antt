@@ -1,6 +1,6 @@
 use Rattle.std.proofs.Common.{Some, sym, subst}
 use Rattle.pg_replay.specs.Lines.{asked}
-use Rattle.pg_replay.specs.Replaying.{DoesAsked}
+use Rattle.pg_replay.specs.Answering.{DoesAsked}
 use Rattle.pg_replay.proofs.ReplayLaws.{does-nothing, does-queue, does-link, does-session}
 use Rattle.pg_replay.proofs.script.Script.take_line.Goals as goal
 

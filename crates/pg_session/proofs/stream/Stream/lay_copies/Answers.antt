@@ -4,7 +4,7 @@ use Rattle.pg_data.specs.Shared.{Piece}
 use Rattle.pg_align.specs.Slots.{Aligned}
 use Rattle.pg_session.specs.Events.{samples_at}
 use Rattle.pg_session.specs.Streams.{StreamOf}
-use Rattle.pg_session.specs.Fields.{wanted_of}
+use Rattle.pg_session.specs.Wanted.{wanted_of}
 use Rattle.pg_session.proofs.Laying.{on_wanted}
 use Rattle.pg_session.proofs.stream.Stream.lay_copies.Goals as goal
 

@@ -8,7 +8,8 @@ use Rattle.pg_session.specs.Events as event
 use Rattle.pg_session.specs.Private.{done, told, next}
 use Rattle.pg_session.specs.Streams.{reshape_turn}
 use Rattle.pg_session.specs.Kept.{by_slots, by_gaps}
-use Rattle.pg_session.specs.Fields.{AreFitted, stream_after, granted_wanted}
+use Rattle.pg_session.specs.Fields.{AreFitted, stream_after}
+use Rattle.pg_session.specs.Wanted.{granted_wanted}
 use Rattle.pg_session.specs.Shown.{Own, SubscriberValue}
 use Rattle.pg_session.specs.Steps.{Steps}
 use Rattle.pg_session.specs.Taking.{Taken}

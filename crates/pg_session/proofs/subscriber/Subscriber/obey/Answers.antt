@@ -5,7 +5,7 @@ use Rattle.pg_session.specs.Kept.{by_slots, by_gaps}
 use Rattle.pg_session.specs.Fields.{AreFitted}
 use Rattle.pg_session.specs.Shown.{Own, SubscriberValue}
 use Rattle.pg_session.specs.Sending.{Sending}
-use Rattle.pg_session.specs.Steps.{Obeys}
+use Rattle.pg_session.specs.Fields.{Obeys}
 use Rattle.pg_session.proofs.Fitting.{whole_slice}
 use Rattle.pg_session.proofs.Obeying.{fitted_switched, obeys_question}
 use Rattle.pg_session.proofs.subscriber.Subscriber.obey.Goals as goal

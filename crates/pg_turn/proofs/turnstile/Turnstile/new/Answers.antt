@@ -1,6 +1,6 @@
 use Rattle.std.proofs.Common.{rules, ◌≡◌, [], ◌∷◌, sym, subst, Some, List, Option}
 use Rattle.atomic_table.specs.Table.{opening}
-use Rattle.pg_turn.specs.Turns.{Kept, newcomer}
+use Rattle.pg_turn.specs.Steps.{Kept, newcomer}
 use Rattle.pg_turn.proofs.Turning.{opens}
 use Rattle.pg_turn.proofs.turnstile.Turnstile.new.Goals as goal
 

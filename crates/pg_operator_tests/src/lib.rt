@@ -1,0 +1,5 @@
+//! Tests of pg_operator, as its callers see it. They stand in a crate of their own, so that the gate proves pg_operator once.
+#![tactic(auto)]
+
+#[cfg(test)]
+mod tests;

@@ -1,0 +1,668 @@
+use pg_gateway::Edit;
+use pg_operator::{Setup, parse_line, read_setup, words};
+use pg_wire::{PmuKey, Refusal};
+use std::alloc::{AllocError, Global};
+use std::test::*;
+
+/// A key as it is written.
+fn key(alloc: Global, key: &PmuKey) -> Result<String, AllocError> {
+    format!(in alloc; "{}/{}", key.source.get(), key.pmu.get())
+}
+
+/// An edit as a line, with each key as `S/P`, the limit in bytes, and the header as the number of its bytes.
+fn told(alloc: Global, edit: &Edit) -> Result<String, AllocError> {
+    match edit {
+        Edit::AddPmu(pmu) => format!(in alloc; "addpmu {}", key(alloc, pmu)?),
+        Edit::DropPmu(pmu) => format!(in alloc; "droppmu {}", key(alloc, pmu)?),
+        Edit::AddSub(id, size, bytes) => {
+            format!(in alloc; "addsub {} {} {}", id.get(), size.get(), bytes.get())
+        }
+        Edit::DropSub(id) => format!(in alloc; "dropsub {}", id.get()),
+        Edit::Grant(id, pmu) => format!(in alloc; "grant {} {}", id.get(), key(alloc, pmu)?),
+        Edit::Revoke(id, pmu) => format!(in alloc; "revoke {} {}", id.get(), key(alloc, pmu)?),
+        Edit::Define(id, made) => {
+            let mut text = format!(in alloc;
+                "define {} {} {} {} {} {} {}",
+                id.get(),
+                made.stream.get(),
+                made.rate,
+                made.base,
+                made.wait,
+                made.window,
+                made.header.as_slice().len()
+            )?;
+            for pmu in made.members.as_slice() {
+                text = format!(in alloc; "{} {}", text, key(alloc, pmu)?)?;
+            }
+            Ok(text)
+        }
+        Edit::Remove(id, stream) => format!(in alloc; "remove {} {}", id.get(), stream.get()),
+        Edit::Stats(id) => format!(in alloc; "stats {}", id.get()),
+        Edit::PmuStats(pmu) => format!(in alloc; "pmustats {}", key(alloc, pmu)?),
+        Edit::Audit(id, index) => format!(in alloc; "audit {} {}", id.get(), index),
+    }
+}
+
+/// Lines, each with what it asks for behind ` => `; nothing stands there where it is `BadLine`. The worked rows come first, then
+/// words and spaces, numbers, keys, rings, the other verbs, and definitions, whose limits are not looked at.
+const LINES: &str = "\
+grant 1 7 => grant 1 7/7\n\
+grant 1 => \n\
+grant 1 0 => \n\
+grant 01 7 => \n\
+grant 1 65535 => \n\
+addsub 1 4 15 => \n\
+\x20=> \n\
+\x20\x20\x20\x20=> \n\
+# grant 1 7 => \n\
+\x20\x20grant   1  7  => grant 1 7/7\n\
+grant\t1 7 => \n\
+grant 1 7\r => \n\
+grant 1 7 8 => \n\
+GRANT 1 7 => \n\
+grantee 1 7 => \n\
+help => \n\
+help grant => \n\
+quit => \n\
+--help => \n\
+grant --help => \n\
+grant -- 1 7 => \n\
+grant 1 -7 => \n\
+-grant 1 7 => \n\
+linkup 7 => \n\
+tick 100 => \n\
+dropsub 1 => dropsub 1\n\
+dropsub 65535 => dropsub 65535\n\
+dropsub 0 => \n\
+dropsub 65536 => \n\
+dropsub +1 => \n\
+dropsub 0x1 => \n\
+dropsub 00000000001 => \n\
+dropsub 4294967297 => \n\
+dropsub 99999999999999999999 => \n\
+dropsub => \n\
+addpmu 65534 => addpmu 65534/65534\n\
+addpmu 3/7 => addpmu 3/7\n\
+addpmu 7/7 => addpmu 7/7\n\
+addpmu 3/ => \n\
+addpmu /7 => \n\
+addpmu 3/7/1 => \n\
+addpmu 0/7 => \n\
+addpmu 7/65535 => \n\
+addpmu 03/7 => \n\
+droppmu 3/7 => droppmu 3/7\n\
+revoke 2 3/7 => revoke 2 3/7\n\
+pmustats 9 => pmustats 9/9\n\
+addsub 1 4 => addsub 1 4 16777216\n\
+addsub 1 1024 16 => addsub 1 1024 16\n\
+addsub 1 1 16777216 => addsub 1 1 16777216\n\
+addsub 1 0 => \n\
+addsub 1 1025 => \n\
+addsub 1 4 16777217 => \n\
+addsub 1 4 16 1 => \n\
+addsub 1 => \n\
+remove 1 101 => remove 1 101\n\
+remove 1 65535 => \n\
+stats 1 => stats 1\n\
+stats => \n\
+audit 1 0 => audit 1 0\n\
+audit 1 63 => audit 1 63\n\
+audit 1 64 => \n\
+define 1 101 30 1000000 0 4 none 7 => define 1 101 30 1000000 0 4 0 7/7\n\
+define 1 101 255 4294967295 4294967295 4294967295 00fF 7 7/7 3/8 => define 1 101 255 4294967295 4294967295 4294967295 2 7/7 7/7 3/8\n\
+define 1 101 0 0 0 0 80 7 => define 1 101 0 0 0 0 1 7/7\n\
+define 1 101 256 1 0 4 none 7 => \n\
+define 1 101 30 4294967296 0 4 none 7 => \n\
+define 1 101 30 1000000 0 4 none => \n\
+define 1 101 30 1000000 0 4 None 7 => \n\
+define 1 101 30 1000000 0 4 0 7 => \n\
+define 1 101 30 1000000 0 4 0g 7 => \n\
+define 1 101 30 1000000 0 4 00+ 7 => \n\
+define 1 0 30 1000000 0 4 none 7 => \n\
+define 1 1 1 1 1 1 none 1 2 3 4 5 6 7 8 9 10 11 12 13 14 15 16 17 18 19 20 21 22 23 24 25 26 27 28 29 30 31 32 33 => ";
+
+#[test]
+fn lines_and_setup_lines(rt: HostRuntime) -> Result<(), Fail> {
+    assert_eq!(rt; LINES.split('\n').count(), 74);
+    for row in LINES.split('\n') {
+        let (line, want) = row.split_once(" => ").ok_or("a row")?;
+        let got = match parse_line(rt.alloc(), line) {
+            Ok(edit) => told(rt.alloc(), &edit)?,
+            Err(refusal) => {
+                assert_eq!(rt; refusal, Refusal::BadLine);
+                String::new(rt.alloc())
+            }
+        };
+        assert_eq!(rt; got.as_str(), want, "at {line:?}");
+    }
+    Ok(())
+}
+
+/// The setup file of the worked row.
+const SETUP: &str =
+    "tick_ms = 10\ningest = 1\nserve = 1\n[[pmu]]\nid = 7\nconnect = \"127.0.0.1:4712\"\n[[subscriber]]\nid = 1\nport = 4800\nring = 64\ngrants = [7]\n[[subscriber.stream]]\nid = 101\nrate = 30\nbase = 1000000\nwait = 2\nwindow = 4\nheader = \"\"\nmembers = [7]\n";
+
+/// A setup as text: its edits, then its links, its ports and its numbers.
+fn setup_told(alloc: Global, setup: &Setup) -> Result<String, AllocError> {
+    let mut text = String::new(alloc);
+    for edit in setup.edits.as_slice() {
+        text = format!(in alloc; "{}{}; ", text, told(alloc, edit)?)?;
+    }
+    for link in setup.links.as_slice() {
+        text = format!(in alloc; "{}link {} {}; ", text, link.0.get(), link.1)?;
+    }
+    for port in setup.ports.as_slice() {
+        text = format!(in alloc; "{}port {} {}; ", text, port.0.get(), port.1)?;
+    }
+    format!(in alloc;
+        "{}{} {} {}",
+        text, setup.tick_ms, setup.ingest, setup.serve
+    )
+}
+
+#[test]
+fn lines_and_setup_file(rt: HostRuntime) -> Result<(), Fail> {
+    let got = match read_setup(rt.alloc(), SETUP) {
+        Ok(setup) => setup_told(rt.alloc(), &setup)?,
+        Err(_) => String::new(rt.alloc()),
+    };
+    assert_eq!(rt;
+        got.as_str(),
+        "addpmu 7/7; addsub 1 64 16777216; grant 1 7/7; define 1 101 30 1000000 2 4 0 7/7; link 7 127.0.0.1:4712; port 1 4800; 10 1 1"
+    );
+    Ok(())
+}
+
+/// Setup files, each with what it asks for behind a line `=>`; nothing stands there where it is `BadSetup`. They are parted by a line
+/// `====`.
+const FILES: &str = "\
+[[pmu]]\n\
+id=7\n\
+[[subscriber]]\n\
+id=1\n\
+ring=4\n\
+=>addpmu 7/7; addsub 1 4 16777216; 10 1 1\n\
+====\n\
+tick_ms=1000\n\
+ingest=8\n\
+serve=8\n\
+[[pmu]]\n\
+id=7\n\
+[[subscriber]]\n\
+id=1\n\
+ring=4\n\
+=>addpmu 7/7; addsub 1 4 16777216; 1000 8 8\n\
+====\n\
+tick_ms=0\n\
+[[pmu]]\n\
+id=7\n\
+[[subscriber]]\n\
+id=1\n\
+ring=4\n\
+=>\n\
+====\n\
+tick_ms=1001\n\
+[[pmu]]\n\
+id=7\n\
+[[subscriber]]\n\
+id=1\n\
+ring=4\n\
+=>\n\
+====\n\
+tick_ms=\"10\"\n\
+[[pmu]]\n\
+id=7\n\
+[[subscriber]]\n\
+id=1\n\
+ring=4\n\
+=>\n\
+====\n\
+tick_ms=10.0\n\
+[[pmu]]\n\
+id=7\n\
+[[subscriber]]\n\
+id=1\n\
+ring=4\n\
+=>\n\
+====\n\
+ingest=0\n\
+[[pmu]]\n\
+id=7\n\
+[[subscriber]]\n\
+id=1\n\
+ring=4\n\
+=>\n\
+====\n\
+serve=9\n\
+[[pmu]]\n\
+id=7\n\
+[[subscriber]]\n\
+id=1\n\
+ring=4\n\
+=>\n\
+====\n\
+other=1\n\
+[[pmu]]\n\
+id=7\n\
+[[subscriber]]\n\
+id=1\n\
+ring=4\n\
+=>\n\
+====\n\
+tick_ms=\n\
+[[pmu]]\n\
+id=7\n\
+[[subscriber]]\n\
+id=1\n\
+ring=4\n\
+=>\n\
+====\n\
+tick_ms=1\n\
+tick_ms=1\n\
+[[pmu]]\n\
+id=7\n\
+[[subscriber]]\n\
+id=1\n\
+ring=4\n\
+=>\n\
+====\n\
+[[pmu]]\n\
+\n\
+[[subscriber]]\n\
+id=1\n\
+ring=4\n\
+=>\n\
+====\n\
+[[pmu]]\n\
+id=0\n\
+[[subscriber]]\n\
+id=1\n\
+ring=4\n\
+=>\n\
+====\n\
+[[pmu]]\n\
+id=65535\n\
+[[subscriber]]\n\
+id=1\n\
+ring=4\n\
+=>\n\
+====\n\
+[[pmu]]\n\
+id=-7\n\
+[[subscriber]]\n\
+id=1\n\
+ring=4\n\
+=>\n\
+====\n\
+[[pmu]]\n\
+id=7\n\
+port=1\n\
+[[subscriber]]\n\
+id=1\n\
+ring=4\n\
+=>\n\
+====\n\
+[[pmu]]\n\
+id=7\n\
+source=3\n\
+[[subscriber]]\n\
+id=1\n\
+ring=4\n\
+=>addpmu 3/7; addsub 1 4 16777216; 10 1 1\n\
+====\n\
+[[pmu]]\n\
+id=7\n\
+source=0\n\
+[[subscriber]]\n\
+id=1\n\
+ring=4\n\
+=>\n\
+====\n\
+[[pmu]]\n\
+id=7\n\
+connect=\"255.0.10.1:65535\"\n\
+[[subscriber]]\n\
+id=1\n\
+ring=4\n\
+=>addpmu 7/7; addsub 1 4 16777216; link 7 255.0.10.1:65535; 10 1 1\n\
+====\n\
+[[pmu]]\n\
+id=7\n\
+connect=\"256.0.0.1:1\"\n\
+[[subscriber]]\n\
+id=1\n\
+ring=4\n\
+=>\n\
+====\n\
+[[pmu]]\n\
+id=7\n\
+connect=\"1.0.0.1:0\"\n\
+[[subscriber]]\n\
+id=1\n\
+ring=4\n\
+=>\n\
+====\n\
+[[pmu]]\n\
+id=7\n\
+connect=\"1.0.0.1\"\n\
+[[subscriber]]\n\
+id=1\n\
+ring=4\n\
+=>\n\
+====\n\
+[[pmu]]\n\
+id=7\n\
+connect=\"1.0.1:1\"\n\
+[[subscriber]]\n\
+id=1\n\
+ring=4\n\
+=>\n\
+====\n\
+[[pmu]]\n\
+id=7\n\
+connect=\"1.0.0.1.1:1\"\n\
+[[subscriber]]\n\
+id=1\n\
+ring=4\n\
+=>\n\
+====\n\
+[[pmu]]\n\
+id=7\n\
+connect=\"01.0.0.1:1\"\n\
+[[subscriber]]\n\
+id=1\n\
+ring=4\n\
+=>\n\
+====\n\
+[[pmu]]\n\
+id=7\n\
+connect=\"host:1\"\n\
+[[subscriber]]\n\
+id=1\n\
+ring=4\n\
+=>\n\
+====\n\
+[[pmu]]\n\
+id=7\n\
+connect=7\n\
+[[subscriber]]\n\
+id=1\n\
+ring=4\n\
+=>\n\
+====\n\
+[[pmu]]\n\
+id=7\n\
+[[pmu]]\n\
+id=8\n\
+source=7\n\
+connect=\"1.0.0.1:1\"\n\
+[[subscriber]]\n\
+id=1\n\
+ring=4\n\
+=>addpmu 7/7; addpmu 7/8; addsub 1 4 16777216; link 7 1.0.0.1:1; 10 1 1\n\
+====\n\
+[[pmu]]\n\
+id=7\n\
+connect=\"1.0.0.1:1\"\n\
+[[pmu]]\n\
+id=8\n\
+source=7\n\
+connect=\"1.0.0.1:1\"\n\
+[[subscriber]]\n\
+id=1\n\
+ring=4\n\
+=>\n\
+====\n\
+[[pmu]]\n\
+id=7\n\
+[[subscriber]]\n\
+ring=4\n\
+=>\n\
+====\n\
+[[pmu]]\n\
+id=7\n\
+[[subscriber]]\n\
+id=1\n\
+=>\n\
+====\n\
+[[pmu]]\n\
+id=7\n\
+[[subscriber]]\n\
+id=1\n\
+ring=0\n\
+=>\n\
+====\n\
+[[pmu]]\n\
+id=7\n\
+[[subscriber]]\n\
+id=1\n\
+ring=1025\n\
+=>\n\
+====\n\
+[[pmu]]\n\
+id=7\n\
+[[subscriber]]\n\
+id=0\n\
+ring=4\n\
+=>\n\
+====\n\
+[[pmu]]\n\
+id=7\n\
+[[subscriber]]\n\
+id=1\n\
+ring=4\n\
+bytes=16\n\
+=>addpmu 7/7; addsub 1 4 16; 10 1 1\n\
+====\n\
+[[pmu]]\n\
+id=7\n\
+[[subscriber]]\n\
+id=1\n\
+ring=4\n\
+bytes=15\n\
+=>\n\
+====\n\
+[[pmu]]\n\
+id=7\n\
+[[subscriber]]\n\
+id=1\n\
+ring=4\n\
+port=0\n\
+=>\n\
+====\n\
+[[pmu]]\n\
+id=7\n\
+[[subscriber]]\n\
+id=1\n\
+ring=4\n\
+name=\"a\"\n\
+=>\n\
+====\n\
+[[pmu]]\n\
+id=7\n\
+[[subscriber]]\n\
+id=1\n\
+ring=4\n\
+grants=[7, \"3/8\"]\n\
+=>addpmu 7/7; addsub 1 4 16777216; grant 1 7/7; grant 1 3/8; 10 1 1\n\
+====\n\
+[[pmu]]\n\
+id=7\n\
+[[subscriber]]\n\
+id=1\n\
+ring=4\n\
+grants=7\n\
+=>\n\
+====\n\
+[[pmu]]\n\
+id=7\n\
+[[subscriber]]\n\
+id=1\n\
+ring=4\n\
+grants=[0]\n\
+=>\n\
+====\n\
+[[pmu]]\n\
+id=7\n\
+[[subscriber]]\n\
+id=1\n\
+ring=4\n\
+grants=[\"3\"]\n\
+=>\n\
+====\n\
+[[pmu]]\n\
+id=7\n\
+[[subscriber]]\n\
+id=1\n\
+ring=4\n\
+port=5\n\
+[[subscriber]]\n\
+id=2\n\
+ring=1\n\
+port=6\n\
+=>addpmu 7/7; addsub 1 4 16777216; addsub 2 1 16777216; port 1 5; port 2 6; 10 1 1\n\
+====\n\
+[[pmu]]\n\
+id=7\n\
+[[subscriber]]\n\
+id=1\n\
+ring=4\n\
+grants=[7]\n\
+[[subscriber.stream]]\n\
+id=1\n\
+rate=30\n\
+base=100\n\
+wait=0\n\
+window=4\n\
+members=[7, \"3/8\"]\n\
+header=\"ab\"\n\
+=>addpmu 7/7; addsub 1 4 16777216; grant 1 7/7; define 1 1 30 100 0 4 2 7/7 3/8; 10 1 1\n\
+====\n\
+[[pmu]]\n\
+id=7\n\
+[[subscriber]]\n\
+id=1\n\
+ring=4\n\
+[[subscriber.stream]]\n\
+id=1\n\
+rate=30\n\
+base=100\n\
+wait=0\n\
+window=4\n\
+members=[]\n\
+=>\n\
+====\n\
+[[pmu]]\n\
+id=7\n\
+[[subscriber]]\n\
+id=1\n\
+ring=4\n\
+[[subscriber.stream]]\n\
+id=1\n\
+rate=30\n\
+base=100\n\
+wait=0\n\
+window=4\n\
+header=\"\"\n\
+=>\n\
+====\n\
+[[pmu]]\n\
+id=7\n\
+[[subscriber]]\n\
+id=1\n\
+ring=4\n\
+[[subscriber.stream]]\n\
+id=1\n\
+rate=30\n\
+base=100\n\
+wait=0\n\
+window=4\n\
+members=[7]\n\
+header=1\n\
+=>\n\
+====\n\
+[[pmu]]\n\
+id=7\n\
+[[subscriber]]\n\
+id=1\n\
+ring=4\n\
+[[subscriber.stream]]\n\
+id=1\n\
+rate=30\n\
+base=100\n\
+wait=0\n\
+window=4\n\
+members=[7]\n\
+other=1\n\
+=>\n\
+====\n\
+=>\n\
+====\n\
+[[pmu]]\n\
+id=7\n\
+=>\n\
+====\n\
+[[subscriber]]\n\
+id=1\n\
+ring=4\n\
+=>\n\
+====\n\
+pmu=1\n\
+subscriber=1\n\
+=>\n\
+====\n\
+[pmu]\n\
+id=7\n\
+[[subscriber]]\n\
+id=1\n\
+ring=4\n\
+=>";
+
+#[test]
+fn setup_files(rt: HostRuntime) -> Result<(), Fail> {
+    assert_eq!(rt; FILES.split("\n====\n").count(), 53);
+    for file in FILES.split("\n====\n") {
+        let (text, want) = file.split_once("=>").ok_or("a file")?;
+        let got = match read_setup(rt.alloc(), text) {
+            Ok(setup) => setup_told(rt.alloc(), &setup)?,
+            Err(refusal) => {
+                assert_eq!(rt; refusal, Refusal::BadSetup);
+                String::new(rt.alloc())
+            }
+        };
+        assert_eq!(rt; got.as_str(), want, "at {text:?}");
+    }
+    Ok(())
+}
+
+#[test]
+fn frames_in_hexadecimal(rt: HostRuntime) -> Result<(), Fail> {
+    let rows = [
+        ("AA420012006500000064000000000005+", 18),
+        ("aa420012006500000064000000000005CBF9", 18),
+        ("0a", 1),
+        ("", 0),
+        ("+", 0),
+        ("0", 0),
+        ("0+", 0),
+        ("00++", 0),
+        ("0+0", 0),
+        ("0g", 0),
+    ];
+    for (word, len) in rows {
+        match words::frame_bytes(rt.alloc(), word.as_bytes()) {
+            Ok(bytes) => {
+                assert_eq!(rt; bytes.len(), len, "at {word}");
+                assert!(rt;
+                    len != 18 || bytes.ends_with(&[0x05, 0xCB, 0xF9]),
+                    "at {word}"
+                );
+            }
+            Err(refusal) => {
+                assert_eq!(rt; refusal, Refusal::BadLine);
+                assert_eq!(rt; 0, len, "at {word}");
+            }
+        }
+    }
+    Ok(())
+}

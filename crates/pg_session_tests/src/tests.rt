@@ -1,0 +1,497 @@
+use pg_command::Command;
+use pg_config::{SourceConfig, read_config};
+use pg_data::{DataFrame, read_data};
+use pg_ring::{RingBytes, RingSize};
+use pg_session::*;
+use pg_stream::{Definition, HeaderText, Members};
+use pg_wire::{PmuId, PmuKey, Refusal, StreamId, SubId, check, is_frame};
+use std::alloc::{AllocError, Global};
+use std::process::Abort;
+use std::sync::Arc;
+use std::test::*;
+
+// The CFG-2 of source 7 up to its block, and that block: station PMU 7, one phasor VA.
+const CONFIG_7: [u8; 20] = [
+    0xAA, 0x32, 0x00, 0x4A, 0x00, 0x07, 0x00, 0x00, 0x00, 0x64, 0x00, 0x00, 0x00, 0x00, 0x00, 0x0F,
+    0x42, 0x40, 0x00, 0x01,
+];
+
+const BLOCK_7: [u8; 50] =
+    *b"PMU 7           \x00\x07\x00\x00\x00\x01\x00\x00\x00\x00VA              \x00\x00\x00\x01\x00\x00\x00\x00";
+
+// The CFG-2 of source 8 up to its block, and that block up to its sixteen names: station PMU 8, one digital word.
+const CONFIG_8: [u8; 20] = [
+    0xAA, 0x32, 0x01, 0x3A, 0x00, 0x08, 0x00, 0x00, 0x00, 0x64, 0x00, 0x00, 0x00, 0x00, 0x00, 0x0F,
+    0x42, 0x40, 0x00, 0x01,
+];
+
+const BLOCK_8: [u8; 26] = *b"PMU 8           \x00\x08\x00\x00\x00\x00\x00\x00\x00\x01";
+
+// DATA_RATE of both.
+const RATE: [u8; 2] = [0x00, 0x1E];
+
+// The data block of PMU 7, and that of PMU 8.
+const DATA_7: [u8; 10] = [0x00, 0x00, 0x10, 0x00, 0x20, 0x00, 0x00, 0x00, 0x00, 0x00];
+
+const DATA_8: [u8; 8] = [0x00, 0x00, 0x00, 0x00, 0x00, 0x00, 0x00, 0x01];
+
+// The header frame of stream 101 with the text `Hello`, before any tick.
+const HEADER_REPLY: [u8; 21] =
+    *b"\xAA\x12\x00\x15\x00\x65\x00\x00\x00\x00\x0F\x00\x00\x00Hello\x17\x45";
+
+// The data frame of stream 102 at SOC 100 and numerator 33,333 with PMU 7's block and a filler for PMU 8's.
+const WITH_FILLER: [u8; 34] =
+    *b"\xAA\x02\x00\x22\x00\x66\x00\x00\x00\x64\x00\x00\x82\x35\x00\x00\x10\x00\x20\x00\x00\x00\x00\x00\x80\x00\x80\x00\x80\x00\x00\x00\x36\xBA";
+
+// The bytes with their CHK behind them.
+fn framed(alloc: Global, parts: &[&[u8]]) -> Result<Vec<u8>, AllocError> {
+    let mut frame = Vec::new(alloc);
+    for part in parts {
+        frame.extend_from_slice(part)?;
+    }
+    let sum = check(&frame);
+    frame.extend_from_slice(&sum.to_be_bytes())?;
+    Ok(frame)
+}
+
+// What is read of a configuration frame.
+fn announced(
+    rt: &impl Abort,
+    alloc: Global,
+    parts: &[&[u8]],
+) -> Result<Arc<SourceConfig>, AllocError> {
+    let frame = framed(alloc, parts).expect(rt, "memory");
+    assert!(rt; is_frame(&frame));
+    Ok(Arc::new(
+        alloc,
+        read_config(alloc, &frame).expect(rt, "memory").config,
+    )
+    .expect(rt, "memory"))
+}
+
+fn source_7(rt: &impl Abort, alloc: Global) -> Result<Arc<SourceConfig>, AllocError> {
+    announced(rt, alloc, &[&CONFIG_7, &BLOCK_7, &RATE])
+}
+
+fn source_8(rt: &impl Abort, alloc: Global) -> Result<Arc<SourceConfig>, AllocError> {
+    let rest = [0, 0, 0xFF, 0xFF, 0, 0, 0, 0];
+    announced(
+        rt,
+        alloc,
+        &[&CONFIG_8, &BLOCK_8, &[b' '; 256], &rest, &RATE],
+    )
+}
+
+// A source's data frame at this SOC and numerator, with these blocks.
+fn measured(
+    rt: &impl Abort,
+    alloc: Global,
+    config: &Arc<SourceConfig>,
+    soc: u32,
+    numerator: u32,
+    blocks: &[u8],
+) -> Result<Arc<DataFrame>, AllocError> {
+    let [_, id] = config.source.get().to_be_bytes();
+    assert!(rt; blocks.len() < 200);
+    let size = 16 + blocks.len() as u8;
+    let head = [0xAA, 0x02, 0x00, size, 0x00, id];
+    let bytes = framed(
+        alloc,
+        &[&head, &soc.to_be_bytes(), &numerator.to_be_bytes(), blocks],
+    )
+    .expect(rt, "memory");
+    assert!(rt; is_frame(&bytes));
+    assert!(rt; bytes.len() >= 16);
+    assert!(rt; bytes[1] / 16 == 0);
+    Ok(read_data(alloc, config, &bytes).expect(rt, "memory"))
+}
+
+// PMU n of source n.
+fn key(number: u16) -> Result<PmuKey, Refusal> {
+    let pmu = PmuId::new(number).ok_or(Refusal::WrongId)?;
+    Ok(PmuKey { source: pmu, pmu })
+}
+
+// A stream of rate 30 and resolution 1,000,000 with the header text `Hello`.
+fn stream(
+    alloc: Global,
+    number: u16,
+    wait: u32,
+    window: u32,
+    members: &[PmuKey],
+) -> Result<Definition, Refusal> {
+    Ok(Definition {
+        stream: StreamId::new(number).ok_or(Refusal::WrongId)?,
+        rate: 30,
+        base: 1_000_000,
+        wait,
+        window,
+        header: HeaderText::new(Vec::from_slice(alloc, b"Hello")?),
+        members: Members::new(Vec::from_slice(alloc, members)?),
+    })
+}
+
+// A connected subscriber with a ring of 4 frames.
+fn subscriber(rt: &impl Abort, alloc: Global) -> Result<Subscriber, AllocError> {
+    let ring = RingSize::new(4).expect(rt, "range");
+    let bytes = RingBytes::new(16_777_216).expect(rt, "range");
+    let mut sub = Subscriber::new(alloc, ring, bytes, None).expect(rt, "memory");
+    done(rt, give(rt, &mut sub, PrivateEvent::Connect), 0);
+    Ok(sub)
+}
+
+// Makes the copies that an event needs, and lets the subscriber take it.
+fn give(rt: &impl Abort, sub: &mut Subscriber, event: PrivateEvent<'_>) -> PrivateReply {
+    assert!(rt; sub.accepts(&event));
+    assert!(rt; sub.copies(&event).is_ok());
+    assert!(rt; sub.accepts(&event));
+    assert!(rt; sub.ready(&event));
+    sub.take(event, false)
+}
+
+// The reply is that it is done, with this many frames made, all of them kept.
+fn done(rt: &impl Abort, reply: PrivateReply, frames: u64) {
+    match reply {
+        PrivateReply::Done { made, kept } => {
+            assert!(rt; made == frames);
+            assert!(rt; kept == frames);
+        }
+        _ => panic!(rt; "not done"),
+    }
+}
+
+// The reply is this refusal.
+fn refused(rt: &impl Abort, reply: PrivateReply, expected: Refusal) {
+    match reply {
+        PrivateReply::Refused(refusal) => assert!(rt; refusal == expected),
+        PrivateReply::Drained {
+            out: Err(refusal),
+            ..
+        } => assert!(rt; refusal == expected),
+        _ => panic!(rt; "not refused"),
+    }
+}
+
+fn command(stream: u16, word: u16) -> PrivateEvent<'static> {
+    PrivateEvent::Command(Command { stream, word })
+}
+
+// Rows command-refusals and header-and-quality.
+#[test]
+fn command_refusals(rt: HostRuntime) {
+    let alloc = rt.alloc();
+    let mut sub = subscriber(&rt, alloc).expect(&rt, "memory");
+    let definition = stream(alloc, 101, 0, 4, &[key(7).expect(&rt, "memory")]).expect(
+        &rt, "memory",
+    );
+    done(
+        &rt,
+        give(&rt, &mut sub, PrivateEvent::Define(definition)),
+        0,
+    );
+    for word in [1, 1, 2, 2] {
+        done(&rt, give(&rt, &mut sub, command(101, word)), 0);
+    }
+    refused(
+        &rt,
+        give(&rt, &mut sub, command(101, 6)),
+        Refusal::Unsupported,
+    );
+    refused(
+        &rt,
+        give(&rt, &mut sub, command(101, 7)),
+        Refusal::UnknownCommand,
+    );
+    refused(
+        &rt,
+        give(&rt, &mut sub, command(999, 6)),
+        Refusal::NoSuchStream,
+    );
+    done(&rt, give(&rt, &mut sub, command(101, 3)), 0);
+    assert!(rt; sub.queue().reply_at(0) == Some(&HEADER_REPLY[..]));
+    refused(
+        &rt,
+        give(&rt, &mut sub, PrivateEvent::Connect),
+        Refusal::Busy,
+    );
+    done(&rt, give(&rt, &mut sub, PrivateEvent::Hangup), 0);
+    let buffer = Vec::from_slice(alloc, &[0; 5]).expect(&rt, "memory");
+    refused(
+        &rt,
+        give(&rt, &mut sub, PrivateEvent::Drain(buffer)),
+        Refusal::NotConnected,
+    );
+    assert!(rt; sub.queue().replies() == 0);
+}
+
+// A subscriber with stream 102 of PMUs 7 and 8, granted, announced and on.
+fn with_two(
+    rt: &impl Abort,
+    alloc: Global,
+    first: &Arc<SourceConfig>,
+    second: &Arc<SourceConfig>,
+    wait: u32,
+    window: u32,
+) -> Result<Subscriber, AllocError> {
+    let mut sub = subscriber(rt, alloc).expect(rt, "memory");
+    for number in [7, 8] {
+        done(
+            rt,
+            give(
+                rt,
+                &mut sub,
+                PrivateEvent::Grant(key(number).expect(rt, "memory"), None),
+            ),
+            0,
+        );
+    }
+    let definition = stream(
+        alloc,
+        102,
+        wait,
+        window,
+        &[key(7).expect(rt, "memory"), key(8).expect(rt, "memory")],
+    )
+    .expect(rt, "memory");
+    done(rt, give(rt, &mut sub, PrivateEvent::Define(definition)), 0);
+    done(
+        rt,
+        give(rt, &mut sub, PrivateEvent::Announce(first, &[0])),
+        0,
+    );
+    done(
+        rt,
+        give(rt, &mut sub, PrivateEvent::Announce(second, &[0])),
+        0,
+    );
+    done(rt, give(rt, &mut sub, command(102, 2)), 0);
+    Ok(sub)
+}
+
+// Rows filler-after-wait and time-end.
+#[test]
+fn filler_after_wait(rt: HostRuntime) {
+    let alloc = rt.alloc();
+    let first = source_7(&rt, alloc).expect(&rt, "memory");
+    let second = source_8(&rt, alloc).expect(&rt, "memory");
+    let mut sub = with_two(&rt, alloc, &first, &second, 2, 4).expect(&rt, "memory");
+    let frame = measured(&rt, alloc, &first, 100, 33_333, &DATA_7).expect(&rt, "memory");
+    done(
+        &rt,
+        give(&rt, &mut sub, PrivateEvent::Measure(&frame, &[0])),
+        0,
+    );
+    done(&rt, give(&rt, &mut sub, PrivateEvent::Tick(100)), 0);
+    done(&rt, give(&rt, &mut sub, PrivateEvent::Tick(100)), 1);
+    match sub.queue().frame_at(0) {
+        Some((bytes, gap)) => {
+            assert!(rt; bytes == &WITH_FILLER[..]);
+            assert!(rt; gap == 0);
+        }
+        None => panic!(rt; "no frame"),
+    }
+    let late = measured(&rt, alloc, &second, 100, 33_333, &DATA_8).expect(&rt, "memory");
+    done(
+        &rt,
+        give(&rt, &mut sub, PrivateEvent::Measure(&late, &[0])),
+        0,
+    );
+    assert!(rt; sub.stats().late == 1);
+    let past = measured(&rt, alloc, &first, u32::MAX, 983_334, &DATA_7).expect(&rt, "memory");
+    done(
+        &rt,
+        give(&rt, &mut sub, PrivateEvent::Measure(&past, &[0])),
+        0,
+    );
+    assert!(rt; sub.stats().by_reason[20] == 1);
+}
+
+// Takes all memory that there is, down to the last byte, until the pieces that it answers are dropped.
+fn all_memory(rt: &impl Abort, alloc: Global) -> Vec<Vec<u8>> {
+    let mut held = Vec::with_capacity(alloc, 40_000).expect(rt, "memory");
+    let mut size: usize = 1 << 46;
+    for _ in 0..40_000 {
+        if size == 0 {
+            break;
+        }
+        match Vec::with_capacity(alloc, size) {
+            Ok(piece) => assert!(rt; held.push(piece).is_ok()),
+            Err(_) => size /= 2,
+        }
+    }
+    assert!(rt; size == 0);
+    held
+}
+
+// Row take-without-memory: a block that completes no slot takes its place, and the reply is the one with memory.
+#[test]
+fn take_without_memory(rt: HostRuntime) {
+    let alloc = rt.alloc();
+    let first = source_7(&rt, alloc).expect(&rt, "memory");
+    let second = source_8(&rt, alloc).expect(&rt, "memory");
+    let mut sub = with_two(&rt, alloc, &first, &second, 2, 4).expect(&rt, "memory");
+    let frame = measured(&rt, alloc, &first, 100, 33_333, &DATA_7).expect(&rt, "memory");
+    let event = PrivateEvent::Measure(&frame, &[0]);
+    assert!(&rt; sub.accepts(&event));
+    assert!(&rt; sub.copies(&event).is_ok());
+    assert!(&rt; sub.accepts(&event));
+    assert!(&rt; sub.ready(&event));
+    let held = all_memory(&rt, alloc);
+    let reply = sub.take(event, false);
+    drop(held);
+    done(&rt, reply, 0);
+    done(&rt, give(&rt, &mut sub, PrivateEvent::Tick(100)), 0);
+    done(&rt, give(&rt, &mut sub, PrivateEvent::Tick(100)), 1);
+    match sub.queue().frame_at(0) {
+        Some((bytes, _)) => assert!(&rt; bytes == &WITH_FILLER[..]),
+        None => panic!(&rt; "no frame"),
+    }
+}
+
+// Row wait-and-window, and the joined quality of row header-and-quality.
+#[test]
+fn wait_and_window(rt: HostRuntime) {
+    let alloc = rt.alloc();
+    let first = source_7(&rt, alloc).expect(&rt, "memory");
+    let second = source_8(&rt, alloc).expect(&rt, "memory");
+    let mut at_once = with_two(&rt, alloc, &first, &second, 0, 4).expect(&rt, "memory");
+    let frame = measured(&rt, alloc, &first, 100, 33_333, &DATA_7).expect(&rt, "memory");
+    done(
+        &rt,
+        give(&rt, &mut at_once, PrivateEvent::Measure(&frame, &[0])),
+        1,
+    );
+    let mut sub = with_two(&rt, alloc, &first, &second, 9, 1).expect(&rt, "memory");
+    let later = measured(&rt, alloc, &first, 100, 0x2400_8235, &DATA_7).expect(&rt, "memory");
+    done(
+        &rt,
+        give(&rt, &mut sub, PrivateEvent::Measure(&later, &[0])),
+        0,
+    );
+    let earlier = measured(&rt, alloc, &first, 100, 16_666, &DATA_7).expect(&rt, "memory");
+    done(
+        &rt,
+        give(&rt, &mut sub, PrivateEvent::Measure(&earlier, &[0])),
+        1,
+    );
+    let other = measured(&rt, alloc, &second, 100, 0x4300_8235, &DATA_8).expect(&rt, "memory");
+    done(
+        &rt,
+        give(&rt, &mut sub, PrivateEvent::Measure(&other, &[0])),
+        1,
+    );
+    match (sub.queue().frame_at(0), sub.queue().frame_at(1)) {
+        (Some((earlier, _)), Some((both, _))) => {
+            // Slot 3000 is SOC 100, numerator 0; the filler stands behind PMU 7's block.
+            assert!(rt; earlier.len() == 34);
+            assert!(rt; earlier[6..14] == [0, 0, 0, 100, 0, 0, 0, 0]);
+            assert!(rt; earlier[24..26] == [0x80, 0x00]);
+            assert!(rt; both.len() == 34);
+            assert!(rt; both[10] == 0x64);
+        }
+        _ => panic!(rt; "no frames"),
+    }
+}
+
+// The reply at this place is a configuration of this many bytes and PMUs, of which PMU 7 is the first, with this CFGCNT.
+fn lists(rt: &impl Abort, sub: &Subscriber, place: usize, size: usize, pmus: u8, count: u8) {
+    match sub.queue().reply_at(place) {
+        Some(bytes) => {
+            assert!(rt; bytes.len() == size);
+            assert!(rt; bytes.len() >= 74);
+            assert!(rt; bytes[18..20] == [0, pmus]);
+            assert!(rt; bytes[36..38] == [0, 7]);
+            assert!(rt; bytes[68..70] == [0, count]);
+        }
+        None => panic!(rt; "no reply"),
+    }
+}
+
+// Row counts-and-flush, a grant: what PMU 7 announced before it stands in CFG-1, with count 1.
+#[test]
+fn grant_brings_what_was_announced(rt: HostRuntime) {
+    let alloc = rt.alloc();
+    let source = source_7(&rt, alloc).expect(&rt, "memory");
+    let mut sub = subscriber(&rt, alloc).expect(&rt, "memory");
+    let definition = stream(alloc, 101, 0, 4, &[key(7).expect(&rt, "memory")]).expect(
+        &rt, "memory",
+    );
+    done(
+        &rt,
+        give(&rt, &mut sub, PrivateEvent::Define(definition)),
+        0,
+    );
+    let grant = PrivateEvent::Grant(key(7).expect(&rt, "memory"), source.parts.first());
+    done(&rt, give(&rt, &mut sub, grant), 0);
+    done(&rt, give(&rt, &mut sub, command(101, 4)), 0);
+    lists(&rt, &sub, 0, 74, 1, 1);
+}
+
+// Row counts-and-flush: the count is 2 when both have announced. With PMU 7's slot open a revoke of PMU 8 makes a frame, and
+// the count is then 3.
+#[test]
+fn counts_and_flush(rt: HostRuntime) {
+    let alloc = rt.alloc();
+    let first = source_7(&rt, alloc).expect(&rt, "memory");
+    let second = source_8(&rt, alloc).expect(&rt, "memory");
+    let mut sub = with_two(&rt, alloc, &first, &second, 2, 4).expect(&rt, "memory");
+    done(&rt, give(&rt, &mut sub, command(102, 5)), 0);
+    lists(&rt, &sub, 0, 364, 2, 2);
+    let frame = measured(&rt, alloc, &first, 100, 33_333, &DATA_7).expect(&rt, "memory");
+    done(
+        &rt,
+        give(&rt, &mut sub, PrivateEvent::Measure(&frame, &[0])),
+        0,
+    );
+    done(
+        &rt,
+        give(
+            &rt,
+            &mut sub,
+            PrivateEvent::Revoke(key(8).expect(&rt, "memory")),
+        ),
+        1,
+    );
+    match sub.queue().frame_at(0) {
+        Some((bytes, _)) => assert!(rt; bytes == &WITH_FILLER[..]),
+        None => panic!(rt; "no frame"),
+    }
+    done(&rt, give(&rt, &mut sub, command(102, 5)), 0);
+    lists(&rt, &sub, 1, 74, 1, 3);
+}
+
+// Row wrong-check-then-break: a command with a wrong CHK is ignored, the one after it is taken, and a wrong byte breaks.
+#[test]
+fn wrong_check_then_break(rt: HostRuntime) {
+    let alloc = rt.alloc();
+    let sub = SubId::new(1).expect(&rt, "range");
+    let mut session = Session::new(alloc, sub).expect(&rt, "memory");
+    let command = *b"\xAA\x42\x00\x12\x00\x65\x00\x00\x00\x64\x00\x00\x00\x00\x00\x05\xCB\xF9";
+    let mut wrong = command;
+    wrong[15] = 4;
+    for piece in [&wrong, &command] {
+        assert!(rt; session.room() >= piece.len());
+        session.feed(piece);
+    }
+    match session.next_command() {
+        Next::Ignored(refusal) => assert!(rt; refusal == Refusal::BadCheck),
+        _ => panic!(rt; "not ignored"),
+    }
+    match session.next_command() {
+        Next::Cmd(taken) => {
+            assert!(rt; taken.stream == 101);
+            assert!(rt; taken.word == 5);
+        }
+        _ => panic!(rt; "no command"),
+    }
+    assert!(rt; session.room() >= 1);
+    session.feed(&[0xAB]);
+    for _ in 0..2 {
+        match session.next_command() {
+            Next::Broken(refusal) => assert!(rt; refusal == Refusal::BadFirst),
+            _ => panic!(rt; "not broken"),
+        }
+    }
+    assert!(rt; session.stats().taken == 1);
+    assert!(rt; session.stats().by_reason[5] == 1);
+}

@@ -1,0 +1,41 @@
+use pg_entitle::*;
+use pg_wire::{PmuId, PmuKey, Refusal};
+use std::test::*;
+
+/// The key of a PMU by its number and that of its source.
+fn key(source: u16, pmu: u16) -> Option<PmuKey> {
+    Some(PmuKey {
+        source: PmuId::new(source)?,
+        pmu: PmuId::new(pmu)?,
+    })
+}
+
+#[test]
+fn limits_and_refusals(rt: HostRuntime) -> Result<(), Fail> {
+    let mut grants = Grants::new(rt.alloc())?;
+    for pmu in 1..33u16 {
+        assert_eq!(rt; grants.grant(key(7, pmu).ok_or("a key")?), Ok(()));
+    }
+    assert_eq!(rt; grants.is_full(), true);
+    let other = key(7, 33).ok_or("a key")?;
+    assert_eq!(rt; grants.grant(other), Err(Refusal::GrantsFull));
+    assert_eq!(rt; grants.revoke(other), Err(Refusal::NotGranted));
+    let held = key(7, 7).ok_or("a key")?;
+    assert_eq!(rt; grants.grant(held), Ok(()));
+    assert_eq!(rt; grants.revoke(held), Ok(()));
+    assert_eq!(rt; grants.holds(held), false);
+    assert_eq!(rt; grants.len(), 31);
+    Ok(())
+}
+
+/// By source, then PMU.
+#[test]
+fn sorted(rt: HostRuntime) -> Result<(), Fail> {
+    let mut grants = Grants::new(rt.alloc())?;
+    grants.grant(key(2, 1).ok_or("a key")?)?;
+    grants.grant(key(1, 65534).ok_or("a key")?)?;
+    let by_source = [key(1, 65534).ok_or("a key")?, key(2, 1).ok_or("a key")?];
+    assert_eq!(rt; grants.sorted(), by_source.as_slice());
+    assert_eq!(rt; grants.holds(key(2, 1).ok_or("a key")?), true);
+    Ok(())
+}

@@ -1,0 +1,361 @@
+ghost use Rattle.std.specs.Prelude.{IfOk};
+ghost use Rattle.pg_stream.specs.Limits.{IsWithinLimits};
+
+use pg_config::{SourceConfig, read_config};
+use pg_data::{SharedBlock, read_data};
+use pg_outcfg::*;
+use pg_stream::{Definition, HeaderText, Members, check_definition};
+use pg_wire::{PmuId, PmuKey, Refusal, StreamId, check, is_frame};
+use std::alloc::{AllocError, Global};
+use std::process::Abort;
+use std::sync::Arc;
+use std::test::*;
+
+// The CFG-2 of source 7 up to its block, and that block: station PMU 7, one phasor VA.
+const CONFIG_7: [u8; 20] = [
+    0xAA, 0x32, 0x00, 0x4A, 0x00, 0x07, 0x00, 0x00, 0x00, 0x64, 0x00, 0x00, 0x00, 0x00, 0x00, 0x0F,
+    0x42, 0x40, 0x00, 0x01,
+];
+
+const BLOCK_7: [u8; 50] =
+    *b"PMU 7           \x00\x07\x00\x00\x00\x01\x00\x00\x00\x00VA              \x00\x00\x00\x01\x00\x00\x00\x00";
+
+// The CFG-2 of source 8 up to its block, and that block up to its sixteen names: station PMU 8, one digital word.
+const CONFIG_8: [u8; 20] = [
+    0xAA, 0x32, 0x01, 0x3A, 0x00, 0x08, 0x00, 0x00, 0x00, 0x64, 0x00, 0x00, 0x00, 0x00, 0x00, 0x0F,
+    0x42, 0x40, 0x00, 0x01,
+];
+
+const BLOCK_8: [u8; 26] = *b"PMU 8           \x00\x08\x00\x00\x00\x00\x00\x00\x00\x01";
+
+// The CFG-2 of source 9 with PMUs 7 and 11 up to its blocks.
+const CONFIG_9: [u8; 20] = [
+    0xAA, 0x32, 0x00, 0x7C, 0x00, 0x09, 0x00, 0x00, 0x00, 0x64, 0x00, 0x00, 0x00, 0x00, 0x00, 0x0F,
+    0x42, 0x40, 0x00, 0x02,
+];
+
+// DATA_RATE of all three.
+const RATE: [u8; 2] = [0x00, 0x1E];
+
+// CFG-2 of stream 101 with PMU 7 and count 1, before any tick: 74 bytes.
+const CONFIG_REPLY: [u8; 74] =
+    *b"\xAA\x32\x00\x4A\x00\x65\x00\x00\x00\x00\x0F\x00\x00\x00\x00\x0F\x42\x40\x00\x01PMU 7           \x00\x07\x00\x00\x00\x01\x00\x00\x00\x00VA              \x00\x00\x00\x01\x00\x00\x00\x01\x00\x1E\x75\xAF";
+
+// The bytes with their CHK behind them.
+fn framed(alloc: Global, parts: &[&[u8]]) -> Result<Vec<u8>, AllocError> {
+    let mut frame = Vec::new(alloc);
+    for part in parts {
+        frame.extend_from_slice(part)?;
+    }
+    let sum = check(&frame);
+    frame.extend_from_slice(&sum.to_be_bytes())?;
+    Ok(frame)
+}
+
+// What is read of a configuration frame.
+fn announced(
+    rt: &impl Abort,
+    alloc: Global,
+    parts: &[&[u8]],
+) -> Result<Arc<SourceConfig>, AllocError> {
+    let frame = framed(alloc, parts).expect(rt, "memory");
+    assert!(rt; is_frame(&frame));
+    Ok(Arc::new(
+        alloc,
+        read_config(alloc, &frame).expect(rt, "memory").config,
+    )
+    .expect(rt, "memory"))
+}
+
+fn source_7(rt: &impl Abort, alloc: Global) -> Result<Arc<SourceConfig>, AllocError> {
+    announced(rt, alloc, &[&CONFIG_7, &BLOCK_7, &RATE])
+}
+
+fn source_8(rt: &impl Abort, alloc: Global) -> Result<Arc<SourceConfig>, AllocError> {
+    let rest = [0, 0, 0xFF, 0xFF, 0, 0, 0, 0];
+    announced(
+        rt,
+        alloc,
+        &[&CONFIG_8, &BLOCK_8, &[b' '; 256], &rest, &RATE],
+    )
+}
+
+fn source_9(rt: &impl Abort, alloc: Global) -> Result<Arc<SourceConfig>, AllocError> {
+    let mut block_11 = BLOCK_7;
+    block_11[17] = 11;
+    announced(rt, alloc, &[&CONFIG_9, &BLOCK_7, &block_11, &RATE])
+}
+
+// The data block of a PMU in a frame of SOC 100 and numerator 33,333 that has these bytes as its body.
+fn block(
+    rt: &impl Abort,
+    alloc: Global,
+    config: &Arc<SourceConfig>,
+    quality: u8,
+    body: &[u8],
+    place: usize,
+) -> Result<Option<SharedBlock>, AllocError> {
+    let [_, id] = config.source.get().to_be_bytes();
+    assert!(rt; body.len() < 200);
+    let size = 16 + body.len() as u8;
+    let head = [
+        0xAA, 0x02, 0x00, size, 0x00, id, 0x00, 0x00, 0x00, 0x64, quality, 0x00, 0x82, 0x35,
+    ];
+    let bytes = framed(alloc, &[&head, body]).expect(rt, "memory");
+    assert!(rt; is_frame(&bytes));
+    assert!(rt; bytes.len() >= 16);
+    assert!(rt; bytes[1] / 16 == 0);
+    let frame = read_data(alloc, config, &bytes).expect(rt, "memory");
+    assert!(rt; place < frame.count());
+    Ok(Some(SharedBlock::new(frame, place)))
+}
+
+fn key(source: u16, pmu: u16) -> Option<PmuKey> {
+    Some(PmuKey {
+        source: PmuId::new(source)?,
+        pmu: PmuId::new(pmu)?,
+    })
+}
+
+// A stream of rate 30 and resolution 1,000,000 with the header text `Hello`.
+fn stream(alloc: Global, stream: u16, members: &[PmuKey]) -> Result<Definition, Refusal>
+    ensures { IfOk result IsWithinLimits }
+{
+    let definition = Definition {
+        stream: StreamId::new(stream).ok_or(Refusal::WrongId)?,
+        rate: 30,
+        base: 1_000_000,
+        wait: 0,
+        window: 4,
+        header: HeaderText::new(Vec::from_slice(alloc, b"Hello")?),
+        members: Members::new(Vec::from_slice(alloc, members)?),
+    };
+    check_definition(&definition)?;
+    Ok(definition)
+}
+
+// Puts all PMUs of a source.
+fn put_all(
+    rt: &impl Abort,
+    list: &mut ConfigList,
+    config: &SourceConfig,
+) -> Result<(), AllocError> {
+    for part in &config.parts {
+        assert!(rt; list.len() < 32);
+        let key = PmuKey {
+            source: config.source,
+            pmu: part.pmu(),
+        };
+        list.put(key, Arc::try_clone(part).expect(rt, "memory"));
+    }
+    Ok(())
+}
+
+// The frame of slot 3001, which is SOC 100 and numerator 33,333.
+fn frame_3001(
+    rt: &impl Abort,
+    alloc: Global,
+    definition: &Definition,
+    list: &ConfigList,
+    parts: &[Option<SharedBlock>],
+) -> Result<Vec<u8>, AllocError>
+    requires { IsWithinLimits definition.now }
+{
+    assert!(rt; parts.len() == definition.members.as_slice().len());
+    Ok(data_frame(alloc, definition, 3001, list, parts).expect(rt, "memory"))
+}
+
+#[test]
+fn count_wrap_and_empty_config(rt: HostRuntime) {
+    let mut out = OutCfg::new();
+    for _ in 0..65_535 {
+        out.changed();
+    }
+    assert_eq!(rt; out.count(), 65_535);
+    out.changed();
+    assert_eq!(rt; out.count(), 0);
+    let definition = stream(rt.alloc(), 101, &[key(7, 7).expect(&rt, "reserved")]).expect(
+        &rt, "memory",
+    );
+    let frame = out
+        .cfg2(
+            rt.alloc(),
+            &definition,
+            0,
+            &ConfigList::new(rt.alloc()).expect(&rt, "memory"),
+        )
+        .expect(&rt, "memory");
+    assert_eq!(rt;
+        frame.as_slice(),
+        b"\xAA\x32\x00\x18\x00\x65\x00\x00\x00\x00\x0F\x00\x00\x00\x00\x0F\x42\x40\x00\x00\x00\x1E\xDF\xE6".as_slice()
+    );
+}
+
+#[test]
+fn first_path(rt: HostRuntime) {
+    let alloc = rt.alloc();
+    let config = source_7(&rt, alloc).expect(&rt, "memory");
+    let definition = stream(alloc, 101, &[key(7, 7).expect(&rt, "reserved")]).expect(&rt, "memory");
+    let mut list = ConfigList::new(alloc).expect(&rt, "memory");
+    put_all(&rt, &mut list, &config).expect(&rt, "memory");
+    let mut out = OutCfg::new();
+    out.changed();
+    assert_eq!(rt;
+        out.cfg2(alloc, &definition, 0, &list)
+            .expect(&rt, "memory")
+            .as_slice(),
+        CONFIG_REPLY.as_slice()
+    );
+    let part = block(
+        &rt,
+        alloc,
+        &config,
+        0,
+        &[0, 0, 0x10, 0, 0x20, 0, 0, 0, 0, 0],
+        0,
+    )
+    .expect(&rt, "memory");
+    let frame = frame_3001(&rt, alloc, &definition, &list, &[part]).expect(&rt, "memory");
+    assert_eq!(rt;
+        frame.as_slice(),
+        b"\xAA\x02\x00\x1A\x00\x65\x00\x00\x00\x64\x00\x00\x82\x35\x00\x00\x10\x00\x20\x00\x00\x00\x00\x00\x72\x76".as_slice()
+    );
+}
+
+#[test]
+fn header_and_quality(rt: HostRuntime) {
+    let alloc = rt.alloc();
+    let (seven, eight) = (
+        key(7, 7).expect(&rt, "reserved"),
+        key(8, 8).expect(&rt, "reserved"),
+    );
+    let definition = stream(alloc, 101, &[seven, eight]).expect(&rt, "memory");
+    assert_eq!(rt;
+        header(alloc, &definition, 0)
+            .expect(&rt, "memory")
+            .as_slice(),
+        b"\xAA\x12\x00\x15\x00\x65\x00\x00\x00\x00\x0F\x00\x00\x00\x48\x65\x6C\x6C\x6F\x17\x45".as_slice()
+    );
+    let (config_7, config_8) = (
+        source_7(&rt, alloc).expect(&rt, "memory"),
+        source_8(&rt, alloc).expect(&rt, "memory"),
+    );
+    let mut list = ConfigList::new(alloc).expect(&rt, "memory");
+    put_all(&rt, &mut list, &config_8).expect(&rt, "memory");
+    put_all(&rt, &mut list, &config_7).expect(&rt, "memory");
+    let parts = [
+        block(&rt, alloc, &config_7, 0x24, &[0; 10], 0).expect(&rt, "memory"),
+        block(&rt, alloc, &config_8, 0x43, &[0; 8], 0).expect(&rt, "memory"),
+    ];
+    let frame = frame_3001(&rt, alloc, &definition, &list, &parts).expect(&rt, "memory");
+    assert_eq!(rt; frame.len(), 34);
+    assert_eq!(rt; frame[10], 0x64);
+}
+
+#[test]
+fn filler_after_wait(rt: HostRuntime) {
+    let alloc = rt.alloc();
+    let (seven, eight) = (
+        key(7, 7).expect(&rt, "reserved"),
+        key(8, 8).expect(&rt, "reserved"),
+    );
+    let definition = stream(alloc, 102, &[seven, eight]).expect(&rt, "memory");
+    let (config_7, config_8) = (
+        source_7(&rt, alloc).expect(&rt, "memory"),
+        source_8(&rt, alloc).expect(&rt, "memory"),
+    );
+    let mut list = ConfigList::new(alloc).expect(&rt, "memory");
+    put_all(&rt, &mut list, &config_8).expect(&rt, "memory");
+    put_all(&rt, &mut list, &config_7).expect(&rt, "memory");
+    let part = block(
+        &rt,
+        alloc,
+        &config_7,
+        0,
+        &[0, 0, 0x10, 0, 0x20, 0, 0, 0, 0, 0],
+        0,
+    )
+    .expect(&rt, "memory");
+    let frame = frame_3001(&rt, alloc, &definition, &list, &[part, None]).expect(&rt, "memory");
+    assert_eq!(rt;
+        frame.as_slice(),
+        b"\xAA\x02\x00\x22\x00\x66\x00\x00\x00\x64\x00\x00\x82\x35\x00\x00\x10\x00\x20\x00\x00\x00\x00\x00\x80\x00\x80\x00\x80\x00\x00\x00\x36\xBA".as_slice()
+    );
+}
+
+#[test]
+fn shared_frame(rt: HostRuntime) {
+    let alloc = rt.alloc();
+    let (seven, eleven) = (
+        key(9, 7).expect(&rt, "reserved"),
+        key(9, 11).expect(&rt, "reserved"),
+    );
+    let definition = stream(alloc, 101, &[seven, eleven]).expect(&rt, "memory");
+    let config = source_9(&rt, alloc).expect(&rt, "memory");
+    let mut list = ConfigList::new(alloc).expect(&rt, "memory");
+    put_all(&rt, &mut list, &config).expect(&rt, "memory");
+    let body = [
+        0, 0, 0x10, 0, 0x20, 0, 0, 0, 0, 0, 0, 0, 0x30, 0, 0x40, 0, 0, 0, 0, 0,
+    ];
+    let parts = [
+        block(&rt, alloc, &config, 0, &body, 0).expect(&rt, "memory"),
+        block(&rt, alloc, &config, 0, &body, 1).expect(&rt, "memory"),
+    ];
+    let frame = frame_3001(&rt, alloc, &definition, &list, &parts).expect(&rt, "memory");
+    assert_eq!(rt;
+        frame.as_slice(),
+        b"\xAA\x02\x00\x24\x00\x65\x00\x00\x00\x64\x00\x00\x82\x35\x00\x00\x10\x00\x20\x00\x00\x00\x00\x00\x00\x00\x30\x00\x40\x00\x00\x00\x00\x00\x5D\x65".as_slice()
+    );
+}
+
+// CFG-1 lists all PMUs by rising key, CFG-2 the members in the definition's order.
+#[test]
+fn counts_and_flush(rt: HostRuntime) {
+    let alloc = rt.alloc();
+    let (seven, eight) = (
+        key(7, 7).expect(&rt, "reserved"),
+        key(8, 8).expect(&rt, "reserved"),
+    );
+    let mut list = ConfigList::new(alloc).expect(&rt, "memory");
+    put_all(
+        &rt,
+        &mut list,
+        source_8(&rt, alloc).expect(&rt, "memory").as_ref(),
+    )
+    .expect(&rt, "memory");
+    put_all(
+        &rt,
+        &mut list,
+        source_7(&rt, alloc).expect(&rt, "memory").as_ref(),
+    )
+    .expect(&rt, "memory");
+    let definition = stream(alloc, 101, &[eight, seven]).expect(&rt, "memory");
+    let mut out = OutCfg::new();
+    out.changed();
+    let first = out.cfg1(alloc, &definition, 0, &list).expect(&rt, "memory");
+    let second = out.cfg2(alloc, &definition, 0, &list).expect(&rt, "memory");
+    assert_eq!(rt; (first.len(), second.len()), (364, 364));
+    // STN, and CFGCNT of the first block.
+    assert_eq!(rt;
+        (&first[20..25], &first[68..70]),
+        (b"PMU 7".as_slice(), [0, 1].as_slice())
+    );
+    assert_eq!(rt;
+        (&second[20..25], &second[308..310]),
+        (b"PMU 8".as_slice(), [0, 1].as_slice())
+    );
+    list.remove(&eight);
+    assert!(rt; list.get(&eight).is_none() && list.len() == 1);
+    let mut expected = CONFIG_REPLY;
+    expected[1] = 0x22;
+    expected[72] = 0x77;
+    expected[73] = 0x87;
+    assert_eq!(rt;
+        out.cfg1(alloc, &definition, 0, &list)
+            .expect(&rt, "memory")
+            .as_slice(),
+        expected.as_slice()
+    );
+    list.clear();
+    assert_eq!(rt; list.len(), 0);
+}
