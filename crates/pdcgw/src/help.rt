@@ -88,10 +88,22 @@ A setup file is TOML:
   [[pmu]]                  a PMU, registered in the order of the file
     id                     its number: 1 to 65534
     source                 the number of its source: 1 to 65534; as `id` where not given
-    connect                the text A.B.C.D:PORT, where its source is called; once for each source
+    connect                the text A.B.C.D:PORT or NAME:PORT, where its source is called; once for each source
+    silence                after so many seconds without an event its source is called again: 1 to 3600, or 0 for never;
+                           10 where not given
+    clock_ms               a measurement of its source that is further from this machine's clock is refused: 1 to 30000
+                           milliseconds; no such guard where not given. PMUs of one source that give it, or `silence`, agree
   [[subscriber]]           a subscriber
     id                     its number: 1 to 65535
-    port                   where it connects, 1 to 65535; nowhere where not given. The port is bound on all addresses
+    port                   where it connects, 1 to 65535; nowhere where not given
+    address                the port is bound on this address, a text A.B.C.D; on all where not given
+    allow                  a list of the hosts that may connect, each a text A.B.C.D, or A.B.C.D/BITS for all hosts whose
+                           first BITS bits are these; every host where not given, none where the list is empty
+    takeover               true: a new connection takes the place of the one that stands; false, or not given: it is refused
+    stall                  hung up where bytes wait and its socket took none for so many seconds: 1 to 3600, or 0 for never;
+                           30 where not given
+    idle                   hung up where it neither sent nor was sent a byte for so many seconds: 1 to 3600, or 0 for never;
+                           never where not given
     ring                   at most so many data frames wait for it: 1 to 1024
     bytes                  at most so many bytes of them: 16 to 16777216, which is the value where not given
     grants                 a list of PMUs, each a number N, which is N/N, or a text \"S/N\"
@@ -102,3 +114,30 @@ A setup file is TOML:
     members                a list of 1 to 32 PMUs, as the grants
 
 A subscriber sends commands for its streams: 1 stop, 2 start, 3 send the header, 4 CFG-1, 5 CFG-2.";
+
+/// Of `simulate`.
+pub const SIMULATE: &str = "\
+Listens, and plays a source to whoever connects, one connection after another: it obeys the commands 1 to 5 of C37.118.2 and
+sends data frames on the slots of the clock. The signals are those of a plausible grid, with the same numbers every time for
+the same second. It tells what happens on standard output, and goes on until it is ended.
+
+Faults:
+  silence=SECONDS          after every ten seconds with data frames none come for SECONDS: 1 to 3600
+  drop=PERCENT             so many of a hundred data frames are left out
+  late=MS                  each data frame is sent MS milliseconds late: 0 to 60000
+  wrong-check=PERCENT      so many of a hundred data frames have a wrong CHK
+  clock=MS                 its clock is MS milliseconds ahead: -3600000 to 3600000
+  no-config                the commands 4 and 5 are not answered
+
+Exit status: 1 where the address can't be bound, 2 for other words than these.";
+
+/// Of `watch`.
+pub const WATCH: &str = "\
+Connects, asks for CFG-2 and the header, starts the stream, and shows what comes until it is ended: on a terminal a screen that is
+renewed ten times a second, else a line a second. It stops the stream before it ends.
+
+It checks each frame: CHK, the length by the configuration, the IDCODE, and that stamps rise. What is wrong is told and counted.
+Slots of which no frame came are counted as missing; fillers are blocks of a gateway for what has not come.
+
+Exit status: 0 where nothing was wrong; 1 where something was, or the address can't be reached, or output can't be written;
+2 for other words than these.";

@@ -2,16 +2,15 @@
 #![tactic(auto)]
 
 mod help;
-mod operator;
-mod run;
-mod workers;
+mod tools;
 
 use clap::error::ErrorKind;
 use clap::{Arg, ArgMatches, Command};
 use pg_replay::{Fault, replay};
+use pg_tools::Misword;
 use pg_wire::Refusal;
 use std::alloc::{AllocError, Global};
-use std::io::{BufWriter, StdinLock};
+use std::io::{BufWriter, IsTerminal, StdinLock};
 use std::net::{Net, TcpListener, TcpStream};
 use std::process::ExitCode;
 use std::rt::{Clock, Env, Files};
@@ -33,12 +32,16 @@ fn program<'a>(alloc: Global) -> Result<Command<'a>, AllocError> {
         .about("Serves sources and subscribers over TCP")
         .after_help(help::RUN)
         .arg(setup)?;
+    let simulate = tools::simulate_words(alloc)?;
+    let watch = tools::watch_words(alloc)?;
     Command::new(alloc, "pdcgw")
         .about("A phasor data concentrator gateway for many subscribers")
         .after_help(help::PROGRAM)
         .subcommand_required(true)
         .subcommand(replay)?
-        .subcommand(run)
+        .subcommand(run)?
+        .subcommand(simulate)?
+        .subcommand(watch)
 }
 
 /// What the program comes to.
@@ -47,16 +50,23 @@ enum Outcome {
     Failed(Refusal),
     /// `clap` refuses the words, and says why.
     Misused(clap::Error),
+    /// The value of an option is none that it takes.
+    Misworded(Misword),
+    /// Something was wrong with what `watch` saw, and it has told that.
+    Troubled,
+    /// A tool has ended by this.
+    Fallen(pg_tools::Fault),
     /// The arguments can't be had as text, or name no work.
     Unread,
 }
 
 /// Does what the words ask for.
-fn do_words<R>(rt: &R, matches: &ArgMatches<'_>) -> Outcome
+fn do_words<R>(rt: &R, matches: &ArgMatches<'_>, is_terminal: bool) -> Outcome
 where
     R: Files
         + Input<Reader = StdinLock<'static>>
         + Print
+        + Eprint
         + Clock
         + Net<Listener = TcpListener, Stream = TcpStream>
         + Threads
@@ -67,8 +77,13 @@ where
     let Some((work, words)) = matches.subcommand() else {
         return Outcome::Unread;
     };
+    match work {
+        "simulate" => return tools::simulate(rt, words),
+        "watch" => return tools::watch(rt, words, is_terminal),
+        _ => {}
+    }
     let done = match (work, words.get_str("setup")) {
-        ("run", Some(file)) => run::run(rt, file),
+        ("run", Some(file)) => pg_run::run(rt, file),
         ("replay", _) => match replay_input(rt) {
             Ok(()) => Ok(()),
             Err(fault) => Err(fault.refusal()),
@@ -90,11 +105,13 @@ fn replay_input<R: Input + Print + Alloc<A = Global>>(rt: &R) -> Result<(), Faul
     replay(alloc, rt.reader(), &mut out)
 }
 
-fn outcome_of<R>(rt: &R) -> Outcome
+/// What the words come to, where standard output is a terminal or is not.
+fn outcome_of<R>(rt: &R, is_terminal: bool) -> Outcome
 where
     R: Files
         + Input<Reader = StdinLock<'static>>
         + Print
+        + Eprint
         + Env
         + Clock
         + Net<Listener = TcpListener, Stream = TcpStream>
@@ -119,7 +136,7 @@ where
         Err(_) => return Outcome::Failed(Refusal::NoMemory),
     };
     match command.try_get_matches_from(words.as_slice()) {
-        Ok(matches) => do_words(rt, &matches),
+        Ok(matches) => do_words(rt, &matches, is_terminal),
         Err(error) => match error.kind() {
             ErrorKind::OutOfMemory => Outcome::Failed(Refusal::NoMemory),
             _ => Outcome::Misused(error),
@@ -128,7 +145,8 @@ where
 }
 
 fn main(rt: HostRuntime) -> ExitCode {
-    match outcome_of(&rt) {
+    let is_terminal = rt.stdout().is_terminal();
+    match outcome_of(&rt, is_terminal) {
         Outcome::Done => ExitCode::SUCCESS,
         Outcome::Failed(refusal) => {
             let _ = eprintln!(rt; "pdcgw: {} {}", refusal.number(), refusal.name());
@@ -137,6 +155,15 @@ fn main(rt: HostRuntime) -> ExitCode {
         Outcome::Misused(error) => {
             let _ = eprint!(rt; "{error}");
             ExitCode::from(2)
+        }
+        Outcome::Misworded(misword) => {
+            let _ = eprintln!(rt; "pdcgw: {misword}; `pdcgw help` tells the words");
+            ExitCode::from(2)
+        }
+        Outcome::Troubled => ExitCode::from(1),
+        Outcome::Fallen(fault) => {
+            let _ = eprintln!(rt; "pdcgw: {fault}");
+            ExitCode::from(1)
         }
         Outcome::Unread => {
             let _ = eprintln!(rt; "pdcgw: the arguments can't be read");

@@ -5,4 +5,8 @@ pub mod NoVerb
 pub mod Cutting
 pub mod Numbers
 pub mod Keys
+pub mod Lists
 pub mod Plans
+pub mod Labels
+pub mod Digits
+pub mod Sources

@@ -1,15 +1,21 @@
 -- What a setup file asks for, by its table.
-use Rattle.std.specs.Prelude.{ℕ, ◌==◌, ◌&&◌, ◌++◌, Bool, true, false, pos, List, [], ◌∷◌, length, map, Option, Some, None, is_some, option_map, option_and_then, option_to_list, if◌then◌else◌, nat_le, codes}
-use Rattle.std.specs.List.{list_any}
-use Rattle.std.specs.Option.{option_map_or}
+use Rattle.std.specs.Prelude.{ℕ, ◌==◌, ◌&&◌, ◌++◌, Bool, true, false, not, pos, List, [], ◌∷◌, length, map, filter, Option, Some, None, option_map, option_and_then, option_to_list, if◌then◌else◌, nat_le, codes}
+use Rattle.std.specs.List.{list_all, list_any}
+use Rattle.std.specs.Net.Addr.{ipv4_bits}
+use Rattle.std.specs.Option.{option_map_or, unwrap_or}
 use Rattle.std.specs.Str.{bytes_eq}
-use Rattle.toml.specs.Data.{Data, string, integer, array, table, Items, no_items, item, Members, no_members, member, get_member}
+use Rattle.toml.specs.Data.{Data, string, integer, boolean, array, table, Items, no_items, item, Members, no_members, member, get_member}
 use Rattle.toml.specs.Parse.{parse_document}
 use Rattle.pg_wire.specs.declared.ids.PmuKey.{PmuKey}
 use Rattle.pg_stream.specs.declared.definition.Definition.{Definition}
 use Rattle.pg_gateway.specs.declared.edit.Edit.{Edit}
 use Rattle.pg_gateway.specs.declared.edit.Edit.TheVariants.{AddPmu, AddSub, Grant, Define}
-use Rattle.pg_operator.specs.Words.{Text, number_in, halves, key_of, pair_in}
+use Rattle.pg_limits.specs.Hosts.{Net}
+use Rattle.pg_operator.specs.declared.door.PortRules.{PortRules}
+use Rattle.pg_operator.specs.declared.pmu.PmuTable.{PmuTable}
+use Rattle.pg_operator.specs.declared.source.SourceRules.{SourceRules}
+use Rattle.pg_operator.specs.Words.{Text, key_of, pair_in}
+use Rattle.pg_operator.specs.Addresses.{host_in, is_address, network_in}
 
 -- ---- tables
 
@@ -56,46 +62,58 @@ abbrev pub key_in : Data → Option PmuKey
 key_in (string s) = pair_in s
 key_in d = option_map (λ n. key_of n n) (whole_in 1 65534 d)
 
--- one of the four numbers of an address
-abbrev pub is_part : Text → Bool
-is_part w = is_some (number_in 0 255 w)
-
--- `A.B.C.D`; the dot is 46
-abbrev pub is_host : Text → Bool
-is_host w = option_map_or (λ a. option_map_or (λ b. option_map_or (λ c. is_part a.0 && (is_part b.0 && (is_part c.0 && is_part c.1)))
-    (halves 46 b.1) false) (halves 46 a.1) false) (halves 46 w) false
-
--- `A.B.C.D:PORT`; the colon is 58
-abbrev pub is_address : Text → Bool
-is_address w = option_map_or (λ p. is_host p.0 && is_some (number_in 1 65535 p.1)) (halves 58 w) false
-
 abbrev pub address_in : Data → Option Text
 address_in (string s) = if is_address s then Some s else None
 address_in _ = None
+
+abbrev pub host_text_in : Data → Option ℕ
+host_text_in (string s) = host_in s
+host_text_in _ = None
+
+abbrev pub network_text_in : Data → Option Net
+network_text_in (string s) = network_in s
+network_text_in _ = None
 
 abbrev pub text_in : Data → Option Text
 text_in (string s) = Some s
 text_in _ = None
 
--- ---- `[[pmu]]`: its key, and the address of its source
+abbrev pub boolean_in : Data → Option Bool
+boolean_in (boolean b) = Some b
+boolean_in _ = None
 
-abbrev pub Pmu : Type 0
-Pmu = PmuKey × Option Text
+-- ---- `[[pmu]]`: its key, the address of its source, and what it says of its source
+
+pub record Pmu : Type 0 where
+  pub key : PmuKey
+  pub connect : Option Text
+  pub silence : Option ℕ
+  pub clock_ms : Option ℕ
+
+-- the same, of a table that was read
+abbrev pub told : PmuTable → Pmu
+told p = record { key = p.key; connect = option_map (λ s. s.now) p.connect; silence = p.silence; clock_ms = p.clock_ms }
 
 abbrev pub pmu_by : Members → Option Pmu
 pmu_by ms =
-    option_and_then (λ id. option_and_then (λ source. option_map (λ connect. (key_of source id, connect))
+    option_and_then (λ id. option_and_then (λ source. option_and_then (λ connect. option_and_then (λ silence. option_map
+    (λ clock. record { key = key_of source id; connect = connect; silence = silence; clock_ms = clock })
+    (absent_or (whole_in 1 30000) (codes "clock_ms") ms))
+    (absent_or (whole_in 0 3600) (codes "silence") ms))
     (absent_or address_in (codes "connect") ms))
     (optional id (whole_in 1 65534) (codes "source") ms))
     (required (whole_in 1 65534) (codes "id") ms)
 
+abbrev pub pmu_names : List Text
+pmu_names = codes "id" ∷ codes "source" ∷ codes "connect" ∷ codes "silence" ∷ codes "clock_ms" ∷ []
+
 abbrev pub pmu_in : Data → Option Pmu
-pmu_in (table ms) = only (codes "id" ∷ codes "source" ∷ codes "connect" ∷ []) pmu_by ms
+pmu_in (table ms) = only pmu_names pmu_by ms
 pmu_in _ = None
 
 -- it is registered
 abbrev pub pmu_edit : Pmu → Edit
-pmu_edit p = AddPmu p.0
+pmu_edit p = AddPmu p.key
 
 -- sources with their addresses
 abbrev pub Links : Type 0
@@ -107,9 +125,41 @@ has_source source links = list_any (λ link. link.0 == source) links
 -- the links, in order, of which no two are of one source
 abbrev pub links_from : Links → List Pmu → Option Links
 links_from seen [] = Some seen
-links_from seen ((key, None) ∷ pmus) = links_from seen pmus
-links_from seen ((key, Some address) ∷ pmus) =
-    if has_source key.source seen then None else links_from (seen ++ (key.source, address) ∷ []) pmus
+links_from seen (p ∷ pmus) = option_map_or
+    (λ address. if has_source p.key.source seen then None else links_from (seen ++ (p.key.source, address) ∷ []) pmus)
+    p.connect (links_from seen pmus)
+
+-- ---- the rules of sources
+
+-- each number once, where it first stands
+abbrev pub once : List ℕ → List ℕ
+once [] = []
+once (x ∷ xs) = x ∷ filter (λ y. not (x == y)) (once xs)
+
+-- what the tables of a source say at a key
+abbrev pub said : (Pmu → Option ℕ) → ℕ → List Pmu → List ℕ
+said key source [] = []
+said key source (p ∷ pmus) = if p.key.source == source then option_to_list (key p) ++ said key source pmus else said key source pmus
+
+-- one value that all say, or nothing where none says any; no two may differ
+abbrev pub agreed : List ℕ → Option (Option ℕ)
+agreed [] = Some None
+agreed (v ∷ vs) = if list_all (λ w. w == v) vs then Some (Some v) else None
+
+-- a source is silent after 10 seconds, and has no clock guard, where its tables say nothing of it
+abbrev pub rules_of : List Pmu → ℕ → Option SourceRules
+rules_of pmus source =
+    option_and_then (λ silence. option_map (λ clock. record { source = source; silence = unwrap_or silence 10; clock_ms = clock })
+    (agreed (said (λ p. p.clock_ms) source pmus)))
+    (agreed (said (λ p. p.silence) source pmus))
+
+abbrev pub every : {X Y : Type 0} → (X → Option Y) → List X → Option (List Y)
+every read [] = Some []
+every read (x ∷ xs) = option_and_then (λ y. option_map (λ ys. y ∷ ys) (every read xs)) (read x)
+
+-- the sources in the order in which the PMUs first name them
+abbrev pub sources_of : List Pmu → Option (List SourceRules)
+sources_of pmus = every (rules_of pmus) (once (map (λ p. p.key.source) pmus))
 
 -- ---- `[[subscriber.stream]]`
 
@@ -140,7 +190,7 @@ abbrev pub stream_in : Data → Option Definition
 stream_in (table ms) = only stream_names stream_by ms
 stream_in _ = None
 
--- ---- `[[subscriber]]`: its edits, and the port that it connects to
+-- ---- `[[subscriber]]`: its edits, the port that it connects to, and the rules of that port
 
 abbrev pub grants_in : ℕ → Data → Option (List Edit)
 grants_in id = list_of (λ d. option_map (Grant id) (key_in d))
@@ -170,16 +220,44 @@ entry_by ms =
     (absent_or (whole_in 1 65535) (codes "port") ms))
     (required (whole_in 1 65535) (codes "id") ms)
 
-abbrev pub Subscriber : Type 0
-Subscriber = List Edit × Option (ℕ × ℕ)
+-- who may connect to its port, and when it is hung up
+pub record Door : Type 0 where
+  pub sub : ℕ
+  pub address : ℕ
+  pub allow : Option (List Net)
+  pub takeover : Bool
+  pub stall : ℕ
+  pub idle : ℕ
+
+-- the same, of rules that were read
+abbrev pub door_of : PortRules → Door
+door_of r = record { sub = r.sub; address = ipv4_bits r.address; allow = option_map (λ v. v.items) r.allow.networks; takeover = r.takeover; stall = r.stall; idle = r.idle }
+
+-- 0.0.0.0, every host, no takeover, 30 seconds and never, where it is left out
+abbrev pub door_by : ℕ → Members → Option Door
+door_by id ms =
+    option_and_then (λ address. option_and_then (λ takeover. option_and_then (λ stall. option_and_then (λ idle. option_map
+    (λ allow. record { sub = id; address = address; allow = allow; takeover = takeover; stall = stall; idle = idle })
+    (absent_or (list_of network_text_in) (codes "allow") ms))
+    (optional 0 (whole_in 0 3600) (codes "idle") ms))
+    (optional 30 (whole_in 0 3600) (codes "stall") ms))
+    (optional false boolean_in (codes "takeover") ms))
+    (optional 0 host_text_in (codes "address") ms)
+
+pub record Subscriber : Type 0 where
+  pub edits : List Edit
+  pub port : Option (ℕ × ℕ)
+  pub door : Door
 
 abbrev pub subscriber_by : Members → Option Subscriber
 subscriber_by ms =
-    option_and_then (λ e. option_map (λ edits. (edits, option_map (λ p. (e.id, p)) e.port))
-    (edits_by e.id e.size e.bytes ms)) (entry_by ms)
+    option_and_then (λ e. option_and_then (λ door. option_map (λ edits. record { edits = edits; port = option_map (λ p. (e.id, p)) e.port; door = door })
+    (edits_by e.id e.size e.bytes ms)) (door_by e.id ms)) (entry_by ms)
 
 abbrev pub subscriber_names : List Text
-subscriber_names = codes "id" ∷ codes "port" ∷ codes "ring" ∷ codes "bytes" ∷ codes "grants" ∷ codes "stream" ∷ []
+subscriber_names =
+    codes "id" ∷ codes "port" ∷ codes "ring" ∷ codes "bytes" ∷ codes "grants" ∷ codes "stream"
+    ∷ codes "address" ∷ codes "allow" ∷ codes "takeover" ∷ codes "stall" ∷ codes "idle" ∷ []
 
 abbrev pub subscriber_in : Data → Option Subscriber
 subscriber_in (table ms) = only subscriber_names subscriber_by ms
@@ -190,28 +268,53 @@ subscriber_in _ = None
 -- the PMUs in the file's order, then each subscriber's edits
 abbrev pub edits_of : List Subscriber → List Edit
 edits_of [] = []
-edits_of (s ∷ ss) = s.0 ++ edits_of ss
+edits_of (s ∷ ss) = s.edits ++ edits_of ss
 
+-- the ports, and the doors of just those that have one, in the same order
 abbrev pub ports_of : List Subscriber → List (ℕ × ℕ)
 ports_of [] = []
-ports_of (s ∷ ss) = option_to_list s.1 ++ ports_of ss
+ports_of (s ∷ ss) = option_to_list s.port ++ ports_of ss
 
-abbrev pub planned : List Subscriber → List Edit × List (ℕ × ℕ)
-planned ss = (edits_of ss, ports_of ss)
+abbrev pub doors_of : List Subscriber → List Door
+doors_of [] = []
+doors_of (s ∷ ss) = option_to_list (option_map (λ p. s.door) s.port) ++ doors_of ss
+
+pub record Plans : Type 0 where
+  pub edits : List Edit
+  pub ports : List (ℕ × ℕ)
+  pub doors : List Door
+
+abbrev pub planned : List Subscriber → Plans
+planned ss = record { edits = edits_of ss; ports = ports_of ss; doors = doors_of ss }
 
 pub record Settings : Type 0 where
   pub edits : List Edit
   pub links : Links
+  pub sources : List SourceRules
   pub ports : List (ℕ × ℕ)
+  pub doors : List Door
   pub tick_ms : ℕ
   pub ingest : ℕ
   pub serve : ℕ
 
+abbrev pub settings_by : List Pmu → Links → List SourceRules → List Subscriber → ℕ → ℕ → ℕ → Settings
+settings_by pmus links sources subscribers tick ingest serve = record {
+  edits = map pmu_edit pmus ++ edits_of subscribers;
+  links = links;
+  sources = sources;
+  ports = ports_of subscribers;
+  doors = doors_of subscribers;
+  tick_ms = tick;
+  ingest = ingest;
+  serve = serve;
+}
+
 abbrev pub setup_by : Members → Option Settings
 setup_by ms =
-    option_and_then (λ tick. option_and_then (λ ingest. option_and_then (λ serve. option_and_then (λ pmus. option_and_then (λ links. option_map
-    (λ subscribers. record { edits = map pmu_edit pmus ++ edits_of subscribers; links = links; ports = ports_of subscribers; tick_ms = tick; ingest = ingest; serve = serve })
+    option_and_then (λ tick. option_and_then (λ ingest. option_and_then (λ serve. option_and_then (λ pmus. option_and_then (λ links. option_and_then (λ sources. option_map
+    (λ subscribers. settings_by pmus links sources subscribers tick ingest serve)
     (required (list_of subscriber_in) (codes "subscriber") ms))
+    (sources_of pmus))
     (links_from [] pmus))
     (required (list_of pmu_in) (codes "pmu") ms))
     (optional 1 (whole_in 1 8) (codes "serve") ms))

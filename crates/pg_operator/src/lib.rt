@@ -1,13 +1,19 @@
 //! What an operator writes: lines, one edit each, and the setup file.
 #![tactic(auto)]
 
+mod address;
 mod define;
+mod door;
 mod line;
+mod pmu;
 mod setup;
+mod source;
 mod stream;
 mod table;
 mod verb;
 pub mod words;
 
+pub use door::PortRules;
 pub use line::{parse_line, words_of};
 pub use setup::{Setup, read_setup};
+pub use source::SourceRules;

@@ -1,13 +1,14 @@
 //! The setup file: what it is read as.
-ghost use Rattle.std.specs.Prelude.{◌≡◌, ◌⊎◌, IfOk, IfErr, IfSome, map, option_map, codes, string_bytes, Some, None, [], ◌∷◌, ◌++◌};
-ghost use Rattle.std.specs.List.{list_any};
+ghost use Rattle.std.specs.Prelude.{◌≡◌, ◌⊎◌, ◌++◌, IfOk, IfErr, OnOk, map, option_map, option_to_list, codes, string_bytes, Some, None, []};
 ghost use Rattle.toml.specs.View.{view, table_view};
-ghost use Rattle.pg_operator.specs.Setups.{absent_or, address_in, edits_by, edits_of, entry_by, grants_in, has_source, links_from, list_of, optional, pmu_by, pmu_edit, pmu_in, planned, ports_of, required, setup_by, setup_in, setup_of, streams_in, subscriber_by, subscriber_in, whole_in};
+ghost use Rattle.pg_operator.specs.Setups.{absent_or, door_of, edits_by, entry_by, grants_in, list_of, optional, planned, required, setup_in, setup_of, streams_in, subscriber_in, told, whole_in};
 
-use crate::{stream, table};
+use crate::door::{self, PortRules};
+use crate::source::{self, SourceRules};
+use crate::{pmu, stream, table};
 use pg_gateway::Edit;
 use pg_ring::{RingBytes, RingSize};
-use pg_wire::{PmuId, PmuKey, Refusal, SubId};
+use pg_wire::{PmuId, Refusal, SubId};
 use std::alloc::Global;
 use toml::{Table, Value};
 
@@ -16,10 +17,14 @@ use toml::{Table, Value};
 pub struct Setup {
     /// The edits, in order: each PMU is registered, then each subscriber is added, with its grants and its streams.
     pub edits: Vec<Edit>,
-    /// The sources to which links are made, each with its address `A.B.C.D:PORT`; no source twice.
+    /// The sources to which links are made, each with its address `A.B.C.D:PORT` or `NAME:PORT`; no source twice.
     pub links: Vec<(PmuId, String)>,
+    /// How each source of the PMUs is watched: each once, in the order in which the file first names them.
+    pub sources: Vec<SourceRules>,
     /// The subscribers that have a port of their own, with it.
     pub ports: Vec<(SubId, u16)>,
+    /// The rules of these ports: one for each, in the same order.
+    pub doors: Vec<PortRules>,
     /// Milliseconds from tick to tick: 1 to 1000.
     pub tick_ms: u16,
     /// Threads that read the links: 1 to 8.
@@ -37,23 +42,34 @@ pub struct Setup {
 /// | `pmu`, `subscriber` | tables | required |
 /// | `pmu.id` | 1 to 65534 | required |
 /// | `pmu.source` | 1 to 65534 | equal to `id` |
-/// | `pmu.connect` | text `A.B.C.D:PORT`, of the source; four numbers 0 to 255, and one 1 to 65535 | no link |
+/// | `pmu.connect` | text `A.B.C.D:PORT` or `NAME:PORT`, of the source; four numbers 0 to 255, and one 1 to 65535 | no link |
+/// | `pmu.silence` | 1 to 3600 seconds, of the source; 0 never | 10 |
+/// | `pmu.clock_ms` | 1 to 30000 milliseconds, of the source | no guard |
 /// | `subscriber.id` | 1 to 65535 | required |
 /// | `subscriber.port` | 1 to 65535 | no listener |
 /// | `subscriber.ring` | 1 to 1024 | required |
 /// | `subscriber.bytes` | 16 to 16777216 | 16777216 |
 /// | `subscriber.grants` | list of numbers P, which are P/P, or texts "S/P" | none |
+/// | `subscriber.address` | text `A.B.C.D` | `0.0.0.0` |
+/// | `subscriber.allow` | list of texts `A.B.C.D` or `A.B.C.D/BITS`, 0 to 32 bits; an empty list allows nobody | every host |
+/// | `subscriber.takeover` | a boolean | false |
+/// | `subscriber.stall` | 1 to 3600 seconds; 0 never | 30 |
+/// | `subscriber.idle` | 1 to 3600 seconds; 0 never | 0 |
 /// | `subscriber.stream` | tables | none |
 /// | `stream.id`, `rate`, `base`, `wait`, `window` | as in a line `define` | required |
 /// | `stream.header` | the text itself | empty |
 /// | `stream.members` | list of 1 to 32 numbers or texts, as the grants | required |
 ///
+/// A NAME is labels joined by dots, at most 253 bytes. A label is one to 63 letters, digits and hyphens, with no hyphen at either end;
+/// the last label is not digits alone, so that no address with a wrong number is a name. Several PMUs of one source may each say its
+/// `silence` and `clock_ms`, and then say the same. A network is that of its first bits: `10.0.0.1/8` is `10.0.0.0/8`.
+///
 /// # Errors
 ///
 /// `BadSetup` for text that is not TOML, an unknown key, a key that is required and absent, a value of another type or
-/// out of range, and a second `connect` for one source; `NoMemory`.
+/// out of range, a second `connect` for one source, and two tables of one source that say another `silence` or `clock_ms`; `NoMemory`.
 pub fn read_setup(alloc: Global, text: &str) -> Result<Setup, Refusal>
-    ensures found { IfOk result (λ s. setup_of text.now ≡ Some (record { edits = s.edits.items; links = map (λ l. (l.0, string_bytes l.1)) s.links.items; ports = s.ports.items; tick_ms = s.tick_ms; ingest = s.ingest; serve = s.serve })) }
+    ensures found { IfOk result (λ s. setup_of text.now ≡ Some (record { edits = s.edits.items; links = map (λ l. (l.0, string_bytes l.1)) s.links.items; sources = s.sources.items; ports = s.ports.items; doors = map door_of s.doors.items; tick_ms = s.tick_ms; ingest = s.ingest; serve = s.serve })) }
     ensures refused { IfErr result (λ r. (r ≡ Refusal.NoMemory) ⊎ ((r ≡ Refusal.BadSetup) × (setup_of text.now ≡ None))) }
 {
     match toml::table_from_str(alloc, text) {
@@ -70,7 +86,7 @@ pub fn read_setup(alloc: Global, text: &str) -> Result<Setup, Refusal>
 
 /// What the file's table asks for.
 fn setup_in(alloc: Global, table: &Table) -> Result<Setup, Refusal>
-    ensures ok { IfOk result (λ s. setup_in (table_view table.now) ≡ Some (record { edits = s.edits.items; links = map (λ l. (l.0, string_bytes l.1)) s.links.items; ports = s.ports.items; tick_ms = s.tick_ms; ingest = s.ingest; serve = s.serve })) }
+    ensures ok { IfOk result (λ s. setup_in (table_view table.now) ≡ Some (record { edits = s.edits.items; links = map (λ l. (l.0, string_bytes l.1)) s.links.items; sources = s.sources.items; ports = s.ports.items; doors = map door_of s.doors.items; tick_ms = s.tick_ms; ingest = s.ingest; serve = s.serve })) }
     ensures err { IfErr result (λ r. (r ≡ Refusal.NoMemory) ⊎ ((r ≡ Refusal.BadSetup) × (setup_in (table_view table.now) ≡ None))) }
 {
     if !table::keys_within(&["tick_ms", "ingest", "serve", "pmu", "subscriber"], table) {
@@ -85,168 +101,54 @@ fn setup_in(alloc: Global, table: &Table) -> Result<Setup, Refusal>
     let Some(serve) = table::optional(table, "serve", 1, 1, 8) else {
         return Err(Refusal::BadSetup);
     };
-    let pmus = match pmus_at(alloc, table) {
+    let pmus = match pmu::pmus_at(alloc, table) {
         Ok(pmus) => pmus,
         Err(refusal) => return Err(refusal),
     };
-    let links = match links_of(alloc, pmus.as_slice()) {
+    let links = match pmu::links_of(alloc, pmus.as_slice()) {
         Ok(links) => links,
+        Err(refusal) => return Err(refusal),
+    };
+    let sources = match source::sources_of(alloc, pmus.as_slice()) {
+        Ok(sources) => sources,
         Err(refusal) => return Err(refusal),
     };
     let subscribers = match subscribers_at(alloc, table) {
         Ok(subscribers) => subscribers,
         Err(refusal) => return Err(refusal),
     };
-    let mut edits = edits_of(alloc, pmus.as_slice())?;
+    let mut edits = pmu::edits_of(alloc, pmus.as_slice())?;
     let mut rest = subscribers.edits;
     edits.append(&mut rest)?;
     Ok(Setup {
         edits,
         links,
+        sources,
         ports: subscribers.ports,
+        doors: subscribers.doors,
         tick_ms: tick_ms as u16,
         ingest: ingest as u8,
         serve: serve as u8,
     })
 }
 
-/// A PMU, and the address of its source.
-#[derive(Clone, Copy)]
-struct Pmu<'a> {
-    key: PmuKey,
-    connect: Option<&'a str>,
-}
+/// The keys of a subscriber's table.
+const SUBSCRIBER_KEYS: [&str; 11] = [
+    "id", "port", "ring", "bytes", "grants", "stream", "address", "allow", "takeover", "stall",
+    "idle",
+];
 
-/// The PMUs, in order.
-fn pmus_at(alloc: Global, table: &Table) -> Result<Vec<Pmu<'_>>, Refusal>
-    ensures ok { IfOk result (λ v. required (list_of pmu_in) (codes "pmu") (table_view table.now) ≡ Some (map (λ p. (p.key, option_map (λ s. s.now) p.connect)) v.items)) }
-    ensures err { IfErr result (λ r. (r ≡ Refusal.NoMemory) ⊎ ((r ≡ Refusal.BadSetup) × (required (list_of pmu_in) (codes "pmu") (table_view table.now) ≡ None))) }
-{
-    match table::value_at(table, "pmu") {
-        Some(value) => pmus_in(alloc, value),
-        None => Err(Refusal::BadSetup),
-    }
-}
-
-/// The PMUs' tables.
-fn pmus_in(alloc: Global, value: &Value) -> Result<Vec<Pmu<'_>>, Refusal>
-    ensures ok { IfOk result (λ v. list_of pmu_in (view value.now) ≡ Some (map (λ p. (p.key, option_map (λ s. s.now) p.connect)) v.items)) }
-    ensures err { IfErr result (λ r. (r ≡ Refusal.NoMemory) ⊎ ((r ≡ Refusal.BadSetup) × (list_of pmu_in (view value.now) ≡ None))) }
-{
-    let Some(items) = value.as_array() else {
-        return Err(Refusal::BadSetup);
-    };
-    let mut pmus = Vec::new(alloc);
-    'items: for item in items {
-        let Some(pmu) = pmu_in(item) else {
-            return Err(Refusal::BadSetup);
-        };
-        if pmus.push(pmu).is_err() {
-            return Err(Refusal::NoMemory);
-        }
-    }
-    Ok(pmus)
-}
-
-/// A PMU's table.
-fn pmu_in(value: &Value) -> Option<Pmu<'_>>
-    ensures { option_map (λ p. (p.key, option_map (λ s. s.now) p.connect)) result ≡ pmu_in (view value.now) }
-{
-    let table = value.as_table()?;
-    if !table::keys_within(&["id", "source", "connect"], table) {
-        return None;
-    }
-    let pmu = pmu_id(table)?;
-    let source = source_of(table, pmu)?;
-    let connect = connect_at(table)?;
-    Some(Pmu {
-        key: PmuKey { source, pmu },
-        connect,
-    })
-}
-
-/// The number of a PMU.
-fn pmu_id(table: &Table) -> Option<PmuId>
-    ensures { result ≡ required (whole_in 1 65534) (codes "id") (table_view table.now) }
-{
-    match table::required(table, "id", 1, 65534) {
-        Some(id) => PmuId::new(id as u16),
-        None => None,
-    }
-}
-
-/// The source of a PMU, which has its number where it is left out.
-fn source_of(table: &Table, pmu: PmuId) -> Option<PmuId>
-    ensures { result ≡ optional pmu (whole_in 1 65534) (codes "source") (table_view table.now) }
-{
-    match table::value_at(table, "source") {
-        Some(value) => match table::whole(value, 1, 65534) {
-            Some(source) => PmuId::new(source as u16),
-            None => None,
-        },
-        None => Some(pmu),
-    }
-}
-
-/// The address of a source, or none where it is left out.
-fn connect_at(table: &Table) -> Option<Option<&str>>
-    ensures { option_map (λ o. option_map (λ s. s.now) o) result ≡ absent_or address_in (codes "connect") (table_view table.now) }
-{
-    match table::value_at(table, "connect") {
-        Some(value) => match table::address(value) {
-            Some(address) => Some(Some(address)),
-            None => None,
-        },
-        None => Some(None),
-    }
-}
-
-/// The links that the PMUs ask for, of which no two are of one source.
-fn links_of(alloc: Global, pmus: &[Pmu<'_>]) -> Result<Vec<(PmuId, String)>, Refusal>
-    ensures ok { IfOk result (λ v. links_from [] (map (λ p. (p.key, option_map (λ s. s.now) p.connect)) pmus.now) ≡ Some (map (λ l. (l.0, string_bytes l.1)) v.items)) }
-    ensures err { IfErr result (λ r. (r ≡ Refusal.NoMemory) ⊎ ((r ≡ Refusal.BadSetup) × (links_from [] (map (λ p. (p.key, option_map (λ s. s.now) p.connect)) pmus.now) ≡ None))) }
-{
-    let mut links = Vec::new(alloc);
-    'pmus: for pmu in pmus {
-        if let Some(address) = pmu.connect {
-            if has_source(links.as_slice(), pmu.key.source) {
-                return Err(Refusal::BadSetup);
-            }
-            links.push((pmu.key.source, String::from_str(alloc, address)?))?;
-        }
-    }
-    Ok(links)
-}
-
-/// Whether one of the links is of this source.
-fn has_source(links: &[(PmuId, String)], source: PmuId) -> bool
-    ensures { result ≡ has_source source (map (λ l. (l.0, string_bytes l.1)) links.now) }
-{
-    links.iter().any(|link| link.0 == source)
-}
-
-/// The edits that register the PMUs.
-fn edits_of(alloc: Global, pmus: &[Pmu<'_>]) -> Result<Vec<Edit>, Refusal>
-    ensures ok { IfOk result (λ v. v.items ≡ map pmu_edit (map (λ p. (p.key, option_map (λ s. s.now) p.connect)) pmus.now)) }
-    ensures err { IfErr result (λ r. r ≡ Refusal.NoMemory) }
-{
-    let mut edits = Vec::new(alloc);
-    'pmus: for pmu in pmus {
-        edits.push(Edit::AddPmu(pmu.key))?;
-    }
-    Ok(edits)
-}
-
-/// The edits of the subscribers, and the ports that they connect to.
+/// The edits of the subscribers, the ports that they connect to, and the rules of these.
 #[derive(Drop)]
 struct Subscribers {
     edits: Vec<Edit>,
     ports: Vec<(SubId, u16)>,
+    doors: Vec<PortRules>,
 }
 
 /// The subscribers, in order.
 fn subscribers_at(alloc: Global, table: &Table) -> Result<Subscribers, Refusal>
-    ensures ok { IfOk result (λ s. option_map planned (required (list_of subscriber_in) (codes "subscriber") (table_view table.now)) ≡ Some (s.edits.items, s.ports.items)) }
+    ensures ok { IfOk result (λ s. option_map planned (required (list_of subscriber_in) (codes "subscriber") (table_view table.now)) ≡ Some (record { edits = s.edits.items; ports = s.ports.items; doors = map door_of s.doors.items })) }
     ensures err { IfErr result (λ r. (r ≡ Refusal.NoMemory) ⊎ ((r ≡ Refusal.BadSetup) × (required (list_of subscriber_in) (codes "subscriber") (table_view table.now) ≡ None))) }
 {
     match table::value_at(table, "subscriber") {
@@ -257,7 +159,7 @@ fn subscribers_at(alloc: Global, table: &Table) -> Result<Subscribers, Refusal>
 
 /// The subscribers' tables.
 fn subscribers_in(alloc: Global, value: &Value) -> Result<Subscribers, Refusal>
-    ensures ok { IfOk result (λ s. option_map planned (list_of subscriber_in (view value.now)) ≡ Some (s.edits.items, s.ports.items)) }
+    ensures ok { IfOk result (λ s. option_map planned (list_of subscriber_in (view value.now)) ≡ Some (record { edits = s.edits.items; ports = s.ports.items; doors = map door_of s.doors.items })) }
     ensures err { IfErr result (λ r. (r ≡ Refusal.NoMemory) ⊎ ((r ≡ Refusal.BadSetup) × (list_of subscriber_in (view value.now) ≡ None))) }
 {
     let Some(items) = value.as_array() else {
@@ -265,44 +167,73 @@ fn subscribers_in(alloc: Global, value: &Value) -> Result<Subscribers, Refusal>
     };
     let mut edits = Vec::new(alloc);
     let mut ports = Vec::new(alloc);
+    let mut doors = Vec::new(alloc);
     'items: for item in items {
-        let subscriber = match subscriber_in(alloc, item) {
+        let Subscriber {
+            edits: mut own,
+            port,
+            door,
+        } = match subscriber_in(alloc, item) {
             Ok(subscriber) => subscriber,
             Err(refusal) => return Err(refusal),
         };
-        let mut own = subscriber.edits;
         edits.append(&mut own)?;
-        if let Some(port) = subscriber.port {
-            ports.push(port)?;
-        }
+        add_port(&mut ports, &mut doors, port, door)?;
     }
-    Ok(Subscribers { edits, ports })
+    Ok(Subscribers {
+        edits,
+        ports,
+        doors,
+    })
 }
 
-/// The edits of a subscriber, and the port that it connects to.
+/// Adds a port that is there, and its rules.
+fn add_port(
+    ports: &mut Vec<(SubId, u16)>,
+    doors: &mut Vec<PortRules>,
+    port: Option<(SubId, u16)>,
+    door: PortRules,
+) -> Result<(), Refusal>
+    ensures ports { OnOk result (ports.new.items ≡ ports.old.items ++ option_to_list port) }
+    ensures doors { OnOk result (map door_of doors.new.items ≡ map door_of doors.old.items ++ option_to_list (option_map (λ p. door_of door) port)) }
+    ensures err { IfErr result (λ r. r ≡ Refusal.NoMemory) }
+{
+    if let Some(port) = port {
+        ports.push(port)?;
+        doors.push(door)?;
+    }
+    Ok(())
+}
+
+/// The edits of a subscriber, the port that it connects to, and the rules of that port.
 #[derive(Drop)]
 struct Subscriber {
     edits: Vec<Edit>,
     port: Option<(SubId, u16)>,
+    door: PortRules,
 }
 
 /// A subscriber's table.
 fn subscriber_in(alloc: Global, value: &Value) -> Result<Subscriber, Refusal>
-    ensures ok { IfOk result (λ s. subscriber_in (view value.now) ≡ Some (s.edits.items, s.port)) }
+    ensures ok { IfOk result (λ s. subscriber_in (view value.now) ≡ Some (record { edits = s.edits.items; port = s.port; door = door_of s.door })) }
     ensures err { IfErr result (λ r. (r ≡ Refusal.NoMemory) ⊎ ((r ≡ Refusal.BadSetup) × (subscriber_in (view value.now) ≡ None))) }
 {
     let Some(table) = value.as_table() else {
         return Err(Refusal::BadSetup);
     };
-    if !table::keys_within(&["id", "port", "ring", "bytes", "grants", "stream"], table) {
+    if !table::keys_within(&SUBSCRIBER_KEYS, table) {
         return Err(Refusal::BadSetup);
     }
     let Some(entry) = entry_at(table) else {
         return Err(Refusal::BadSetup);
     };
     let port = entry.own_port();
+    let door = match door::door_at(alloc, entry.id, table) {
+        Ok(door) => door,
+        Err(refusal) => return Err(refusal),
+    };
     match edits_at(alloc, &entry, table) {
-        Ok(edits) => Ok(Subscriber { edits, port }),
+        Ok(edits) => Ok(Subscriber { edits, port, door }),
         Err(refusal) => Err(refusal),
     }
 }

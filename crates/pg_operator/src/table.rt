@@ -2,7 +2,7 @@
 ghost use Rattle.std.specs.Prelude.{◌≡◌, ◌≤◌, IfSome, map, Some, None, option_map, is_some};
 ghost use Rattle.toml.specs.View.{view, table_view};
 ghost use Rattle.toml.specs.Data.{get_member};
-ghost use Rattle.pg_operator.specs.Setups.{required, optional, absent_or, is_among, keys_within, whole_in, key_in, is_part, is_host, is_address, address_in, text_in};
+ghost use Rattle.pg_operator.specs.Setups.{required, optional, absent_or, is_among, keys_within, whole_in, key_in, boolean_in};
 
 use crate::words;
 use pg_wire::{PmuId, PmuKey};
@@ -58,6 +58,17 @@ pub(crate) fn optional(
     }
 }
 
+/// The truth value at a key that may be left out.
+pub(crate) fn truth(table: &Table, key: &str, otherwise: bool) -> Option<bool>
+    ensures { result ≡ optional otherwise boolean_in key.now (table_view table.now) }
+{
+    match value_at(table, key) {
+        Some(Value::Boolean(truth)) => Some(*truth),
+        Some(_) => None,
+        None => Some(otherwise),
+    }
+}
+
 /// Whether the key is one of these.
 fn is_among(names: &[&str], key: &str) -> bool
     ensures { result ≡ is_among (map (λ n. n.now) names.now) key.now }
@@ -82,49 +93,6 @@ pub(crate) fn key(value: &Value) -> Option<PmuKey>
             let pmu = PmuId::new(whole(value, 1, 65534)? as u16)?;
             Some(PmuKey { source: pmu, pmu })
         }
-        _ => None,
-    }
-}
-
-/// One of the four numbers of an address.
-fn is_part(word: &str) -> bool
-    ensures { result ≡ is_part word.now }
-{
-    words::number(word, 0, 255).is_some()
-}
-
-/// `A.B.C.D`.
-fn is_host(word: &str) -> bool
-    ensures { result ≡ is_host word.now }
-{
-    let Some((a, rest)) = words::halves(word, '.') else {
-        return false;
-    };
-    let Some((b, rest)) = words::halves(rest, '.') else {
-        return false;
-    };
-    let Some((c, d)) = words::halves(rest, '.') else {
-        return false;
-    };
-    is_part(a) && is_part(b) && is_part(c) && is_part(d)
-}
-
-/// `A.B.C.D:PORT`.
-fn is_address(word: &str) -> bool
-    ensures { result ≡ is_address word.now }
-{
-    let Some((host, port)) = words::halves(word, ':') else {
-        return false;
-    };
-    is_host(host) && words::number(port, 1, 65535).is_some()
-}
-
-/// The text of an address.
-pub(crate) fn address(value: &Value) -> Option<&str>
-    ensures { option_map (λ s. s.now) result ≡ address_in (view value.now) }
-{
-    match value {
-        Value::String(text) if is_address(text.as_str()) => Some(text.as_str()),
         _ => None,
     }
 }

@@ -2,10 +2,11 @@
 //!
 //! Each reader answers `None`, or `BadLine`, for a word that is not of its form.
 
-ghost use Rattle.std.specs.Prelude.{◌≡◌, ◌≤◌, ◌⊎◌, ◌<◌, codes, IfOk, IfErr, IfSome, Some, None, option_map, true};
+ghost use Rattle.std.specs.Prelude.{◌≡◌, ◌≤◌, ◌⊎◌, ◌<◌, codes, IfOk, IfErr, IfSome, Some, None, option_map, true, unwrap_or};
 ghost use Rattle.std.specs.List.{list_all};
 ghost use Rattle.std.specs.Char.{is_ascii_digit};
 ghost use Rattle.std.specs.Str.Parse.{digits_value};
+ghost use Rattle.hex.specs.Hex.{hex_digit_value};
 ghost use Rattle.pg_operator.specs.Words.{is_number, number_in, halves, pmu_id_in, stream_id_in, subscriber_in, ring_size_in, ring_bytes_in, pair_in, key_in, hex_in, ends_in_plus, frame_in};
 
 use pg_ring::{RingBytes, RingSize};
@@ -121,6 +122,32 @@ pub fn key(word: &str) -> Option<PmuKey>
     Some(PmuKey { source: pmu, pmu })
 }
 
+/// The value of each byte that is a hexadecimal digit of either case, and 256 for each other byte.
+const DIGITS: [u16; 256] = [
+    256, 256, 256, 256, 256, 256, 256, 256, 256, 256, 256, 256, 256, 256, 256, 256, 256, 256, 256,
+    256, 256, 256, 256, 256, 256, 256, 256, 256, 256, 256, 256, 256, 256, 256, 256, 256, 256, 256,
+    256, 256, 256, 256, 256, 256, 256, 256, 256, 256, 0, 1, 2, 3, 4, 5, 6, 7, 8, 9, 256, 256, 256,
+    256, 256, 256, 256, 10, 11, 12, 13, 14, 15, 256, 256, 256, 256, 256, 256, 256, 256, 256, 256,
+    256, 256, 256, 256, 256, 256, 256, 256, 256, 256, 256, 256, 256, 256, 256, 256, 10, 11, 12, 13,
+    14, 15, 256, 256, 256, 256, 256, 256, 256, 256, 256, 256, 256, 256, 256, 256, 256, 256, 256,
+    256, 256, 256, 256, 256, 256, 256, 256, 256, 256, 256, 256, 256, 256, 256, 256, 256, 256, 256,
+    256, 256, 256, 256, 256, 256, 256, 256, 256, 256, 256, 256, 256, 256, 256, 256, 256, 256, 256,
+    256, 256, 256, 256, 256, 256, 256, 256, 256, 256, 256, 256, 256, 256, 256, 256, 256, 256, 256,
+    256, 256, 256, 256, 256, 256, 256, 256, 256, 256, 256, 256, 256, 256, 256, 256, 256, 256, 256,
+    256, 256, 256, 256, 256, 256, 256, 256, 256, 256, 256, 256, 256, 256, 256, 256, 256, 256, 256,
+    256, 256, 256, 256, 256, 256, 256, 256, 256, 256, 256, 256, 256, 256, 256, 256, 256, 256, 256,
+    256, 256, 256, 256, 256, 256, 256, 256, 256, 256, 256, 256, 256, 256, 256, 256, 256, 256, 256,
+    256, 256, 256,
+];
+
+/// The value of a digit, or 256, so that two digits have a value of a byte only where both are digits.
+fn digit(byte: u8) -> u32
+    ensures value { result ≡ unwrap_or (hex_digit_value byte) 256 }
+    ensures small { result < 65536 }
+{
+    u32::from(DIGITS[usize::from(byte)])
+}
+
 /// Bytes: an even number of hexadecimal digits, at least two, of either case.
 ///
 /// # Errors
@@ -130,14 +157,20 @@ pub fn hex_bytes(alloc: Global, word: &[u8]) -> Result<Vec<u8>, Refusal>
     ensures value { IfOk result (λ bytes. hex_in word.now ≡ Some bytes.items) }
     ensures refused { IfErr result (λ r. (r ≡ Refusal.NoMemory) ⊎ ((r ≡ Refusal.BadLine) × (hex_in word.now ≡ None))) }
 {
-    if word.is_empty() {
+    if word.is_empty() || word.len() % 2 != 0 {
         return Err(Refusal::BadLine);
     }
-    match hex::decode(alloc, word) {
-        Ok(bytes) => Ok(bytes),
-        Err(hex::FromHexError::OutOfMemory) => Err(Refusal::NoMemory),
-        Err(_) => Err(Refusal::BadLine),
+    let mut out = vec![in alloc; 0u8; word.len() / 2]?;
+    'bytes: for i in 0..word.len() / 2 {
+        let high = digit(word[2 * i]);
+        let low = digit(word[2 * i + 1]);
+        let value = 16 * high + low;
+        if value > 255 {
+            return Err(Refusal::BadLine);
+        }
+        out[i] = value as u8;
     }
+    Ok(out)
 }
 
 /// The bytes of a frame in hexadecimal, as `hex_bytes` reads them; with `+` at the end of the word the CHK of these

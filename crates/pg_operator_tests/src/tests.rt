@@ -2,6 +2,8 @@ use pg_gateway::Edit;
 use pg_operator::{Setup, parse_line, read_setup, words};
 use pg_wire::{PmuKey, Refusal};
 use std::alloc::{AllocError, Global};
+use std::net::Ipv4Addr;
+use std::process::Abort;
 use std::test::*;
 
 /// A key as it is written.
@@ -380,7 +382,7 @@ connect=\"host:1\"\n\
 [[subscriber]]\n\
 id=1\n\
 ring=4\n\
-=>\n\
+=>addpmu 7/7; addsub 1 4 16777216; link 7 host:1; 10 1 1\n\
 ====\n\
 [[pmu]]\n\
 id=7\n\
@@ -663,6 +665,312 @@ fn frames_in_hexadecimal(rt: HostRuntime) -> Result<(), Fail> {
                 assert_eq!(rt; 0, len, "at {word}");
             }
         }
+    }
+    Ok(())
+}
+
+// ---- names, networks, and the rules of sources and ports
+
+/// Addresses that are called, and behind a line `====` texts that are none.
+const CALLS: &str = "\
+host:1\n\
+h:65535\n\
+pmu-7.example.org:4712\n\
+A.b.C:80\n\
+1a:1\n\
+3com.com:1\n\
+1.2.3.a4:1\n\
+a--b:1\n\
+xn--nxasmq6b.example:4712\n\
+aaaaaaaaaaaaaaaaaaaaaaaaaaaaaaaaaaaaaaaaaaaaaaaaaaaaaaaaaaaaaaa:1\n\
+aaaaaaaaaaaaaaaaaaaaaaaaaaaaaaaaaaaaaaaaaaaaaaaaaaaaaaaaaaaaaaa.aaaaaaaaaaaaaaaaaaaaaaaaaaaaaaaaaaaaaaaaaaaaaaaaaaaaaaaaaaaaaaa.aaaaaaaaaaaaaaaaaaaaaaaaaaaaaaaaaaaaaaaaaaaaaaaaaaaaaaaaaaaaaaa.aaaaaaaaaaaaaaaaaaaaaaaaaaaaaaaaaaaaaaaaaaaaaaaaaaaaaaaaaaaaa:1\n\
+10.0.0.7:4712\n\
+0.0.0.0:1\n\
+====\n\
+:1\n\
+host\n\
+host:\n\
+host:0\n\
+host:65536\n\
+host:01\n\
+host:+1\n\
+host: 1\n\
+host::1\n\
+[::1]:1\n\
+-a:1\n\
+a-:1\n\
+-:1\n\
+a.-b.c:1\n\
+a.b-:1\n\
+a..b:1\n\
+.a:1\n\
+a.:1\n\
+.:1\n\
+a_b:1\n\
+a b:1\n\
+\x20a:1\n\
+a/b:1\n\
+é:1\n\
+aaaaaaaaaaaaaaaaaaaaaaaaaaaaaaaaaaaaaaaaaaaaaaaaaaaaaaaaaaaaaaaa:1\n\
+aaaaaaaaaaaaaaaaaaaaaaaaaaaaaaaaaaaaaaaaaaaaaaaaaaaaaaaaaaaaaaa.aaaaaaaaaaaaaaaaaaaaaaaaaaaaaaaaaaaaaaaaaaaaaaaaaaaaaaaaaaaaaaa.aaaaaaaaaaaaaaaaaaaaaaaaaaaaaaaaaaaaaaaaaaaaaaaaaaaaaaaaaaaaaaa.aaaaaaaaaaaaaaaaaaaaaaaaaaaaaaaaaaaaaaaaaaaaaaaaaaaaaaaaaaaaaa:1\n\
+300.1.1.1:4712\n\
+1.2.3:4712\n\
+1:1\n\
+a.1:1\n\
+a.b.123:1\n\
+1.2.3.4.5:1\n\
+255.255.255.256:1\n\
+01.1.1.1:1\n\
+1.1.1.1:65536";
+
+/// The address of the one link that a file with this text makes, or nothing where it is `BadSetup`.
+fn link_told(rt: &impl Abort, alloc: Global, text: &str) -> Result<String, Fail> {
+    let file = format!(in alloc;
+        "[[pmu]]\nid=7\nconnect=\"{text}\"\n[[subscriber]]\nid=1\nring=4\n"
+    )?;
+    match read_setup(alloc, file.as_str()) {
+        Ok(setup) => {
+            assert_eq!(rt; setup.links.len(), 1);
+            let link = setup.links.as_slice().first().ok_or("a link")?;
+            Ok(String::from_str(alloc, link.1.as_str())?)
+        }
+        Err(refusal) => {
+            assert_eq!(rt; refusal, Refusal::BadSetup);
+            Ok(String::new(alloc))
+        }
+    }
+}
+
+#[test]
+fn hosts_that_are_called(rt: HostRuntime) -> Result<(), Fail> {
+    let alloc = rt.alloc();
+    let (good, bad) = CALLS.split_once("\n====\n").ok_or("two parts")?;
+    assert_eq!(rt; good.split('\n').count(), 13);
+    assert_eq!(rt; bad.split('\n').count(), 35);
+    for text in good.split('\n') {
+        assert_eq!(rt; link_told(&rt, alloc, text)?.as_str(), text);
+    }
+    for text in bad.split('\n') {
+        assert_eq!(rt; link_told(&rt, alloc, text)?.as_str(), "", "{text}");
+    }
+    Ok(())
+}
+
+/// Lines of a PMU's table, parted by `;`, each row with the rules of the sources behind ` => `: number, silence and guard.
+const SOURCES: &str = "\
+\x20=> 7 10 none\n\
+silence=0 => 7 0 none\n\
+silence=1 => 7 1 none\n\
+silence=3600 => 7 3600 none\n\
+silence=3601 => \n\
+silence=-1 => \n\
+silence=\"10\" => \n\
+silence=10.0 => \n\
+silence=true => \n\
+silence=[10] => \n\
+clock_ms=1 => 7 10 1\n\
+clock_ms=30000 => 7 10 30000\n\
+clock_ms=0 => \n\
+clock_ms=30001 => \n\
+clock_ms=-1 => \n\
+clock_ms=\"1\" => \n\
+clock_ms=1.0 => \n\
+clock_ms=false => \n\
+Silence=10 => \n\
+silence_s=10 => \n\
+clock=1 => \n\
+stall=10 => \n\
+silence=5;clock_ms=7 => 7 5 7\n\
+source=9;silence=5;clock_ms=7 => 9 5 7\n\
+silence=5;[[pmu]];id=8;source=7;silence=5 => 7 5 none\n\
+silence=5;[[pmu]];id=8;source=7 => 7 5 none\n\
+[[pmu]];id=8;source=7;silence=5 => 7 5 none\n\
+silence=5;[[pmu]];id=8;source=7;clock_ms=6 => 7 5 6\n\
+silence=5;[[pmu]];id=8;source=7;silence=6 => \n\
+silence=6;[[pmu]];id=8;source=7;silence=5 => \n\
+silence=10;[[pmu]];id=8;source=7;silence=0 => \n\
+silence=5;[[pmu]];id=8;source=7;[[pmu]];id=9;source=7;silence=6 => \n\
+clock_ms=5;[[pmu]];id=8;source=7;clock_ms=5 => 7 10 5\n\
+clock_ms=5;[[pmu]];id=8;source=7;clock_ms=6 => \n\
+clock_ms=6;[[pmu]];id=8;source=7;clock_ms=5 => \n\
+silence=1;clock_ms=5;[[pmu]];id=8;source=7;silence=1;clock_ms=6 => \n\
+silence=5;[[pmu]];id=8;silence=6 => 7 5 none, 8 6 none\n\
+source=9;[[pmu]];id=8;source=3;[[pmu]];id=5;source=9;silence=4 => 9 4 none, 3 10 none\n\
+source=9;[[pmu]];id=9;source=7;clock_ms=1 => 9 10 none, 7 10 1\n\
+[[pmu]];id=8;source=3;silence=1;[[pmu]];id=9;source=3;silence=2 => ";
+
+/// Lines of a subscriber's table, parted by `;`, each row with the rules of the ports behind ` => `: number, address, which of the hosts
+/// below may connect, takeover, stall and idle.
+const DOORS: &str = "\
+\x20=> 1 0.0.0.0 111111 false 30 0\n\
+address=\"127.0.0.1\" => 1 127.0.0.1 111111 false 30 0\n\
+address=\"255.0.10.255\" => 1 255.0.10.255 111111 false 30 0\n\
+address=\"0.0.0.0\" => 1 0.0.0.0 111111 false 30 0\n\
+address=\"256.0.0.1\" => \n\
+address=\"0.0.0\" => \n\
+address=\"0.0.0.0.0\" => \n\
+address=\"01.0.0.1\" => \n\
+address=\"localhost\" => \n\
+address=\"127.0.0.1:4800\" => \n\
+address=\"127.0.0.1/32\" => \n\
+address=\" 127.0.0.1\" => \n\
+address=\"\" => \n\
+address=1 => \n\
+address=[\"127.0.0.1\"] => \n\
+allow=[] => 1 0.0.0.0 000000 false 30 0\n\
+allow=[\"10.0.0.1\"] => 1 0.0.0.0 010000 false 30 0\n\
+allow=[\"10.0.0.1/32\"] => 1 0.0.0.0 010000 false 30 0\n\
+allow=[\"10.0.0.1/31\"] => 1 0.0.0.0 110000 false 30 0\n\
+allow=[\"10.0.0.1/8\"] => 1 0.0.0.0 111000 false 30 0\n\
+allow=[\"10.0.0.0/7\"] => 1 0.0.0.0 111100 false 30 0\n\
+allow=[\"0.0.0.0/0\"] => 1 0.0.0.0 111111 false 30 0\n\
+allow=[\"255.255.255.255/1\"] => 1 0.0.0.0 000011 false 30 0\n\
+allow=[\"192.168.1.0/24\", \"10.0.0.0\"] => 1 0.0.0.0 100010 false 30 0\n\
+allow=[\"10.0.0.1/33\"] => \n\
+allow=[\"10.0.0.1/\"] => \n\
+allow=[\"10.0.0.1/08\"] => \n\
+allow=[\"10.0.0.1/-1\"] => \n\
+allow=[\"10.0.0.1/+8\"] => \n\
+allow=[\"10.0.0.1/8/8\"] => \n\
+allow=[\"10.0.0/8\"] => \n\
+allow=[\"/8\"] => \n\
+allow=[\"\"] => \n\
+allow=[\"10.0.0.1 \"] => \n\
+allow=[\"host\"] => \n\
+allow=[\"10.0.0.1\", \"10.0.0.256\"] => \n\
+allow=[10] => \n\
+allow=[[\"10.0.0.1\"]] => \n\
+allow=\"10.0.0.1\" => \n\
+allow=true => \n\
+takeover=true => 1 0.0.0.0 111111 true 30 0\n\
+takeover=false => 1 0.0.0.0 111111 false 30 0\n\
+takeover=1 => \n\
+takeover=0 => \n\
+takeover=\"true\" => \n\
+stall=0 => 1 0.0.0.0 111111 false 0 0\n\
+stall=1 => 1 0.0.0.0 111111 false 1 0\n\
+stall=3600 => 1 0.0.0.0 111111 false 3600 0\n\
+stall=3601 => \n\
+stall=-1 => \n\
+stall=\"30\" => \n\
+stall=30.0 => \n\
+stall=true => \n\
+idle=0 => 1 0.0.0.0 111111 false 30 0\n\
+idle=1 => 1 0.0.0.0 111111 false 30 1\n\
+idle=3600 => 1 0.0.0.0 111111 false 30 3600\n\
+idle=3601 => \n\
+idle=-1 => \n\
+idle=\"30\" => \n\
+idle=30.0 => \n\
+idle=[] => \n\
+Address=\"127.0.0.1\" => \n\
+allowed=[] => \n\
+take_over=true => \n\
+stalls=1 => \n\
+silence=1 => \n\
+idle=6;stall=5;takeover=true;allow=[\"11.0.0.0\"];address=\"10.0.0.1\" => 1 10.0.0.1 000100 true 5 6\n\
+[[subscriber]];id=2;ring=4;stall=9;[[subscriber]];id=3;ring=4;port=5;idle=7 => 1 0.0.0.0 111111 false 30 0, 3 0.0.0.0 111111 false 30 7\n\
+[[subscriber]];id=2;ring=4;stall=3601 => \n\
+[[subscriber]];id=9;ring=4;port=7;takeover=true;[[subscriber]];id=3;ring=4;port=5;allow=[] => 1 0.0.0.0 111111 false 30 0, 9 0.0.0.0 111111 true 30 0, 3 0.0.0.0 000000 false 30 0";
+
+/// Hosts that may connect or not.
+const HOSTS: &str = "10.0.0.0 10.0.0.1 10.255.255.255 11.0.0.0 192.168.1.7 255.255.255.255";
+
+/// The rules of the sources.
+fn sources_told(alloc: Global, setup: &Setup) -> Result<String, Fail> {
+    let mut text = String::new(alloc);
+    for rules in setup.sources.as_slice() {
+        if !text.is_empty() {
+            text.push_str(", ")?;
+        }
+        text = format!(in alloc; "{}{} {} ", text, rules.source.get(), rules.silence)?;
+        match rules.clock_ms {
+            Some(limit) => text = format!(in alloc; "{text}{limit}")?,
+            None => text.push_str("none")?,
+        }
+    }
+    Ok(text)
+}
+
+/// The rules of the ports.
+fn doors_told(alloc: Global, setup: &Setup) -> Result<String, Fail> {
+    let mut text = String::new(alloc);
+    for door in setup.doors.as_slice() {
+        if !text.is_empty() {
+            text.push_str(", ")?;
+        }
+        text = format!(in alloc; "{}{} {} ", text, door.sub.get(), door.address)?;
+        for host in HOSTS.split(' ') {
+            let host = host.parse::<Ipv4Addr>().ok().ok_or("a host")?;
+            text.push_str(if door.allow.allows(host) { "1" } else { "0" })?;
+        }
+        text = format!(in alloc; "{} {} {} {}", text, door.takeover, door.stall, door.idle)?;
+    }
+    Ok(text)
+}
+
+/// The keys, each in a line of its own.
+fn keys_in_lines(alloc: Global, keys: &str) -> Result<String, Fail> {
+    let mut text = String::new(alloc);
+    for key in keys.split(';') {
+        text = format!(in alloc; "{text}{key}\n")?;
+    }
+    Ok(text)
+}
+
+/// What is told of a file, or nothing where it is `BadSetup`.
+fn file_told(rt: &impl Abort, alloc: Global, file: &str, of_doors: bool) -> Result<String, Fail> {
+    match read_setup(alloc, file) {
+        Ok(setup) => {
+            assert_eq!(rt; setup.doors.len(), setup.ports.len());
+            for (door, port) in setup.doors.as_slice().iter().zip(setup.ports.as_slice()) {
+                assert_eq!(rt; door.sub.get(), port.0.get());
+            }
+            if of_doors {
+                doors_told(alloc, &setup)
+            } else {
+                sources_told(alloc, &setup)
+            }
+        }
+        Err(refusal) => {
+            assert_eq!(rt; refusal, Refusal::BadSetup);
+            Ok(String::new(alloc))
+        }
+    }
+}
+
+#[test]
+fn rules_of_sources(rt: HostRuntime) -> Result<(), Fail> {
+    let alloc = rt.alloc();
+    assert_eq!(rt; SOURCES.split('\n').count(), 40);
+    for row in SOURCES.split('\n') {
+        let (keys, want) = row.split_once(" => ").ok_or("a row")?;
+        let keys = keys_in_lines(alloc, keys)?;
+        let file = format!(in alloc; "[[pmu]]\nid=7\n{keys}\n[[subscriber]]\nid=1\nring=4\n")?;
+        assert_eq!(rt;
+            file_told(&rt, alloc, file.as_str(), false)?.as_str(),
+            want,
+            "at {row}"
+        );
+    }
+    Ok(())
+}
+
+#[test]
+fn rules_of_ports(rt: HostRuntime) -> Result<(), Fail> {
+    let alloc = rt.alloc();
+    assert_eq!(rt; DOORS.split('\n').count(), 70);
+    for row in DOORS.split('\n') {
+        let (keys, want) = row.split_once(" => ").ok_or("a row")?;
+        let keys = keys_in_lines(alloc, keys)?;
+        let file = format!(in alloc;
+            "[[pmu]]\nid=7\n[[subscriber]]\nid=1\nring=4\nport=4800\n{keys}\n"
+        )?;
+        assert_eq!(rt;
+            file_told(&rt, alloc, file.as_str(), true)?.as_str(),
+            want,
+            "at {row}"
+        );
     }
     Ok(())
 }

@@ -3,3 +3,4 @@ mod NoKind
 pub mod PrintLaws
 pub mod ReplayLaws
 pub mod LineLaws
+mod SourceLaws

@@ -3,6 +3,7 @@
 
 mod answers;
 mod lines;
+mod reading;
 mod script;
 #[cfg(test)]
 mod tests;

@@ -1,10 +1,12 @@
 //! The lines of a script.
-ghost use Rattle.std.specs.Prelude.{◌≡◌, ◌≢◌, ◌⊎◌, IfOk, IfErr, Some, None, map, option_map};
+ghost use Rattle.std.specs.Prelude.{◌≡◌, ◌≢◌, ◌⊎◌, IfOk, IfErr, IfSome, Some, None, map, option_map};
 ghost use Rattle.pg_operator.specs.Words.{number_in, pmu_id_in, subscriber_in};
 ghost use Rattle.pg_operator.specs.Lines.{one, two};
 ghost use Rattle.pg_replay.specs.Replaying.{without_end};
-ghost use Rattle.pg_replay.specs.Lines.{asked_in, asked, is_comment, kind_of, line_by, text_asks};
+ghost use Rattle.pg_serve.specs.Inputs.{pmu_bytes};
+ghost use Rattle.pg_replay.specs.Lines.{asked_in, asked, hands, is_comment, kind_of, line_by, text_asks};
 
+use memchr::memchr;
 use pg_operator::words::{self, frame_bytes};
 use pg_operator::{parse_line, words_of};
 use pg_serve::Input;
@@ -84,6 +86,9 @@ pub fn read_line(alloc: Global, line: &[u8]) -> Result<Line, Refusal>
     ensures found { IfOk result (λ l. asked_in line.now ≡ Some (asked l)) }
     ensures refused { IfErr result (λ r. (r ≡ Refusal.NoMemory) ⊎ ((r ≡ Refusal.BadLine) × (asked_in line.now ≡ None))) }
 {
+    if let Some((source, bytes)) = source_line(alloc, line)? {
+        return Ok(Line::Handed(Input::PmuBytes(source, bytes)));
+    }
     if is_comment(line) {
         return Ok(Line::Nothing);
     }
@@ -91,6 +96,31 @@ pub fn read_line(alloc: Global, line: &[u8]) -> Result<Line, Refusal>
         return Err(Refusal::BadLine);
     };
     read_text(alloc, text)
+}
+
+/// The source and the bytes of a line `pmu S HEX` with just one space between its words, in one pass: the line that comes once for
+/// each frame. `None` is answered for each other line, and for one that asks for nothing that a line may.
+fn source_line(alloc: Global, line: &[u8]) -> Result<Option<(PmuId, Vec<u8>)>, Refusal>
+    ensures found { IfOk result (λ o. IfSome o (λ p. asked_in line.now ≡ Some (hands (pmu_bytes p.0 p.1.items)))) }
+    ensures refused { IfErr result (λ r. r ≡ Refusal.NoMemory) }
+{
+    let [b'p', b'm', b'u', b' ', rest @ ..] = line else {
+        return Ok(None);
+    };
+    let Some(end) = memchr(b' ', rest) else {
+        return Ok(None);
+    };
+    let Ok(word) = str::from_utf8(&rest[..end]) else {
+        return Ok(None);
+    };
+    let Some(source) = words::pmu_id(word) else {
+        return Ok(None);
+    };
+    match frame_bytes(alloc, &rest[end + 1..]) {
+        Ok(bytes) => Ok(Some((source, bytes))),
+        Err(Refusal::NoMemory) => Err(Refusal::NoMemory),
+        Err(_) => Ok(None),
+    }
 }
 
 /// Whether the first word begins with `#`.

@@ -11,6 +11,7 @@ ghost use Rattle.pg_replay.specs.Answering.{AnswersAll, AnswersLine, PrintsSessi
 
 use crate::answers::{NotPrinted, print_counters, print_outputs, print_queue, print_refusal};
 use crate::lines::{Line, read_line, without_end};
+use crate::reading::read_line_bytes;
 use pg_serve::{Input, World};
 use pg_wire::{PmuId, Refusal, SubId};
 use std::alloc::Global;
@@ -90,7 +91,7 @@ impl Script {
         let mut line = Vec::new(self.alloc);
         for _turn in 0..u64::MAX {
             line.clear();
-            match reader.read_until(b'\n', &mut line) {
+            match read_line_bytes(reader, &mut line) {
                 Ok(0) => return Ok(()),
                 Ok(_) => self.answer(without_end(line.as_slice()), out)?,
                 Err(e) if e.kind() == io::ErrorKind::OutOfMemory => return Err(Fault::NoMemory),

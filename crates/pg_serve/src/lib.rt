@@ -1,5 +1,5 @@
 //! The world: the gateway with the links of its sources and the sessions of its subscribers, over lists of inputs. And a
-//! gateway that threads share, the loop of a session over any reader and writer, and workers that serve sockets.
+//! gateway that threads share, the loop of a session over any reader and writer, and workers in threads of their own.
 #![tactic(auto)]
 
 mod asked;
@@ -13,9 +13,6 @@ mod line;
 mod seat_gate;
 mod serve;
 mod shared;
-mod source_shell;
-mod subscriber_shell;
-mod ticker;
 mod work;
 mod world;
 
@@ -28,8 +25,5 @@ pub use laws::{
 pub use seat_gate::SeatGate;
 pub use serve::serve_session;
 pub use shared::{Seat, Shared};
-pub use source_shell::{SourceCaller, SourceWorker};
-pub use subscriber_shell::{SubscriberPort, SubscriberWorker};
-pub use ticker::Ticker;
 pub use work::{Work, run_workers};
 pub use world::World;

@@ -2,8 +2,6 @@
 #![tactic(auto)]
 
 #[cfg(test)]
-mod loopback;
-#[cfg(test)]
 mod serving;
 #[cfg(test)]
 mod sharing;

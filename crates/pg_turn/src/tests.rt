@@ -3,17 +3,17 @@ ghost use Rattle.std.specs.Prelude.{◌≡◌};
 
 use crate::{Add, Counter, Machine, Seat, Turnstile};
 use std::sync::Wait;
+use std::sync::atomic::Ordering;
 use std::test::Fail;
-use std::thread::join;
+use std::thread::{Threads, join};
 
-const CALLS: u32 = 1000;
-
-// One call after another, a thousand times. It says whether the replies rise strictly.
+// One call after another. It says whether the replies rise strictly.
 fn add_often<R: Wait>(
     rt: &R,
     turns: &Turnstile<Counter>,
     seat: Seat<Counter>,
     n: u32,
+    calls: u32,
 ) -> (Seat<Counter>, bool)
     requires { seat.table ≡ turns.now }
     ensures { result.0.table ≡ turns.now }
@@ -21,7 +21,7 @@ fn add_often<R: Wait>(
     let mut seat = seat;
     let mut last = 0;
     let mut rises = true;
-    for _ in 0..CALLS {
+    for _ in 0..calls {
         let (next, total) = turns.call(rt, seat, Add(n));
         rises = rises && total > last;
         seat = next;
@@ -30,28 +30,55 @@ fn add_often<R: Wait>(
     (seat, rises)
 }
 
+// Two threads add 1 and 10, each so often. The seat of both, and whether the replies of each rise.
+fn add_by_two<R: Threads + Wait + Sync>(
+    rt: &R,
+    turns: &Turnstile<Counter>,
+    seat: Seat<Counter>,
+    calls: u32,
+) -> (Seat<Counter>, bool)
+    requires { seat.table ≡ turns.now }
+    ensures { result.0.table ≡ turns.now }
+{
+    let (first, second) = turns.split(seat);
+    let ((first, ones), (second, tens)) = join(
+        rt,
+        || -> (Seat<Counter>, bool)
+            requires { first.table ≡ turns.now }
+            ensures { result.0.table ≡ turns.entry.now }
+        { add_often(rt, turns, first, 1, calls) },
+        || -> (Seat<Counter>, bool)
+            requires { second.table ≡ turns.now }
+            ensures { result.0.table ≡ turns.entry.now }
+        { add_often(rt, turns, second, 10, calls) },
+    );
+    (turns.join(first, second), ones && tens)
+}
+
 // The total shows that each call ran just once: a call that ran another event beside its own, or its own twice, would
 // meet the contract of `call`.
 #[test]
 fn counter_of_two_threads(rt: HostRuntime) -> Result<(), Fail> {
     let (turns, seat) = Turnstile::new(rt.alloc(), Counter::new())?;
-    let (first, second) = turns.split(seat);
-    let ((first, ones), (second, tens)) = join(
-        &rt,
-        || -> (Seat<Counter>, bool)
-            requires { first.table ≡ turns }
-            ensures { result.0.table ≡ turns }
-        { add_often(&rt, &turns, first, 1) },
-        || -> (Seat<Counter>, bool)
-            requires { second.table ≡ turns }
-            ensures { result.0.table ≡ turns }
-        { add_often(&rt, &turns, second, 10) },
-    );
-    let seat = turns.join(first, second);
+    let (seat, rise) = add_by_two(&rt, &turns, seat, 1000);
     let Some(counter) = turns.close(seat) else {
         panic!(&rt; "the value is at home")
     };
-    assert!(rt; ones && tens && counter.total == 11_000);
+    assert!(rt; rise && counter.total == 11_000);
+    Ok(())
+}
+
+// So many calls that threads do wait for each other: one that was not woken would wait for ever, which no contract rules out.
+// In the end nobody is counted as waiting.
+#[test]
+fn who_waits_is_woken(rt: HostRuntime) -> Result<(), Fail> {
+    let (turns, seat) = Turnstile::new(rt.alloc(), Counter::new())?;
+    let (seat, rise) = add_by_two(&rt, &turns, seat, 100_000);
+    assert!(&rt; rise && turns.waiting.load(Ordering::SeqCst) == 0);
+    let Some(counter) = turns.close(seat) else {
+        panic!(&rt; "the value is at home")
+    };
+    assert!(rt; counter.total == 1_100_000);
     Ok(())
 }
 

@@ -14,19 +14,26 @@ use std::alloc::{AllocError, AllocFailed, Global};
 use std::marker::{Brand, Model};
 use std::snapshot::Snapshot;
 use std::sync::Wait;
+use std::sync::atomic::{AtomicUsize, Ordering};
 
 type Top<M> = Shared<Slot<M>, Seen<M>, (), OneHistory<M>>;
 
-// Waits until the value is at home, and takes it. It parks between two tries, so that waiting burns no processor.
-fn take<M: Machine, R: Wait>(rt: &R, top: &Top<M>, place: &mut Place<M>)
+// Waits until the value is at home, and takes it. It parks between two tries, so that waiting burns no processor. Who found it
+// away is counted until it has it, so that a give-back makes a wake only where one waits.
+fn take<M: Machine, R: Wait>(rt: &R, top: &Top<M>, waiting: &AtomicUsize, place: &mut Place<M>)
     requires table { (place.old.table_id ≡ top.now.table_id) × (top.now.table_id.words ≡ 1) }
     ensures table { place.new.table_id ≡ place.old.table_id }
     ensures taken { (x : M) × (place.new.me.1 ≡ (0, Some x) ∷ place.old.me.1) × M.shows x place.new.me.0.seen }
     ensures seen { IsPrefix place.old.me.0.seen place.new.me.0.seen × IsLegal M.may place.new.me.0.seen }
     ensures own { (place.new.me.0.own ≡ place.old.me.0.own) × (place.new.me.0.holds ≡ true) }
 {
+    if top.compare_exchange::<Take<M>>(place, 0, 0, 1) == 0 {
+        return;
+    }
+    waiting.fetch_add(1, Ordering::SeqCst);
     for _ in rt.forever() {
         if top.compare_exchange::<Take<M>>(place, 0, 0, 1) == 0 {
+            waiting.fetch_sub(1, Ordering::SeqCst);
             return;
         }
         top.park(rt, 0, 1);
@@ -34,36 +41,42 @@ fn take<M: Machine, R: Wait>(rt: &R, top: &Top<M>, place: &mut Place<M>)
     unreachable!()
 }
 
-// The value, out of the slot that the seat has taken: the first of the two exchanges.
-fn lift<M: Machine>(top: &Top<M>, place: &mut Place<M>) -> M
+// The value answers the event where it lies, in the slot that the seat has taken.
+fn step_held<M: Machine>(top: &Top<M>, place: &mut Place<M>, event: M::Event) -> M::Reply
     requires table { place.old.table_id ≡ top.now.table_id }
     requires taken { (x : M) × (place.old.me.1 ≡ (0, Some x) ∷ []) × M.shows x place.old.me.0.seen }
-    ensures table { (place.new.table_id ≡ place.old.table_id) × (place.new.me ≡ (place.old.me.0, (0, None) ∷ [])) }
-    ensures shows { M.shows result place.old.me.0.seen }
+    ensures table { place.new.table_id ≡ place.old.table_id }
+    ensures view { place.new.me.0 ≡ place.old.me.0 }
+    ensures legal { M.may place.old.me.0.seen event result }
+    ensures stepped { (y : M) × (place.new.me.1 ≡ (0, Some y) ∷ []) × M.shows y (place.old.me.0.seen ++ (event, result) ∷ []) }
 {
-    top.exchange(place, 0, None).unwrap()
+    let slot = place.slot_mut(top, 0);
+    match slot {
+        Some(machine) => machine.step(event),
+        None => unreachable!(),
+    }
 }
 
-// Puts the value back (the second exchange), sets the word, tells of the call, and wakes one that waits.
+// Sets the word, by which the value is at home, tells of the call, and wakes one that waits.
 fn give_back<M: Machine, J: Telling<M::Event, M::Reply>>(
     top: &Top<M>,
+    waiting: &AtomicUsize,
     place: &mut Place<M>,
-    machine: M,
     event: Snapshot<M::Event>,
     reply: &M::Reply,
 )
     requires table { (place.old.table_id ≡ top.now.table_id) × (top.now.table_id.words ≡ 1) × (top.now.table_id.slots ≡ 1) }
-    requires empty { (place.old.me.1 ≡ (0, None) ∷ []) × (place.old.me.0.holds ≡ true) }
+    requires holds { place.old.me.0.holds ≡ true }
     requires told { J.calls ≡ (event.value, reply.now) ∷ [] }
     requires legal { M.may place.old.me.0.seen event.value reply.now }
-    requires shows { M.shows machine (place.old.me.0.seen ++ (event.value, reply.now) ∷ []) }
+    requires stepped { (y : M) × (place.old.me.1 ≡ (0, Some y) ∷ []) × M.shows y (place.old.me.0.seen ++ (event.value, reply.now) ∷ []) }
     ensures table { place.new.table_id ≡ place.old.table_id }
     ensures told { place.new.me ≡ (view_of (place.old.me.0.seen ++ (event.value, reply.now) ∷ []) [] (place.old.me.0.own ++ length place.old.me.0.seen ∷ []) false, []) }
 {
-    let empty = top.exchange(place, 0, Some(machine));
-    let None = empty else { unreachable!() };
     top.store::<GiveBack<J>>(place, 0, 0);
-    top.wake_one(0);
+    if waiting.load(Ordering::SeqCst) != 0 {
+        top.wake_one(0);
+    }
 }
 
 /// One value that many threads step in turn. All calls, of all threads, stand in one legal history (own rule).
@@ -73,6 +86,8 @@ fn give_back<M: Machine, J: Telling<M::Event, M::Reply>>(
 #[derive(Drop)]
 pub struct Turnstile<M: Machine> {
     board: Board<M>,
+    // How many are about to park, or do. No clause speaks of it.
+    pub(crate) waiting: AtomicUsize,
 }
 
 impl<M: Machine> Model for Turnstile<M> {
@@ -102,7 +117,13 @@ impl<M: Machine> Turnstile<M> {
         let Ok((board, place)) = Table::new(alloc, &[0], slots, &()) else {
             return Err(AllocError);
         };
-        Ok((Turnstile { board }, Seat { place }))
+        Ok((
+            Turnstile {
+                board,
+                waiting: AtomicUsize::new(0),
+            },
+            Seat { place },
+        ))
     }
 
     /// The machine answers the event once it is the caller's turn. The seat is one of this turnstile.
@@ -119,11 +140,10 @@ impl<M: Machine> Turnstile<M> {
     {
         let Seat { mut place } = seat;
         let top = &self.board.shared;
-        take(rt, top, &mut place);
-        let mut machine = lift(top, &mut place);
+        take(rt, top, &self.waiting, &mut place);
         let asked = Snapshot::of(&event);
-        let reply = machine.step(event);
-        give_back::<M, Brand>(top, &mut place, machine, asked, &reply);
+        let reply = step_held(top, &mut place, event);
+        give_back::<M, Brand>(top, &self.waiting, &mut place, asked, &reply);
         (Seat { place }, reply)
     }
 
@@ -166,7 +186,10 @@ impl<M: Machine> Turnstile<M> {
         ensures shows { IfSome result (λ m. (history : _) × IsPrefix seat.seen history × IsLegal M.may history × M.shows m history) }
     {
         let Seat { place } = seat;
-        let Turnstile { board } = self;
+        let Turnstile {
+            board,
+            waiting: _waiting,
+        } = self;
         let mut closed = board.close_with(place);
         let word = closed.word(0);
         let slot = closed.take(0);

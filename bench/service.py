@@ -1,0 +1,428 @@
+#!/usr/bin/env python3
+"""Measures the running service: starts the program with sources and subscribers of its own, and prints each figure beside its
+bound.
+
+    python3 bench/service.py PROGRAM [CASE..]      CASE: latency idle flood reader throughput commands; none: all of them
+
+PROGRAM is `pdcgw` as `rt run` left it in crates/pdcgw/out. Nothing beside Python's standard library is needed (and `strace` or
+`perf` for system calls, where one of them is there). The status is 1 where a figure is past its bound.
+"""
+import binascii
+import multiprocessing
+import os
+import selectors
+import socket
+import struct
+import subprocess
+import sys
+import tempfile
+import time
+
+BASE = 1_000_000
+FIRST_SOURCE_PORT = 20_100
+FIRST_PORT = 20_300
+
+
+def frame(kind, idcode, soc, frac, body):
+    head = struct.pack(">BBHHII", 0xAA, kind << 4 | 2, 16 + len(body), idcode, soc, frac)
+    return head + body + struct.pack(">H", binascii.crc_hqx(head + body, 0xFFFF))
+
+
+def configuration(source, pmus, rate, phasors=1):
+    body = struct.pack(">IH", BASE, len(pmus))
+    for pmu in pmus:
+        names = b"".join(b"PH%-14d" % at for at in range(phasors))
+        body += b"PMU %-12d" % pmu + struct.pack(">HHHHH", pmu, 0, phasors, 0, 0) + names + bytes(4 * phasors) + bytes(4)
+    return frame(3, source, int(time.time()), 0, body + struct.pack(">h", rate))
+
+
+def data(source, pmus, soc, frac, phasors=1):
+    block = bytes(2) + b"\x10\0\x20\0" * phasors + bytes(4)
+    return frame(0, source, soc, frac, block * pmus)
+
+
+def command(idcode, word):
+    return frame(4, idcode, int(time.time()), 0, struct.pack(">H", word))
+
+
+def frames_in(buffer):
+    """The whole frames at the front of a buffer, and what is left."""
+    found, at = [], 0
+    while len(buffer) - at >= 4:
+        size = buffer[at + 2] << 8 | buffer[at + 3]
+        if len(buffer) - at < size:
+            break
+        found.append(bytes(buffer[at:at + size]))
+        at += size
+    del buffer[:at]
+    return found
+
+
+def setup_text(tick_ms, sources, subscribers, ingest=1, serve=1):
+    """sources: {source: pmus}; subscribers: list of (id, ring, [streams]), a stream (id, rate, members)."""
+    lines = [f"tick_ms = {tick_ms}", f"ingest = {ingest}", f"serve = {serve}"]
+    for at, (source, pmus) in enumerate(sources.items()):
+        for place, pmu in enumerate(pmus):
+            lines += ["[[pmu]]", f"id = {pmu}", f"source = {source}"]
+            if place == 0:
+                lines.append(f'connect = "127.0.0.1:{FIRST_SOURCE_PORT + at}"')
+    for sub, ring, streams in subscribers:
+        keys = sorted({key for _, _, members in streams for key in members})
+        lines += ["[[subscriber]]", f"id = {sub}", f"port = {FIRST_PORT + sub}", f"ring = {ring}"]
+        lines.append("grants = [" + ", ".join(f'"{s}/{p}"' for s, p in keys) + "]")
+        for stream, rate, members in streams:
+            listed = ", ".join(f'"{s}/{p}"' for s, p in members)
+            lines += ["[[subscriber.stream]]", f"id = {stream}", f"rate = {rate}", f"base = {BASE}", "wait = 20", "window = 16",
+                      f"members = [{listed}]"]
+    return "\n".join(lines) + "\n"
+
+
+class Gateway:
+    """The program with a setup, until it is told to quit."""
+
+    def __init__(self, program, text):
+        self.file = tempfile.NamedTemporaryFile("w", suffix=".toml")
+        self.file.write(text)
+        self.file.flush()
+        self.process = subprocess.Popen([program, "run", "--setup", self.file.name], stdin=subprocess.PIPE,
+                                        stdout=subprocess.PIPE, stderr=subprocess.PIPE)
+
+    def ask(self, line):
+        self.process.stdin.write(line.encode() + b"\n")
+        self.process.stdin.flush()
+        return self.process.stdout.readline().decode().strip()
+
+    def quit(self):
+        try:
+            self.process.stdin.write(b"quit\n")
+            self.process.stdin.flush()
+            return self.process.wait(10)
+        except (subprocess.TimeoutExpired, BrokenPipeError):
+            self.process.kill()
+            return None
+
+
+def listen(port):
+    made = socket.socket()
+    made.setsockopt(socket.SOL_SOCKET, socket.SO_REUSEADDR, 1)
+    made.bind(("127.0.0.1", port))
+    made.listen(64)
+    return made
+
+
+def run_sources(sources, rate, seconds, phasors, told):
+    """Plays all sources: answers commands, and once all are started sends each one's frames on the clock's slots, spread over
+    the time of a slot as they would come over a network. Tells when each frame was sent."""
+    listeners = [listen(FIRST_SOURCE_PORT + at) for at in range(len(sources))]
+    told.put("ready")
+    numbers, made = list(sources), []
+    for at, listener in enumerate(listeners):
+        peer, _ = listener.accept()
+        peer.setsockopt(socket.IPPROTO_TCP, socket.TCP_NODELAY, 1)
+        made.append(peer)
+    for at, peer in enumerate(made):
+        buffer, started = bytearray(), False
+        while not started:
+            buffer += peer.recv(4096)
+            for got in frames_in(buffer):
+                word = got[15]
+                if word == 5:
+                    peer.sendall(configuration(numbers[at], sources[numbers[at]], rate, phasors))
+                started = started or word == 2
+    told.put("started")
+    told_go = told.get_go()
+    first = int(time.time()) + 1
+    sent = []
+    count = len(made)
+    for slot in range(int(seconds * rate)):
+        soc, frac = first + slot // rate, (slot % rate * BASE * 2 + rate) // (2 * rate)
+        for at, peer in enumerate(made):
+            due = first + (slot + at / count) / rate
+            wait = due - time.time()
+            if wait > 0:
+                time.sleep(wait)
+            bytes_out = data(numbers[at], len(sources[numbers[at]]), soc, frac, phasors)
+            sent.append((numbers[at], soc, frac, time.monotonic_ns()))
+            peer.sendall(bytes_out)
+    told.put(sent)
+    time.sleep(1.5)
+
+
+class Told:
+    """What a child tells its parent, and the parent's word to go on."""
+
+    def __init__(self):
+        self.out = multiprocessing.SimpleQueue()
+        self.go = multiprocessing.SimpleQueue()
+
+    def put(self, it):
+        self.out.put(it)
+
+    def get(self):
+        return self.out.get()
+
+    def get_go(self):
+        return self.go.get()
+
+
+def run_subscribers(subscribers, seconds, told):
+    """Plays all subscribers: starts each stream and notes when each data frame came."""
+    chosen = selectors.DefaultSelector()
+    for sub, _, streams in subscribers:
+        made = socket.create_connection(("127.0.0.1", FIRST_PORT + sub))
+        made.setsockopt(socket.IPPROTO_TCP, socket.TCP_NODELAY, 1)
+        for stream, _, _ in streams:
+            made.sendall(command(stream, 2))
+        made.setblocking(False)
+        chosen.register(made, selectors.EVENT_READ, (sub, bytearray()))
+    told.put("started")
+    end = time.monotonic() + seconds
+    got = []
+    while time.monotonic() < end:
+        for key, _ in chosen.select(0.1):
+            sub, buffer = key.data
+            piece = key.fileobj.recv(1 << 18)
+            now = time.monotonic_ns()
+            if not piece:
+                chosen.unregister(key.fileobj)
+                got.append((sub, 0, 0, 0, now))
+                continue
+            buffer += piece
+            for it in frames_in(buffer):
+                if it[1] >> 4 == 0:
+                    stream, soc, frac = struct.unpack(">HII", it[4:14])
+                    got.append((sub, stream, soc, frac & 0xFFFFFF, now))
+    told.put(got)
+
+
+def spawn(work, *args):
+    told = Told()
+    child = multiprocessing.Process(target=work, args=(*args, told), daemon=True)
+    child.start()
+    return child, told
+
+
+def measure(program, sources, subscribers, rate, seconds, phasors=1, tick_ms=10, beside=None, ingest=1, serve=1):
+    """Sent and got frames of a run."""
+    source, of_sources = spawn(run_sources, sources, rate, seconds, phasors)
+    of_sources.get()
+    gateway = Gateway(program, setup_text(tick_ms, sources, subscribers, ingest, serve))
+    of_sources.get()
+    time.sleep(0.3)
+    reader, of_readers = spawn(run_subscribers, subscribers, seconds + 3)
+    of_readers.get()
+    time.sleep(0.3)
+    of_sources.go.put("go")
+    helpers = beside(gateway) if beside else []
+    sent, got = of_sources.get(), of_readers.get()
+    for it in helpers:
+        it.kill()
+    status = gateway.quit()
+    for child in (source, reader):
+        child.join(5)
+    return sent, got, status
+
+
+def percentile(values, part):
+    values = sorted(values)
+    return values[min(len(values) - 1, int(len(values) * part))] if values else float("nan")
+
+
+def latencies(sent, got, streams):
+    """Milliseconds from the last of a frame's blocks that was sent to its coming, and how many are missing."""
+    at = {}
+    for source, soc, frac, when in sent:
+        at[source, soc, frac] = when
+    slots = sorted({(soc, frac) for _, soc, frac, _ in sent})
+    came = {(sub, stream, soc, frac): when for sub, stream, soc, frac, when in got}
+    found, missing = [], 0
+    for sub, stream, members in streams:
+        for soc, frac in slots:
+            when = came.get((sub, stream, soc, frac))
+            if when is None:
+                missing += 1
+            else:
+                found.append((when - max(at[s, soc, frac] for s, _ in members)) / 1e6)
+    return found, missing
+
+
+failures = []
+
+
+def tell(what, figure, bound, is_met):
+    print(f"{what:58} {figure:>24}   {bound:20} {'ok' if is_met else 'PAST IT'}", flush=True)
+    if not is_met:
+        failures.append(what)
+
+
+def case_latency(program):
+    for count, members, tick_ms in ((1, 1, 10), (1, 1, 100), (1, 1, 1000), (16, 16, 10), (64, 1, 10), (64, 1, 1000)):
+        sources = {100 + at: [100 + at] for at in range(count)}
+        keys = [(s, s) for s in sources]
+        subscribers = []
+        for at in range(count):
+            listed = keys if members > 1 else [keys[at]]
+            subscribers.append((at + 1, 64, [(1000 + at, 60, listed)]))
+        sent, got, _ = measure(program, sources, subscribers, 60, 8, tick_ms=tick_ms, ingest=1, serve=1)
+        streams = [(sub, stream, listed) for sub, _, defined in subscribers for stream, _, listed in defined]
+        found, missing = latencies(sent, got, streams)
+        name = f"{count} x {count} x {members} at 60/s, tick_ms {tick_ms}: p50, p99 ms"
+        p99 = percentile(found, 0.99)
+        tell(name, f"{percentile(found, 0.5):.2f}, {p99:.2f} ({missing} lost)", "p99 < 1, 0 lost", p99 < 1 and missing == 0)
+
+
+def flood_source(port, kind):
+    """A source that sends without end as soon as it is called."""
+    listener = listen(port)
+    whole = configuration(1, [1], 60) + data(1, 1, int(time.time()), 0) * 500
+    wrong = bytearray(data(1, 1, int(time.time()), 0))
+    wrong[-1] ^= 1
+    junk = {"whole": whole, "wrong": configuration(1, [1], 60) + bytes(wrong) * 500, "garbage": os.urandom(16_384)}[kind]
+    while True:
+        peer, _ = listener.accept()
+        try:
+            while True:
+                peer.sendall(junk)
+        except OSError:
+            pass
+
+
+def flood_subscriber(port):
+    """A subscriber that sends commands 2 and 1 without end."""
+    while True:
+        try:
+            peer = socket.create_connection(("127.0.0.1", port))
+            peer.setblocking(True)
+            junk = (command(2000, 2) + command(2000, 1)) * 200
+            while True:
+                peer.sendall(junk)
+        except OSError:
+            time.sleep(0.05)
+
+
+def case_flood(program):
+    for kind in ("whole", "wrong", "garbage", "commands"):
+        sources = {100: [100], 1: [1]}
+        subscribers = [(1, 64, [(1000, 60, [(100, 100)])]), (2, 64, [(2000, 60, [(1, 1)])])]
+        text = setup_text(10, sources, subscribers)
+        flooding = multiprocessing.Process(
+            target=flood_subscriber if kind == "commands" else flood_source,
+            args=(FIRST_PORT + 2,) if kind == "commands" else (FIRST_SOURCE_PORT + 1, kind), daemon=True)
+        source, of_sources = spawn(run_sources, {100: [100]}, 60, 8, 1)
+        of_sources.get()
+        if kind != "commands":
+            flooding.start()
+            time.sleep(0.3)
+        gateway = Gateway(program, text)
+        of_sources.get()
+        reader, of_readers = spawn(run_subscribers, subscribers[:1], 11)
+        of_readers.get()
+        if kind == "commands":
+            flooding.start()
+        time.sleep(0.3)
+        of_sources.go.put("go")
+        sent, got = of_sources.get(), of_readers.get()
+        flooding.kill()
+        gateway.quit()
+        found, missing = latencies(sent, got, [(1, 1000, [(100, 100)])])
+        p99 = percentile(found, 0.99)
+        tell(f"flood of {kind}, neighbour at 60/s: p50, p99 ms", f"{percentile(found, 0.5):.2f}, {p99:.2f} ({missing} lost)",
+             "p99 < 20, 0 lost", p99 < 20 and missing == 0)
+
+
+def case_reader(program):
+    # 16 PMUs of 27 phasors: 16 + 2 + 16 * 114 bytes are 1,842; a stream has all of them.
+    sources = {100: list(range(100, 116))}
+    members = [(100, pmu) for pmu in sources[100]]
+    subscribers = [(1, 64, [(1000 + at, 120, members) for at in range(8)])]
+    sent, got, _ = measure(program, sources, subscribers, 120, 8, phasors=26)
+    found, missing = latencies(sent, got, [(1, 1000 + at, [(100, 100)]) for at in range(8)])
+    tell("8 streams of some 1,800 bytes at 120/s, healthy reader: p99 ms", f"{percentile(found, 0.99):.2f} ({missing} lost)",
+         "0 lost", missing == 0)
+
+
+def system_calls(process, seconds):
+    """System calls a second of a process, by strace; None where it is not there."""
+    try:
+        tracer = subprocess.Popen(["strace", "-f", "-c", "-p", str(process.pid)], stdout=subprocess.DEVNULL,
+                                  stderr=subprocess.PIPE, text=True)
+    except FileNotFoundError:
+        return None
+    time.sleep(seconds)
+    tracer.send_signal(2)
+    lines = tracer.communicate()[1].splitlines()
+    for line in lines:
+        if line.split()[-1:] == ["total"]:
+            return int(line.split()[-3] if line.split()[-2].isdigit() and len(line.split()) > 5 else line.split()[-2]) / seconds
+    return None
+
+
+def case_idle(program):
+    subscribers = [(at + 1, 64, [(1000 + at, 60, [(100, 100)])]) for at in range(64)]
+    gateway = Gateway(program, setup_text(10, {100: [100]}, subscribers))
+    time.sleep(0.5)
+    made = [socket.create_connection(("127.0.0.1", FIRST_PORT + sub)) for sub, _, _ in subscribers]
+    time.sleep(1)
+    calls = system_calls(gateway.process, 5)
+    tell("64 subscribers, nothing to do: system calls a second", "no strace" if calls is None else f"{calls:.0f}", "< 500",
+         calls is not None and calls < 500)
+    for it in made:
+        it.close()
+    gateway.quit()
+
+
+def burst_source(told):
+    listener = listen(FIRST_SOURCE_PORT)
+    told.put("ready")
+    peer, _ = listener.accept()
+    buffer, started = bytearray(), False
+    while not started:
+        buffer += peer.recv(4096)
+        for got in frames_in(buffer):
+            if got[15] == 5:
+                peer.sendall(configuration(100, [100], 120))
+            started = started or got[15] == 2
+    told.put("started")
+    told.get_go()
+    first = int(time.time()) - 28
+    pieces = b"".join(data(100, 1, first + slot // 120, slot % 120 * BASE // 120) for slot in range(56 * 120))
+    told.put(time.monotonic_ns())
+    peer.sendall(pieces)
+    time.sleep(20)
+
+
+def case_throughput(program):
+    subscribers = [(at + 1, 1024, [(1000 + at, 120, [(100, 100)])]) for at in range(64)]
+    source, of_source = spawn(burst_source)
+    of_source.get()
+    gateway = Gateway(program, setup_text(10, {100: [100]}, subscribers, ingest=1, serve=2))
+    of_source.get()
+    readers = [spawn(run_subscribers, subscribers[at::2], 12) for at in range(2)]
+    for _, told in readers:
+        told.get()
+    time.sleep(0.5)
+    of_source.go.put("go")
+    begun = of_source.get()
+    got = [it for _, told in readers for it in told.get()]
+    gateway.quit()
+    source.kill()
+    wanted = 56 * 120 * 64
+    last = max(when for *_, when in got) if got else begun + 1
+    tell("a burst of one PMU to 64 subscribers: frames a second out", f"{len(got) / ((last - begun) / 1e9):,.0f}", "(no bound)", True)
+    print(f"    {len(got):,} of {wanted:,} came, {(last - begun) / 1e6:.0f} ms")
+
+
+CASES = {"latency": case_latency, "idle": case_idle, "flood": case_flood, "reader": case_reader, "throughput": case_throughput}
+
+
+def main():
+    if len(sys.argv) < 2:
+        sys.exit(__doc__)
+    chosen = sys.argv[2:] or list(CASES)
+    for name in chosen:
+        CASES[name](sys.argv[1])
+    sys.exit(1 if failures else 0)
+
+
+if __name__ == "__main__":
+    main()

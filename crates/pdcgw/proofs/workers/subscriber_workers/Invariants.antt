@@ -1,5 +1,0 @@
-use Rattle.std.proofs.Common.{◌≡◌}
-use Rattle.pdcgw.proofs.workers.subscriber_workers.Given as goal
-
-abbrev pub invariant-workers : goal.invariant-workers
-invariant-workers g l = l.rest.table ≡ g.N.Named.table

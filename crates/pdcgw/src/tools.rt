@@ -1,0 +1,167 @@
+//! The words of the tools: `simulate` and `watch`.
+
+use crate::{Outcome, help};
+use clap::{Arg, ArgAction, ArgMatches, Command};
+use pg_tools::{SimulateWords, WatchWords, read_settings, read_watched};
+use std::alloc::{AllocError, Global};
+use std::net::Net;
+use std::rt::{Clock, Files};
+
+/// An option with a value, and the value that it has where it is absent.
+fn option<'a>(
+    alloc: Global,
+    name: &'a str,
+    value: &'a str,
+    absent: &'a str,
+    text: &'a str,
+) -> Arg<'a> {
+    Arg::new(alloc, name)
+        .long(name)
+        .value_name(value)
+        .default_value(absent)
+        .help(text)
+}
+
+/// The words of `simulate`.
+pub fn simulate_words<'a>(alloc: Global) -> Result<Command<'a>, AllocError> {
+    let fault = Arg::new(alloc, "fault")
+        .long("fault")
+        .value_name("FAULT")
+        .action(ArgAction::Append)
+        .help("What it does wrong, as below; may be repeated");
+    Command::new(alloc, "simulate")
+        .about("Plays a source with PMUs, to try a gateway with")
+        .after_help(help::SIMULATE)
+        .arg(option(
+            alloc,
+            "listen",
+            "A.B.C.D:PORT",
+            "127.0.0.1:4712",
+            "Where it listens",
+        ))?
+        .arg(option(
+            alloc,
+            "source",
+            "N",
+            "7",
+            "Its IDCODE, from which on its PMUs are numbered",
+        ))?
+        .arg(option(alloc, "pmus", "N", "1", "How many PMUs, 1 to 16"))?
+        .arg(option(alloc, "rate", "N", "30", "Data frames a second, 1 to 120"))?
+        .arg(option(alloc, "phasors", "N", "3", "Phasors of each PMU, 0 to 32"))?
+        .arg(option(
+            alloc,
+            "analogs",
+            "N",
+            "1",
+            "Analog values of each PMU, 0 to 32",
+        ))?
+        .arg(option(
+            alloc,
+            "digitals",
+            "N",
+            "1",
+            "Digital words of each PMU, 0 to 32",
+        ))?
+        .arg(option(
+            alloc,
+            "nominal",
+            "HZ",
+            "60",
+            "The frequency of the grid, 50 or 60",
+        ))?
+        .arg(fault)
+}
+
+/// Does the work of `simulate`.
+pub fn simulate<R>(rt: &R, words: &ArgMatches<'_>) -> Outcome
+where
+    R: Net + Clock + Print + Alloc<A = Global>,
+{
+    let read = read_settings(&SimulateWords {
+        listen: words.get_str("listen").unwrap_or(""),
+        source: words.get_str("source").unwrap_or(""),
+        pmus: words.get_str("pmus").unwrap_or(""),
+        rate: words.get_str("rate").unwrap_or(""),
+        phasors: words.get_str("phasors").unwrap_or(""),
+        analogs: words.get_str("analogs").unwrap_or(""),
+        digitals: words.get_str("digitals").unwrap_or(""),
+        nominal: words.get_str("nominal").unwrap_or(""),
+        faults: words.get_strs("fault").unwrap_or(&[]),
+    });
+    match read {
+        Ok((address, settings)) => match pg_tools::simulate(rt, address, settings) {
+            Ok(()) => Outcome::Done,
+            Err(fault) => Outcome::Fallen(fault),
+        },
+        Err(misword) => Outcome::Misworded(misword),
+    }
+}
+
+/// The words of `watch`.
+pub fn watch_words<'a>(alloc: Global) -> Result<Command<'a>, AllocError> {
+    let address = Arg::new(alloc, "address")
+        .value_name("A.B.C.D:PORT")
+        .help("The address of a gateway's subscriber, or of a source")
+        .required(true);
+    let csv = Arg::new(alloc, "csv")
+        .long("csv")
+        .action(ArgAction::SetTrue)
+        .help("Writes each data frame as a line of values with commas between");
+    let plain = Arg::new(alloc, "plain")
+        .long("plain")
+        .action(ArgAction::SetTrue)
+        .help("Writes a line a second, where standard output is a terminal too");
+    let raw = Arg::new(alloc, "raw")
+        .long("raw")
+        .value_name("FILE")
+        .help("Keeps the bytes in this file as they come");
+    let frames = Arg::new(alloc, "frames")
+        .long("frames")
+        .value_name("N")
+        .help("Ends after so many data frames");
+    let seconds = Arg::new(alloc, "seconds")
+        .long("seconds")
+        .value_name("N")
+        .help("Ends after so many seconds");
+    let stream = Arg::new(alloc, "stream")
+        .long("stream")
+        .value_name("N")
+        .help("The IDCODE of the stream, or of the source")
+        .required(true);
+    Command::new(alloc, "watch")
+        .about("Plays a subscriber: checks a stream, and shows it")
+        .after_help(help::WATCH)
+        .arg(address)?
+        .arg(stream)?
+        .arg(csv)?
+        .arg(plain)?
+        .arg(raw)?
+        .arg(frames)?
+        .arg(seconds)
+}
+
+/// Does the work of `watch`.
+pub fn watch<R>(rt: &R, words: &ArgMatches<'_>, is_terminal: bool) -> Outcome
+where
+    R: Net + Clock + Files + Print + Eprint + Alloc<A = Global>,
+{
+    let read = read_watched(&WatchWords {
+        address: words.get_str("address").unwrap_or(""),
+        stream: words.get_str("stream").unwrap_or(""),
+        is_csv: words.get_flag("csv"),
+        is_plain: words.get_flag("plain"),
+        is_terminal,
+        raw: words.get_str("raw"),
+        frames: words.get_str("frames"),
+        seconds: words.get_str("seconds"),
+    });
+    match read {
+        Ok(watched) => match pg_tools::watch(rt, &watched) {
+            Ok(true) => Outcome::Done,
+            Ok(false) => Outcome::Troubled,
+            Err(fault) => Outcome::Fallen(fault),
+        },
+        Err(misword) => Outcome::Misworded(misword),
+    }
+}

@@ -1,0 +1,4 @@
+-- Definitions that the contracts of the service's small types cite, in the order in which to read them.
+pub mod Calling
+pub mod Hosts
+pub mod Clocks

@@ -1,0 +1,239 @@
+use crate::{Allow, Budget, ClockGuard, Deadline, Network, Pause};
+use std::collections::VecDeque;
+use std::io::{ErrorKind, Read};
+use std::net::Ipv4Addr;
+use std::process::Abort;
+use std::test::*;
+use std::time::{Duration, Instant};
+
+// ---- networks
+
+/// Networks, each with hosts that it has, and behind `|` hosts beside its edges that it has not.
+const NETWORKS: &str = "\
+0.0.0.0/0 0.0.0.0 255.255.255.255 10.0.0.1 |\n\
+10.0.0.1/8 10.0.0.0 10.0.0.1 10.255.255.255 | 9.255.255.255 11.0.0.0\n\
+192.168.1.0/24 192.168.1.0 192.168.1.255 | 192.168.0.255 192.168.2.0 192.169.1.0\n\
+10.0.0.4/31 10.0.0.4 10.0.0.5 | 10.0.0.3 10.0.0.6\n\
+10.0.0.5/31 10.0.0.4 10.0.0.5 | 10.0.0.3 10.0.0.6\n\
+255.255.255.255/32 255.255.255.255 | 255.255.255.254 127.255.255.255\n\
+0.0.0.0/32 0.0.0.0 | 0.0.0.1 128.0.0.0\n\
+128.0.0.0/1 128.0.0.0 255.255.255.255 | 127.255.255.255 0.0.0.0";
+
+fn host(rt: &impl Abort, text: &str) -> Ipv4Addr {
+    text.parse::<Ipv4Addr>().expect(rt, "an address")
+}
+
+/// A network of the table.
+fn network(rt: &impl Abort, text: &str) -> Network {
+    let (address, bits) = text.split_once('/').expect(rt, "a slash");
+    let bits = bits.parse::<u8>().expect(rt, "bits");
+    assert!(rt; bits <= 32, "{text}");
+    Network::new(host(rt, address), bits)
+}
+
+#[test]
+fn networks_at_their_edges(rt: HostRuntime) {
+    for row in NETWORKS.split('\n') {
+        let (inside, outside) = row.split_once('|').expect(&rt, "a bar");
+        let (own, hosts) = inside.split_once(' ').expect(&rt, "a space");
+        let own = network(&rt, own);
+        for text in hosts.split_ascii_whitespace() {
+            assert!(rt; own.has(host(&rt, text)), "{text} at {row}");
+        }
+        for text in outside.split_ascii_whitespace() {
+            assert!(rt; !own.has(host(&rt, text)), "{text} at {row}");
+        }
+    }
+}
+
+#[test]
+fn hosts_that_may_connect(rt: HostRuntime) -> Result<(), Fail> {
+    let every = Allow { networks: None };
+    assert!(rt; every.allows(host(&rt, "0.0.0.0")));
+    assert!(rt; every.allows(host(&rt, "255.255.255.255")));
+    let mut nobody = Allow {
+        networks: Some(Vec::new(rt.alloc())),
+    };
+    assert!(rt; !nobody.allows(host(&rt, "127.0.0.1")));
+    let mut networks = Vec::new(rt.alloc());
+    networks.push(network(&rt, "10.1.2.3/16"))?;
+    networks.push(network(&rt, "127.0.0.1/32"))?;
+    nobody.networks = Some(networks);
+    for (text, may) in [
+        ("10.1.0.0", true),
+        ("10.1.255.255", true),
+        ("127.0.0.1", true),
+        ("10.0.255.255", false),
+        ("10.2.0.0", false),
+        ("127.0.0.2", false),
+    ] {
+        assert_eq!(rt; nobody.allows(host(&rt, text)), may, "{text}");
+    }
+    Ok(())
+}
+
+// ---- times
+
+#[test]
+fn pauses(rt: HostRuntime) {
+    let mut pause = Pause::none();
+    assert_eq!(rt; pause.seconds(), 0);
+    for seconds in [1, 2, 4, 8, 16, 30, 30] {
+        pause = pause.longer();
+        assert_eq!(rt; pause.seconds(), seconds);
+    }
+    assert_eq!(rt; Pause::none().longer().seconds(), 1);
+}
+
+/// The instant so many seconds and nanoseconds later.
+fn later(rt: &impl Abort, from: Instant, seconds: u64, nanos: u32) -> Instant {
+    let seconds = from.checked_add(Duration::from_secs(seconds));
+    let seconds = seconds.expect(rt, "a later second");
+    let nanos = seconds.checked_add(Duration::from_nanos(u64::from(nanos)));
+    nanos.expect(rt, "a later instant")
+}
+
+#[test]
+fn deadline_at_its_limit(rt: HostRuntime) -> Result<(), Fail> {
+    let start = Instant::now(&rt)?;
+    let mut deadline = Deadline {
+        last: start,
+        limit: Duration::from_secs(10),
+    };
+    for (seconds, nanos, left, over) in [
+        (0, 0, 10_000_000_000, false),
+        (9, 999_999_999, 1, false),
+        (10, 0, 0, true),
+        (10, 1, 0, true),
+        (3_600, 0, 0, true),
+    ] {
+        let now = later(&rt, start, seconds, nanos);
+        assert_eq!(rt; deadline.left(now).as_nanos(), left);
+        assert_eq!(rt; deadline.is_over(now), over);
+    }
+    // seen again half a second before its end: it has its whole limit from there
+    let seen = later(&rt, start, 9, 500_000_000);
+    deadline.seen(seen);
+    assert_eq!(rt; deadline.limit, Duration::from_secs(10));
+    assert!(rt; !deadline.is_over(later(&rt, start, 19, 499_999_999)));
+    assert!(rt; deadline.is_over(later(&rt, start, 19, 500_000_000)));
+    // a clock that reads earlier than what was seen leaves the whole limit
+    assert_eq!(rt; deadline.left(start), Duration::from_secs(10));
+    Ok(())
+}
+
+/// Limits, clocks in milliseconds, and the SOC, numerator and resolution of measurements; whether they are near.
+const NEAR: [(u16, u64, u32, u32, u32, bool); 22] = [
+    // SOC 100 alone, at exactly 500 ms and 1 ms beyond
+    (500, 100_500, 100, 0, 1_000_000, true),
+    (500, 100_501, 100, 0, 1_000_000, false),
+    (500, 99_500, 100, 0, 1_000_000, true),
+    (500, 99_499, 100, 0, 1_000_000, false),
+    // 100.5 s
+    (500, 101_000, 100, 500_000, 1_000_000, true),
+    (500, 101_001, 100, 500_000, 1_000_000, false),
+    (500, 100_000, 100, 500_000, 1_000_000, true),
+    (500, 99_999, 100, 500_000, 1_000_000, false),
+    // the same with a resolution of 2
+    (500, 101_000, 100, 1, 2, true),
+    (500, 101_001, 100, 1, 2, false),
+    // 100 1/3 s, which no whole millisecond is
+    (1, 100_332, 100, 1, 3, false),
+    (1, 100_333, 100, 1, 3, true),
+    (1, 100_334, 100, 1, 3, true),
+    (1, 100_335, 100, 1, 3, false),
+    // a ten-thousandth of a millisecond decides
+    (500, 101_000, 100, 500_001, 1_000_000, true),
+    (500, 100_000, 100, 500_001, 1_000_000, false),
+    // the widest limit, and the ends of the stamps
+    (30_000, 130_000, 100, 0, 16_777_215, true),
+    (30_000, 130_001, 100, 0, 16_777_215, false),
+    (30_000, 70_000, 100, 0, 16_777_215, true),
+    (30_000, 0, 30, 0, 1, true),
+    (30_000, 0, 30, 1, 16_777_215, false),
+    (
+        1,
+        4_294_967_295_999,
+        4_294_967_295,
+        16_777_214,
+        16_777_215,
+        true,
+    ),
+];
+
+#[test]
+fn clock_guard_at_its_limit(rt: HostRuntime) {
+    for (limit, now, soc, frac, base, near) in NEAR {
+        assert!(rt; now < 281_474_976_710_656 && frac < 16_777_216 && base < 16_777_216);
+        let guard = ClockGuard { limit };
+        assert_eq!(rt;
+            guard.is_near(now, soc, frac, base),
+            near,
+            "{limit} {now} {soc} {frac}/{base}"
+        );
+    }
+}
+
+// ---- reads
+
+/// Reads of 4,096 bytes until none is given, put behind what is there. How many were given, and the kind of the last fault.
+fn drain(
+    budget: &mut Budget<VecDeque<u8>>,
+    got: &mut Vec<u8>,
+) -> Result<(usize, Option<ErrorKind>), Fail> {
+    let mut buf = [0; 4096];
+    for given in 0..100 {
+        match budget.read(&mut buf) {
+            Ok(0) => return Ok((given, None)),
+            Ok(n) => got.extend_from_slice(&buf[..n])?,
+            Err(error) => return Ok((given, Some(error.kind()))),
+        }
+    }
+    Ok((100, None))
+}
+
+#[test]
+fn budget_of_sixteen_reads(rt: HostRuntime) -> Result<(), Fail> {
+    let alloc = rt.alloc();
+    let mut sent = Vec::new(alloc);
+    let mut source = VecDeque::new(alloc);
+    for number in 0..20 * 4096 {
+        let byte = u8::try_from(number % 251).expect(&rt, "below 251");
+        sent.push(byte)?;
+        source.push_back(byte)?;
+    }
+    let mut got = Vec::new(alloc);
+    let mut budget = Budget::new(source, 16);
+    assert!(rt; !budget.is_used_up());
+    assert_eq!(rt;
+        drain(&mut budget, &mut got)?,
+        (16, Some(ErrorKind::WouldBlock))
+    );
+    assert!(rt; budget.is_used_up());
+    assert_eq!(rt; got.len(), 16 * 4096);
+    // it stays used up
+    assert_eq!(rt;
+        drain(&mut budget, &mut got)?,
+        (0, Some(ErrorKind::WouldBlock))
+    );
+    assert_eq!(rt; got.len(), 16 * 4096);
+    // the next turn goes on where this one stopped, and ends before its budget does
+    let mut next = Budget::new(budget.reader, 16);
+    assert_eq!(rt; drain(&mut next, &mut got)?, (4, None));
+    assert!(rt; !next.is_used_up());
+    assert_eq!(rt; next.left, 11);
+    assert!(rt; got == sent);
+    Ok(())
+}
+
+#[test]
+fn budget_of_no_read(rt: HostRuntime) -> Result<(), Fail> {
+    let mut source = VecDeque::new(rt.alloc());
+    source.push_back(7)?;
+    let mut budget = Budget::new(source, 0);
+    assert!(rt; budget.is_used_up());
+    let mut buf = [0; 8];
+    assert!(rt; budget.read(&mut buf).is_err());
+    assert_eq!(rt; budget.reader.len(), 1);
+    Ok(())
+}

@@ -1,0 +1,2 @@
+-- Lemmas of the running service.
+pub mod Own

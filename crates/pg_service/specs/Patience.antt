@@ -1,0 +1,54 @@
+-- How long a subscriber that has connected is waited for. Times are nanoseconds of the monotonic clock.
+use Rattle.std.specs.Prelude.{ℕ, ◌-◌, min, Bool, true, false, nat_le, ◌||◌, if◌then◌else◌, Option, Some, None, option_map, option_and_then}
+use Rattle.std.specs.Option.{option_map_or}
+use Rattle.pg_service.specs.declared.patience.Overdue.{Overdue}
+use Rattle.pg_service.specs.declared.patience.Overdue.TheVariants.{Stalled, Idle}
+use Rattle.pg_service.specs.Plans.{Awaited, is_over}
+
+-- its limits, since when bytes wait of which its socket takes none, and when a byte went either way last
+pub record Waited : Type 0 where
+  pub stall : Option ℕ
+  pub idle : Option ℕ
+  pub blocked : Option ℕ
+  pub active : ℕ
+
+abbrev pub connected : Option ℕ → Option ℕ → ℕ → Waited
+connected stall idle now = record { stall = stall; idle = idle; blocked = None; active = now }
+
+-- its socket takes no more: from now on, where it took a byte just now, else from when it took none before
+abbrev pub blocked_since : Bool → ℕ → Option ℕ → ℕ
+blocked_since true now before = now
+blocked_since false now None = now
+blocked_since false now (Some since) = since
+
+-- It was served: whether a byte came, whether its socket took one, and whether it takes no more.
+abbrev pub served : ℕ → Bool → Bool → Bool → Waited → Waited
+served now came took is_blocked w = record w {
+  active = if came || took then now else w.active;
+  blocked = if is_blocked then Some (blocked_since took now w.blocked) else None;
+}
+
+-- what it is waited for: a byte that its socket takes, and a byte either way
+abbrev pub stalls : Waited → Option Awaited
+stalls w = option_and_then (λ since. option_map (λ limit. record { since = since; limit = limit }) w.stall) w.blocked
+
+abbrev pub idles : Waited → Option Awaited
+idles w = option_map (λ limit. record { since = w.active; limit = limit }) w.idle
+
+-- why it is to be hung up by now
+abbrev pub overdue_by : ℕ → Waited → Option Overdue
+overdue_by now w =
+    if option_map_or (is_over now) (stalls w) false then Some Stalled
+    else if option_map_or (is_over now) (idles w) false then Some Idle else None
+
+abbrev pub left_of : ℕ → Awaited → ℕ
+left_of now a = a.limit - (now - a.since)
+
+-- how long until it is hung up
+abbrev pub least : Option ℕ → Option ℕ → Option ℕ
+least None b = b
+least (Some a) None = Some a
+least (Some a) (Some b) = Some (min a b)
+
+abbrev pub left_by : ℕ → Waited → Option ℕ
+left_by now w = least (option_map (left_of now) (stalls w)) (option_map (left_of now) (idles w))

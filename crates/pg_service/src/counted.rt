@@ -1,0 +1,54 @@
+//! Readers and writers that count what they move.
+
+use std::io;
+use std::io::{ErrorKind, Read, Write};
+
+/// A reader or a writer, with a count of the bytes that it moved (own rule). The bytes are those of the one inside.
+#[derive(Drop)]
+pub struct Counted<T> {
+    /// The reader or writer.
+    pub inner: T,
+    /// How many bytes were read from it or taken by it.
+    pub moved: u64,
+}
+
+impl<T> Counted<T> {
+    /// A reader or writer that moved nothing yet.
+    pub fn new(inner: T) -> Counted<T> {
+        Counted { inner, moved: 0 }
+    }
+}
+
+impl<R: Read> Read for Counted<R> {
+    ghost remaining = { λ c. R.remaining c.inner };
+
+    fn read(&mut self, buf: &mut [u8]) -> io::Result<usize> {
+        let size = self.inner.read(buf)?;
+        self.moved = self.moved.saturating_add(size as u64);
+        Ok(size)
+    }
+}
+
+impl<W: Write> Write for Counted<W> {
+    ghost contents = { λ c. W.contents c.inner };
+
+    fn write(&mut self, buf: &[u8]) -> io::Result<usize> {
+        let size = self.inner.write(buf)?;
+        self.moved = self.moved.saturating_add(size as u64);
+        Ok(size)
+    }
+
+    fn flush(&mut self) -> io::Result<()> {
+        self.inner.flush()
+    }
+}
+
+/// A reader that has nothing to give now: each read answers `WouldBlock`, without a call of the system (own rule).
+#[derive(Drop)]
+pub struct Never;
+
+impl Read for Never {
+    fn read(&mut self, _buf: &mut [u8]) -> io::Result<usize> {
+        Err(io::Error::from(ErrorKind::WouldBlock))
+    }
+}

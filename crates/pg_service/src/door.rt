@@ -1,0 +1,263 @@
+//! The place where a subscriber connects.
+
+ghost use Rattle.std.specs.Prelude.{◌≡◌, ◌≢◌, ◌↔◌, false, None, is_some, option_map};
+ghost use Rattle.std.specs.Net.Addr.{ipv4_bits};
+ghost use Rattle.pg_limits.specs.Hosts.{is_allowed};
+ghost use Rattle.pg_service.specs.Posts.{OwnOnly, through};
+
+use crate::counted::Counted;
+use crate::guest::{Guest, Stay};
+use crate::patience::{Overdue, Patience};
+use crate::watched::Watched;
+use pg_gateway::{Event, Gate, Reply};
+use pg_limits::{Allow, Budget};
+use pg_wire::{Refusal, SubId};
+use std::alloc::Global;
+use std::io::{Read, Write};
+use std::marker::Model;
+use std::net::Ipv4Addr;
+use std::time::{Duration, Instant};
+
+/// Who may connect, and how long who has connected is waited for (own rule).
+#[derive(Drop)]
+pub struct DoorRules {
+    /// The hosts that may connect.
+    pub allow: Allow,
+    /// Whether a new connection takes the place of one that stands.
+    pub takeover: bool,
+    /// How long the socket may take none of the bytes that wait; `None` for ever.
+    pub stall: Option<Duration>,
+    /// How long no byte may go either way; `None` for ever.
+    pub idle: Option<Duration>,
+}
+
+/// What becomes of a connection that was accepted.
+#[derive(Clone, Copy, Debug, PartialEq, Eq)]
+pub enum Knock {
+    /// It is the subscriber's now. Where `replaced`, one that stood was hung up for it, and is to be closed.
+    Welcome {
+        /// Whether one that stood was hung up.
+        replaced: bool,
+    },
+    /// Its host may not connect: nothing was posted, and it is to be closed.
+    Foreign,
+    /// The gateway refuses it, or there is no memory for its session: it is to be closed. Where `replaced`, so is the one that
+    /// stood.
+    Refused {
+        /// Why.
+        refusal: Refusal,
+        /// Whether one that stood was hung up.
+        replaced: bool,
+    },
+}
+
+/// The place where one subscriber connects (own rule), with its connection if there is one. A subscriber is known by the port
+/// that it connects to. It knows neither sockets nor clocks.
+#[derive(Drop)]
+pub struct Door {
+    sub: SubId,
+    rules: DoorRules,
+    guest: Option<Guest>,
+}
+
+impl Model for Door {
+    ghost use Rattle.std.specs.Prelude.{◌≡◌, IfSome, option_map};
+    ghost use Rattle.pg_service.specs.Visits.{Doorway};
+
+    ghost Value = { Doorway };
+
+    ghost view = { λ d. record { sub = d.sub; allow = option_map (λ v. v.items) d.rules.allow.networks; guest = d.guest } };
+
+    ghost invariant = { λ d. IfSome d.guest (λ v. v.session.sub ≡ d.sub) };
+}
+
+impl Door {
+    /// The place where this subscriber connects. Nobody has.
+    pub fn new(sub: SubId, rules: DoorRules) -> Door
+        ensures sub { result.sub ≡ sub }
+        ensures allow { result.allow ≡ option_map (λ v. v.items) rules.allow.networks }
+        ensures nobody { result.guest ≡ None }
+    {
+        Door {
+            sub,
+            rules,
+            guest: None,
+        }
+    }
+
+    /// The subscriber.
+    pub fn sub(&self) -> SubId
+        ensures { result ≡ self.now.sub }
+    {
+        self.sub
+    }
+
+    /// Who has connected, if somebody has.
+    pub fn guest(&self) -> Option<&Guest>
+        ensures { option_map (λ g. g.now) result ≡ self.now.guest }
+    {
+        self.guest.as_ref()
+    }
+
+    /// Somebody connects from this host: its connection is posted, unless its host may not connect or there is no memory for
+    /// its session. With `takeover` it is posted before that who has connected hangs up.
+    #[tactic(auto, using(crate::proofs::Own::own_as, crate::proofs::Own::own_nil, crate::proofs::Own::own_more))]
+    pub fn knock<G: Gate>(
+        &mut self,
+        alloc: Global,
+        gate: &mut G,
+        host: Ipv4Addr,
+        now: Instant,
+    ) -> Knock
+        ensures sub { self.new.sub ≡ self.old.sub }
+        ensures allow { self.new.allow ≡ self.old.allow }
+        // Who may not connect changes nothing.
+        ensures foreign { (result ≡ Knock.Foreign) ↔ (is_allowed (ipv4_bits host) self.old.allow ≡ false) }
+        ensures unasked { result ≡ Knock.Foreign → (G.posts gate.new ≡ G.posts gate.old) × (self.new ≡ self.old) }
+        // It posts of its own subscriber alone.
+        ensures own { OwnOnly self.old.sub (G.posts gate.old) (G.posts gate.new) }
+    {
+        if !self.rules.allow.allows(host) {
+            return Knock::Foreign;
+        }
+        let patience = Patience::new(self.rules.stall, self.rules.idle, now);
+        let guest = match Guest::new(alloc, self.sub, patience) {
+            Ok(guest) => guest,
+            Err(refusal) => {
+                return Knock::Refused {
+                    refusal,
+                    replaced: false,
+                };
+            }
+        };
+        let replaced = self.make_room(gate);
+        match refusal_in(post_connect(self.sub, gate)) {
+            Some(refusal) => Knock::Refused { refusal, replaced },
+            None => {
+                // Where the gateway knows of no connection, one that stood here was another subscriber's of the same number.
+                let replaced = replaced || self.guest.is_some();
+                self.guest = Some(guest);
+                Knock::Welcome { replaced }
+            }
+        }
+    }
+
+    /// With `takeover`, hangs up who has connected, and tells whether somebody had.
+    #[tactic(auto, using(crate::proofs::Own::own_nil))]
+    fn make_room<G: Gate>(&mut self, gate: &mut G) -> bool
+        ensures sub { self.new.sub ≡ self.old.sub }
+        ensures allow { self.new.allow ≡ self.old.allow }
+        ensures own { OwnOnly self.old.sub (G.posts gate.old) (G.posts gate.new) }
+    {
+        self.rules.takeover && self.hang_up(gate)
+    }
+
+    /// Hangs up who has connected, and tells whether somebody had.
+    #[tactic(auto, using(crate::proofs::Own::own_as, crate::proofs::Own::own_nil, crate::proofs::Own::own_more))]
+    pub fn hang_up<G: Gate>(&mut self, gate: &mut G) -> bool
+        ensures sub { self.new.sub ≡ self.old.sub }
+        ensures allow { self.new.allow ≡ self.old.allow }
+        ensures nobody { self.new.guest ≡ None }
+        ensures stood { result ≡ is_some self.old.guest }
+        // It posts of its own subscriber alone.
+        ensures own { OwnOnly self.old.sub (G.posts gate.old) (G.posts gate.new) }
+    {
+        match self.guest.take() {
+            Some(guest) => {
+                guest.hang_up(gate);
+                true
+            }
+            None => false,
+        }
+    }
+
+    /// Hangs up who has connected where it was waited for as long as it may be, and tells why.
+    #[tactic(auto, using(crate::proofs::Own::own_as, crate::proofs::Own::own_nil, crate::proofs::Own::own_more))]
+    pub fn expire<G: Gate>(&mut self, gate: &mut G, now: Instant) -> Option<Overdue>
+        ensures sub { self.new.sub ≡ self.old.sub }
+        ensures allow { self.new.allow ≡ self.old.allow }
+        // It posts of its own subscriber alone.
+        ensures own { OwnOnly self.old.sub (G.posts gate.old) (G.posts gate.new) }
+    {
+        let overdue = self.guest.as_ref()?.patience().overdue(now)?;
+        self.hang_up(gate);
+        Some(overdue)
+    }
+
+    /// How long until who has connected is hung up, if nothing goes either way; `None` for ever.
+    pub fn left(&self, now: Instant) -> Option<Duration> {
+        self.guest.as_ref()?.patience().left(now)
+    }
+
+    /// Serves who has connected. It is nobody's any more where the connection ended.
+    #[tactic(auto, using(crate::proofs::Own::own_as, crate::proofs::Own::own_nil, crate::proofs::Own::own_more))]
+    pub fn serve<R: Read, W: Write, G: Gate>(
+        &mut self,
+        reader: &mut Budget<Counted<R>>,
+        writer: &mut Counted<W>,
+        gate: &mut Watched<G>,
+        now: Instant,
+    ) -> Stay
+        ensures sub { self.new.sub ≡ self.old.sub }
+        ensures allow { self.new.allow ≡ self.old.allow }
+        // It posts of its own subscriber alone.
+        ensures own { OwnOnly self.old.sub (through gate.old.guarding (G.posts gate.old.gate)) (through gate.new.guarding (G.posts gate.new.gate)) }
+    {
+        let Some(guest) = &mut self.guest else {
+            return Stay::Waits;
+        };
+        let stay = guest.serve(reader, writer, gate, now);
+        self.leave(stay)
+    }
+
+    /// Hands out what waits for who has connected, unless its socket takes none now.
+    #[tactic(auto, using(crate::proofs::Own::own_as, crate::proofs::Own::own_nil, crate::proofs::Own::own_more))]
+    pub fn hand_out<W: Write, G: Gate>(
+        &mut self,
+        writer: &mut Counted<W>,
+        gate: &mut Watched<G>,
+        now: Instant,
+    ) -> Stay
+        ensures sub { self.new.sub ≡ self.old.sub }
+        ensures allow { self.new.allow ≡ self.old.allow }
+        // It posts of its own subscriber alone.
+        ensures own { OwnOnly self.old.sub (through gate.old.guarding (G.posts gate.old.gate)) (through gate.new.guarding (G.posts gate.new.gate)) }
+    {
+        let Some(guest) = &mut self.guest else {
+            return Stay::Waits;
+        };
+        if guest.patience().is_blocked() {
+            return Stay::Waits;
+        }
+        let stay = guest.hand_out(writer, gate, now);
+        self.leave(stay)
+    }
+
+    /// Forgets who has connected where the connection ended.
+    fn leave(&mut self, stay: Stay) -> Stay
+        ensures sub { self.new.sub ≡ self.old.sub }
+        ensures allow { self.new.allow ≡ self.old.allow }
+    {
+        if let Stay::Gone(_) = stay {
+            self.guest = None;
+        }
+        stay
+    }
+}
+
+/// Posts that a subscriber connects.
+fn post_connect<G: Gate>(sub: SubId, gate: &mut G) -> Reply
+    ensures own { OwnOnly sub (G.posts gate.old) (G.posts gate.new) }
+{
+    gate.post(Event::Connect(sub))
+}
+
+/// Why a connection is refused that was answered so, if it is.
+fn refusal_in(reply: Reply) -> Option<Refusal> {
+    match reply {
+        Reply::Done { .. } => None,
+        Reply::Refused(refusal) => Some(refusal),
+        // No gate answers a connection so.
+        _ => Some(Refusal::NoMemory),
+    }
+}

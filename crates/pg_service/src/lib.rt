@@ -1,0 +1,36 @@
+//! The running service: sockets of sources and subscribers, the workers that serve them, what they are told to do while they
+//! run, and the clock's ticks. When a source is called and when a subscriber is hung up is decided apart from sockets and
+//! clocks, by state machines over any reader, writer, gate and time. All of it is a rule of this project.
+#![tactic(auto)]
+
+mod counted;
+mod door;
+mod finder;
+mod guest;
+mod journal;
+mod mail;
+mod patience;
+mod plan;
+mod ports;
+mod registered;
+mod source;
+mod sources;
+mod ticker;
+mod waiting;
+mod watched;
+
+pub use counted::{Counted, Never};
+pub use door::{Door, DoorRules, Knock};
+pub use finder::{Finder, Lookup};
+pub use guest::{Gone, Guest, Stay};
+pub use journal::{Journal, Notice};
+pub use mail::{Mailbox, PortOrder, SourceOrder};
+pub use patience::{Overdue, Patience};
+pub use plan::{CallPlan, Due, Phase};
+pub use ports::{Port, PortWorker};
+pub use registered::{After, Change, Registered};
+pub use source::{SourceLine, Turn};
+pub use sources::{Address, Dial, Neighbours, SourceWorker};
+pub use ticker::Ticker;
+pub use waiting::Waiting;
+pub use watched::{Guarding, Seen, Watched};

@@ -1,0 +1,124 @@
+//! How long a subscriber that has connected is waited for.
+
+ghost use Rattle.std.specs.Prelude.{◌≡◌, option_map, is_some};
+ghost use Rattle.std.specs.Duration.{as_nanos};
+ghost use Rattle.std.specs.Time.{instant_nanos};
+ghost use Rattle.pg_service.specs.Patience.{connected, idles, least, left_by, overdue_by, served, stalls};
+
+use pg_limits::Deadline;
+use std::marker::Model;
+use std::time::{Duration, Instant};
+
+/// Why a subscriber is to be hung up.
+#[derive(Clone, Copy, Debug, PartialEq, Eq)]
+pub enum Overdue {
+    /// Bytes waited, and its socket took none of them for as long as it may.
+    Stalled,
+    /// It neither sent nor was sent a byte for as long as it may.
+    Idle,
+}
+
+/// How long a subscriber that has connected is waited for (own rule): where bytes wait, for its socket to take one; and for a
+/// byte either way.
+#[derive(Drop)]
+pub struct Patience {
+    stall: Option<Duration>,
+    idle: Option<Duration>,
+    blocked: Option<Instant>,
+    active: Instant,
+}
+
+impl Model for Patience {
+    ghost use Rattle.std.specs.Prelude.{option_map};
+    ghost use Rattle.std.specs.Duration.{as_nanos};
+    ghost use Rattle.std.specs.Time.{instant_nanos};
+    ghost use Rattle.pg_service.specs.Patience.{Waited};
+
+    ghost Value = { Waited };
+
+    ghost view = { λ p. record { stall = option_map as_nanos p.stall; idle = option_map as_nanos p.idle; blocked = option_map instant_nanos p.blocked; active = instant_nanos p.active } };
+}
+
+impl Patience {
+    /// With a subscriber that connects now, with these limits; `None` is for ever.
+    pub fn new(stall: Option<Duration>, idle: Option<Duration>, now: Instant) -> Patience
+        ensures { result ≡ connected (option_map as_nanos stall) (option_map as_nanos idle) (instant_nanos now) }
+    {
+        Patience {
+            stall,
+            idle,
+            blocked: None,
+            active: now,
+        }
+    }
+
+    /// Whether its socket takes no more bytes by now.
+    pub fn is_blocked(&self) -> bool
+        ensures { result ≡ is_some self.now.blocked }
+    {
+        self.blocked.is_some()
+    }
+
+    /// It was served: whether bytes of it came, whether its socket took bytes, and whether it takes no more of those that wait.
+    pub fn served(&mut self, now: Instant, came: bool, took: bool, is_blocked: bool)
+        ensures { self.new ≡ served (instant_nanos now) came took is_blocked self.old }
+    {
+        if came || took {
+            self.active = now;
+        }
+        self.blocked = match (is_blocked, self.blocked) {
+            (true, Some(since)) if !took => Some(since),
+            (true, _) => Some(now),
+            (false, _) => None,
+        };
+    }
+
+    /// The byte that its socket is to take, where some wait.
+    fn stall(&self) -> Option<Deadline>
+        ensures { option_map (λ d. record { since = instant_nanos d.last; limit = as_nanos d.limit }) result ≡ stalls self.now }
+    {
+        match (self.blocked, self.stall) {
+            (Some(last), Some(limit)) => Some(Deadline { last, limit }),
+            _ => None,
+        }
+    }
+
+    /// The byte that is to go either way.
+    fn idle(&self) -> Option<Deadline>
+        ensures { option_map (λ d. record { since = instant_nanos d.last; limit = as_nanos d.limit }) result ≡ idles self.now }
+    {
+        match self.idle {
+            Some(limit) => Some(Deadline {
+                last: self.active,
+                limit,
+            }),
+            None => None,
+        }
+    }
+
+    /// How long until it is hung up, if nothing goes either way; `None` for ever.
+    pub fn left(&self, now: Instant) -> Option<Duration>
+        ensures { option_map as_nanos result ≡ left_by (instant_nanos now) self.now }
+    {
+        match (self.stall(), self.idle()) {
+            (Some(stall), Some(idle)) => Some(stall.left(now).min(idle.left(now))),
+            (Some(stall), None) => Some(stall.left(now)),
+            (None, Some(idle)) => Some(idle.left(now)),
+            (None, None) => None,
+        }
+    }
+
+    /// Why it is to be hung up by now, if it is.
+    pub fn overdue(&self, now: Instant) -> Option<Overdue>
+        ensures { result ≡ overdue_by (instant_nanos now) self.now }
+    {
+        match self.stall() {
+            Some(stall) if stall.is_over(now) => return Some(Overdue::Stalled),
+            _ => {}
+        }
+        match self.idle() {
+            Some(idle) if idle.is_over(now) => Some(Overdue::Idle),
+            _ => None,
+        }
+    }
+}

@@ -1,0 +1,106 @@
+//! Which sources have PMUs, and what workers are to be told after an edit.
+
+use pg_gateway::{Edit, Reply};
+use pg_wire::{PmuId, PmuKey, Refusal, SubId};
+use std::alloc::Global;
+
+/// As many PMUs as a gateway has at most.
+const MOST: usize = 256;
+
+/// What workers are to be told after an edit that was done (own rule).
+#[derive(Clone, Copy, Debug, PartialEq, Eq)]
+pub enum After {
+    /// Nothing.
+    Nothing,
+    /// This source has a new PMU: it is to be called anew, so that it announces again.
+    Renew(PmuId),
+    /// This source has no PMU any more: its connection ends.
+    Rest(PmuId),
+    /// This subscriber is dropped: its connection ends.
+    HangUp(SubId),
+}
+
+/// What an edit changes, as far as workers are concerned.
+#[derive(Clone, Copy, Debug, PartialEq, Eq)]
+pub enum Change {
+    /// A PMU is registered.
+    Adds(PmuKey),
+    /// A PMU leaves the registry.
+    Drops(PmuKey),
+    /// A subscriber leaves.
+    Leaves(SubId),
+    /// Something else.
+    Other,
+}
+
+impl Change {
+    /// What this edit changes.
+    pub fn of(edit: &Edit) -> Change {
+        match edit {
+            Edit::AddPmu(key) => Change::Adds(*key),
+            Edit::DropPmu(key) => Change::Drops(*key),
+            Edit::DropSub(sub) => Change::Leaves(*sub),
+            _ => Change::Other,
+        }
+    }
+}
+
+/// The PMUs that are registered at the gateway, by the edits that were done (own rule).
+#[derive(Drop)]
+pub struct Registered {
+    keys: Vec<PmuKey>,
+}
+
+impl Registered {
+    /// None is registered. There is room for as many as a gateway has at most.
+    ///
+    /// # Errors
+    ///
+    /// `NoMemory`.
+    pub fn new(alloc: Global) -> Result<Registered, Refusal> {
+        Ok(Registered {
+            keys: Vec::with_capacity(alloc, MOST)?,
+        })
+    }
+
+    /// Whether a PMU of this source is registered.
+    pub fn has(&self, source: PmuId) -> bool {
+        self.keys.iter().any(|key| key.source == source)
+    }
+
+    /// A PMU is not registered any more.
+    fn drop_key(&mut self, gone: PmuKey) {
+        if let Some(place) = self.keys.iter().position(|key| *key == gone) {
+            self.keys.swap_remove(place);
+        }
+    }
+
+    /// Keeps what an edit changed that was answered so, and tells what workers are to be told.
+    ///
+    /// # Errors
+    ///
+    /// `NoMemory`, where more PMUs are registered than a gateway has.
+    pub fn note(&mut self, change: Change, reply: &Reply) -> Result<After, Refusal> {
+        let Reply::Done { .. } = reply else {
+            return Ok(After::Nothing);
+        };
+        match change {
+            Change::Adds(key) => {
+                let source = key.source;
+                self.keys.push(key)?;
+                Ok(After::Renew(source))
+            }
+            Change::Drops(key) => {
+                let source = key.source;
+                self.drop_key(key);
+                if self.has(source) {
+                    Ok(After::Nothing)
+                } else {
+                    Ok(After::Rest(source))
+                }
+            }
+            Change::Leaves(sub) => Ok(After::HangUp(sub)),
+            Change::Other => Ok(After::Nothing),
+        }
+    }
+}

@@ -1,0 +1,185 @@
+//! The line to a source: its link, and when it is called.
+
+ghost use Rattle.std.specs.Prelude.{◌≡◌, option_map, IfOk, IfErr};
+ghost use Rattle.std.specs.Duration.{as_nanos};
+ghost use Rattle.std.specs.Time.{instant_nanos};
+ghost use Rattle.pg_audit.specs.Counting.{no_pmu_stats};
+ghost use Rattle.pg_ingest.specs.Linking.{unfed};
+ghost use Rattle.pg_service.specs.Lines.{unlinked, with_plan};
+ghost use Rattle.pg_service.specs.Plans.{begun, called, due_by, ended, made, renewed, rested};
+
+use crate::plan::{CallPlan, Due};
+use crate::watched::{Guarding, Seen, Watched};
+use pg_gateway::Gate;
+use pg_ingest::{End, Link, run_link};
+use pg_limits::{Budget, ClockGuard};
+use pg_wire::{PmuId, Refusal};
+use std::alloc::Global;
+use std::io::{Read, Write};
+use std::marker::Model;
+use std::time::{Duration, Instant};
+
+/// The turns that a call of `run_link` takes at most (own rule). The budget of reads ends before.
+const TURNS: u64 = 10_000;
+
+/// How a source was served.
+#[derive(Clone, Copy, Debug, PartialEq, Eq)]
+pub enum Turn {
+    /// Nothing is left to do until its socket is ready.
+    Waits,
+    /// Its reads were used up: bytes may still wait.
+    More,
+    /// The connection ended, and is to be closed.
+    Ended(End),
+}
+
+/// The line to a source (own rule): its link, and when it is called. It knows neither sockets nor clocks.
+#[derive(Drop)]
+pub struct SourceLine {
+    link: Link,
+    plan: CallPlan,
+    guard: Option<ClockGuard>,
+}
+
+impl Model for SourceLine {
+    ghost use Rattle.pg_service.specs.Lines.{Line};
+
+    ghost Value = { Line };
+
+    ghost view = { λ l. record { link = l.link; plan = l.plan; guard = l.guard } };
+}
+
+impl SourceLine {
+    /// The line to a source that is to be called at once. A connection may be without an event for `silence`, and its
+    /// measurements as far from this machine's clock as `guard` says; `None` is no limit.
+    ///
+    /// # Errors
+    ///
+    /// `NoMemory`.
+    pub fn new(
+        alloc: Global,
+        source: PmuId,
+        silence: Option<Duration>,
+        guard: Option<ClockGuard>,
+        now: Instant,
+    ) -> Result<SourceLine, Refusal>
+        ensures state { IfOk result (λ l. l ≡ record { link = unfed source no_pmu_stats; plan = begun (instant_nanos now) (option_map as_nanos silence); guard = guard }) }
+        ensures memory { IfErr result (λ refusal. refusal ≡ Refusal.NoMemory) }
+    {
+        Ok(SourceLine {
+            link: Link::new(alloc, source)?,
+            plan: CallPlan::new(now, silence),
+            guard,
+        })
+    }
+
+    /// The source.
+    pub fn source(&self) -> PmuId
+        ensures { result ≡ self.now.link.source }
+    {
+        self.link.source()
+    }
+
+    /// Its link.
+    pub fn link(&self) -> &Link
+        ensures { result.now ≡ self.now.link }
+    {
+        &self.link
+    }
+
+    /// When it is called.
+    pub fn plan(&self) -> &CallPlan
+        ensures { result.now ≡ self.now.plan }
+    {
+        &self.plan
+    }
+
+    /// What is to be done by now.
+    pub fn due(&self, now: Instant) -> Due
+        ensures { result ≡ due_by (instant_nanos now) self.now.plan }
+    {
+        self.plan.due(now)
+    }
+
+    /// A call was begun.
+    pub fn called(&mut self, now: Instant)
+        ensures { self.new ≡ with_plan (called (instant_nanos now) self.old.plan) self.old }
+    {
+        self.plan.called(now);
+    }
+
+    /// The connection was made.
+    pub fn made(&mut self, now: Instant)
+        ensures { self.new ≡ with_plan (made (instant_nanos now) self.old.plan) self.old }
+    {
+        self.plan.made(now);
+    }
+
+    /// The call failed or was given up, or the connection ended: the link starts anew.
+    pub fn ended(&mut self, now: Instant)
+        ensures { self.new ≡ with_plan (ended (instant_nanos now) self.old.plan) (unlinked self.old) }
+    {
+        self.link.reset();
+        self.plan.ended(now);
+    }
+
+    /// It is to be called anew, at once: the link starts anew.
+    pub fn renew(&mut self, now: Instant)
+        ensures { self.new ≡ with_plan (renewed (instant_nanos now) self.old.plan) (unlinked self.old) }
+    {
+        self.link.reset();
+        self.plan.renew(now);
+    }
+
+    /// It is not to be called any more.
+    pub fn rest(&mut self)
+        ensures { self.new ≡ with_plan (rested self.old.plan) (unlinked self.old) }
+    {
+        self.link.reset();
+        self.plan.rest();
+    }
+
+    /// Serves its connection until the reader's budget is used up, or it would block, and tells what went through the gate
+    /// meanwhile. `clock` is this machine's: milliseconds since 1970-01-01 00:00 UTC. Where the connection ended or failed, the
+    /// link starts anew.
+    pub fn serve<R: Read, W: Write, G: Gate>(
+        &mut self,
+        reader: &mut Budget<R>,
+        writer: &mut W,
+        gate: &mut Watched<G>,
+        now: Instant,
+        clock: u64,
+    ) -> (Turn, Seen)
+        ensures guard { self.new.guard ≡ self.old.guard }
+    {
+        let end = match self.guard {
+            None => run_link(&mut self.link, reader, writer, gate, TURNS),
+            Some(guard) => {
+                gate.guard(Some(Guarding { guard, clock }));
+                let end = run_link(&mut self.link, reader, writer, gate, TURNS);
+                gate.guard(None);
+                end
+            }
+        };
+        let seen = gate.take_seen();
+        if seen.events > 0 {
+            self.plan.heard(now, seen.rate);
+        }
+        (self.settle(end, reader.is_used_up(), now), seen)
+    }
+
+    /// What is left to do after its loop ended so. Where the connection ended or failed, the link starts anew.
+    fn settle(&mut self, end: End, is_used_up: bool, now: Instant) -> Turn
+        ensures source { self.new.link.source ≡ self.old.link.source }
+        ensures guard { self.new.guard ≡ self.old.guard }
+    {
+        match end {
+            End::Quiet if is_used_up => Turn::More,
+            End::Quiet | End::Stalled => Turn::Waits,
+            End::Closed | End::Fault(_) => {
+                self.ended(now);
+                Turn::Ended(end)
+            }
+        }
+    }
+}

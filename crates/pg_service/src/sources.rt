@@ -1,0 +1,528 @@
+//! Workers that call sources.
+
+use crate::finder::Lookup;
+use crate::journal::{Journal, Notice};
+use crate::mail::{Mailbox, PortOrder, SourceOrder};
+use crate::plan::{Due, Phase};
+use crate::source::{SourceLine, Turn};
+use crate::waiting::{PATIENCE_MS, Waiting};
+use crate::watched::{Seen, Watched};
+use mio::net::TcpStream;
+use mio::{Interest, Poll, Token};
+use pg_gateway::Gate;
+use pg_limits::{Budget, ClockGuard};
+use pg_serve::{Named, SharedGate, Work};
+use pg_wire::{PmuId, Refusal};
+use std::alloc::{AllocError, Global};
+use std::mem;
+use std::net::{Net, SocketAddr};
+use std::rt::Clock;
+use std::sync::Wait;
+use std::time::{Duration, Instant, SystemTime};
+
+/// The reads of one turn of a source.
+pub(crate) const READS: u32 = 16;
+
+/// Where a source is.
+#[derive(Drop)]
+pub enum Address {
+    /// At this address.
+    Known(SocketAddr),
+    /// At this name and port, which is looked up at each call.
+    Name(String),
+}
+
+/// A source that is to be called.
+#[derive(Drop)]
+pub struct Dial {
+    /// The source.
+    pub source: PmuId,
+    /// Where it is.
+    pub address: Address,
+    /// How long a connection may be without an event; `None` for ever.
+    pub silence: Option<Duration>,
+    /// How far its measurements may be from the clock; `None` for any.
+    pub guard: Option<ClockGuard>,
+}
+
+/// A source with its connection, if there is one.
+#[derive(Drop)]
+struct Source {
+    line: SourceLine,
+    address: Option<Address>,
+    stream: Option<TcpStream>,
+    is_ready: bool,
+}
+
+/// Whom a worker tells what: the subscribers' workers, whom it wakes where frames were made, and who looks up names.
+#[derive(Clone, Copy)]
+pub struct Neighbours<'a> {
+    /// The mailboxes of the workers that serve subscribers.
+    pub ports: &'a [Mailbox<PortOrder>],
+    /// The mailbox of who looks up names.
+    pub finder: &'a Mailbox<Lookup>,
+    /// Where it is noted what was met.
+    pub journal: &'a Journal,
+}
+
+impl Neighbours<'_> {
+    /// Has a name looked up.
+    fn look_up<R: Wait>(&self, rt: &R, lookup: Lookup) {
+        self.finder.send(rt, self.journal, lookup);
+    }
+
+    /// Wakes all workers that serve subscribers.
+    pub fn wake_ports(&self) {
+        for mailbox in self.ports {
+            mailbox.wake(self.journal);
+        }
+    }
+}
+
+/// A worker that calls sources and serves their connections (own rule). A turn waits until a socket is ready, it is woken, or
+/// one of its sources is waited for no longer; then it serves those alone.
+#[derive(Drop)]
+pub struct SourceWorker<'a, R: Wait + Net + Clock, N: Named> {
+    rt: &'a R,
+    alloc: Global,
+    gate: Watched<SharedGate<'a, R, N>>,
+    waiting: Waiting,
+    number: usize,
+    mailbox: &'a Mailbox<SourceOrder>,
+    neighbours: Neighbours<'a>,
+    sources: Vec<Source>,
+    // The places of sources that are served in this turn, and of those whose reads were used up in the last.
+    ready: Vec<usize>,
+    serving: Vec<usize>,
+    // When a source is waited for no longer, or before; None where none is waited for.
+    due: Option<Instant>,
+    now: Instant,
+    clock: u64,
+}
+
+impl<'a, R: Wait + Net + Clock, N: Named> SourceWorker<'a, R, N> {
+    /// A worker without sources, which has this number among those of its kind.
+    pub fn new(
+        rt: &'a R,
+        alloc: Global,
+        gate: SharedGate<'a, R, N>,
+        waiting: Waiting,
+        number: usize,
+        mailbox: &'a Mailbox<SourceOrder>,
+        neighbours: Neighbours<'a>,
+        now: Instant,
+    ) -> SourceWorker<'a, R, N> {
+        SourceWorker {
+            rt,
+            alloc,
+            gate: Watched::new(gate),
+            waiting,
+            number,
+            mailbox,
+            neighbours,
+            sources: Vec::new(alloc),
+            ready: Vec::new(alloc),
+            serving: Vec::new(alloc),
+            due: None,
+            now,
+            clock: 0,
+        }
+    }
+
+    /// Calls this source too.
+    ///
+    /// # Errors
+    ///
+    /// `NoMemory`.
+    pub fn dial(&mut self, dial: Dial) -> Result<(), Refusal> {
+        let Dial {
+            source,
+            address,
+            silence,
+            guard,
+        } = dial;
+        let line = SourceLine::new(self.alloc, source, silence, guard, self.now)?;
+        self.ready.reserve(self.sources.len() + 1)?;
+        self.serving.reserve(self.sources.len() + 1)?;
+        self.due = Some(self.now);
+        if let Some(old) = self
+            .sources
+            .iter_mut()
+            .find(|it| it.line.source() == source)
+        {
+            old.line = line;
+            old.address = Some(address);
+            old.stream = None;
+            return Ok(());
+        }
+        self.sources.push(Source {
+            line,
+            address: Some(address),
+            stream: None,
+            is_ready: false,
+        })?;
+        Ok(())
+    }
+
+    /// Its gate. All its sockets are closed.
+    pub fn into_gate(self) -> SharedGate<'a, R, N> {
+        let SourceWorker { gate, .. } = self;
+        gate.into_inner()
+    }
+
+    /// Notes what was met.
+    fn note(&self, notice: Notice) {
+        self.neighbours.journal.note(notice);
+    }
+
+    /// Reads the clocks. Where one can't be read, it is as late as it was.
+    fn read_clocks(&mut self) {
+        match Instant::now(self.rt) {
+            Ok(now) => self.now = now,
+            Err(_) => self.note(Notice::ClockFault),
+        }
+        match clock_ms(self.rt) {
+            Some(clock) => self.clock = clock,
+            None => self.note(Notice::ClockFault),
+        }
+    }
+
+    /// How long a turn waits at most.
+    fn patience(&self) -> Duration {
+        if !self.ready.is_empty() {
+            return Duration::ZERO;
+        }
+        let most = Duration::from_millis(PATIENCE_MS);
+        match self.due {
+            Some(due) => most.min(due.saturating_duration_since(self.now)),
+            None => most,
+        }
+    }
+
+    /// Serves this source in this turn.
+    fn mark(&mut self, place: usize) {
+        if let Some(source) = self.sources.get_mut(place) {
+            // There is room for each source once.
+            if !source.is_ready && self.ready.push(place).is_ok() {
+                source.is_ready = true;
+            }
+        }
+    }
+
+    /// Does what it was told.
+    fn obey_all(&mut self) {
+        for order in self.mailbox.take(self.rt, self.alloc) {
+            self.obey(order);
+        }
+    }
+
+    fn obey(&mut self, order: SourceOrder) {
+        match order {
+            SourceOrder::Dial(dial) => {
+                if self.dial(dial).is_err() {
+                    self.note(Notice::MailFault);
+                }
+            }
+            SourceOrder::Undial(id) => {
+                if let Some(source) = self.sources.iter_mut().find(|it| it.line.source() == id) {
+                    source.line.rest();
+                    source.stream = None;
+                    source.address = None;
+                }
+            }
+            SourceOrder::Renew(id) => {
+                if let Some(source) = self.sources.iter_mut().find(|it| it.line.source() == id) {
+                    source.renew(self.now);
+                    self.due = Some(self.now);
+                }
+            }
+            SourceOrder::Rest(id) => {
+                if let Some(source) = self.sources.iter_mut().find(|it| it.line.source() == id) {
+                    source.line.rest();
+                    source.stream = None;
+                }
+            }
+            SourceOrder::Found(id, address) => self.connect_found(id, address),
+        }
+    }
+
+    /// A source's name was looked up.
+    fn connect_found(&mut self, id: PmuId, address: Option<SocketAddr>) {
+        for place in 0..self.sources.len() {
+            let Some(source) = self.sources.get_mut(place) else {
+                return;
+            };
+            if source.line.source() == id && source.awaits_address() {
+                let notice = match address {
+                    Some(address) => source.connect(
+                        self.rt,
+                        self.waiting.poll(),
+                        place,
+                        address,
+                        self.now,
+                    ),
+                    None => {
+                        source.line.ended(self.now);
+                        Notice::NoAddress
+                    }
+                };
+                self.due = Some(self.now);
+                self.note(notice);
+            }
+        }
+    }
+
+    /// Does what is due by now, and finds out when something is due next.
+    fn do_due(&mut self) {
+        let mut next: Option<Duration> = None;
+        for place in 0..self.sources.len() {
+            let Some(source) = self.sources.get_mut(place) else {
+                break;
+            };
+            match source.line.due(self.now) {
+                Due::Nothing => {}
+                Due::Call => {
+                    if let Some(notice) = source.call(
+                        self.rt,
+                        self.alloc,
+                        self.waiting.poll(),
+                        self.number,
+                        place,
+                        self.neighbours,
+                        self.now,
+                    ) {
+                        self.neighbours.journal.note(notice);
+                    }
+                }
+                Due::GiveUp => {
+                    source.end(self.now);
+                    self.neighbours.journal.note(Notice::GivenUp);
+                }
+                Due::Silent => {
+                    source.end(self.now);
+                    self.neighbours.journal.note(Notice::Silent);
+                }
+            }
+            next = match (next, source.line.plan().left(self.now)) {
+                (Some(next), Some(left)) => Some(next.min(left)),
+                (Some(next), None) => Some(next),
+                (None, left) => left,
+            };
+        }
+        self.due = match next {
+            Some(next) => self.now.checked_add(next),
+            None => None,
+        };
+    }
+
+    /// Serves the source at this place, whose socket is ready or whose reads were used up.
+    fn serve(&mut self, place: usize) {
+        let Some(source) = self.sources.get_mut(place) else {
+            return;
+        };
+        source.is_ready = false;
+        if let Phase::Calling = source.line.plan().phase() {
+            if let Some(notice) = source.finish_call(self.now) {
+                self.neighbours.journal.note(notice);
+            }
+            self.due = Some(self.now);
+        }
+        let Some((turn, seen)) = source.serve(&mut self.gate, self.now, self.clock) else {
+            return;
+        };
+        if seen.made > 0 {
+            self.neighbours.wake_ports();
+        }
+        self.neighbours
+            .journal
+            .add(Notice::FarMeasurement, seen.far);
+        match turn {
+            Turn::Waits => {}
+            Turn::More => self.mark(place),
+            Turn::Ended(_) => {
+                self.due = Some(self.now);
+                self.note(Notice::SourceEnded);
+            }
+        }
+    }
+
+    /// Serves those that are ready. Those whose reads are used up are served again in the next turn.
+    fn serve_ready(&mut self) {
+        mem::swap(&mut self.ready, &mut self.serving);
+        for at in 0..self.serving.len() {
+            if let Some(place) = self.serving.get(at).copied() {
+                self.serve(place);
+            }
+        }
+        self.serving.clear();
+    }
+}
+
+impl Source {
+    /// Serves its connection, if it stands.
+    fn serve<G: Gate>(
+        &mut self,
+        gate: &mut Watched<G>,
+        now: Instant,
+        clock: u64,
+    ) -> Option<(Turn, Seen)> {
+        let Phase::Up { .. } = self.line.plan().phase() else {
+            return None;
+        };
+        let stream = self.stream.as_ref()?;
+        let mut budget = Budget::new(stream, READS);
+        let mut writer = stream;
+        let (turn, seen) = self.line.serve(&mut budget, &mut writer, gate, now, clock);
+        if let Turn::Ended(_) = turn {
+            self.stream = None;
+        }
+        Some((turn, seen))
+    }
+
+    /// Whether its name is being looked up.
+    fn awaits_address(&self) -> bool {
+        self.stream.is_none() && self.line.plan().phase() == Phase::Calling
+    }
+
+    /// Begins a call, or has its name looked up for it.
+    fn call<R: Net + Wait>(
+        &mut self,
+        rt: &R,
+        alloc: Global,
+        poll: &Poll,
+        worker: usize,
+        place: usize,
+        neighbours: Neighbours<'_>,
+        now: Instant,
+    ) -> Option<Notice> {
+        match self.next_address(alloc) {
+            Ok(Some(Address::Known(address))) => {
+                Some(self.connect(rt, poll, place, address, now))
+            }
+            Ok(Some(Address::Name(name))) => {
+                self.line.called(now);
+                let source = self.line.source();
+                neighbours.look_up(
+                    rt,
+                    Lookup {
+                        worker,
+                        source,
+                        name,
+                    },
+                );
+                None
+            }
+            Ok(None) => {
+                self.line.rest();
+                None
+            }
+            Err(_) => {
+                self.line.ended(now);
+                Some(Notice::MailFault)
+            }
+        }
+    }
+
+    /// Where the next call goes to.
+    fn next_address(&self, alloc: Global) -> Result<Option<Address>, AllocError> {
+        match &self.address {
+            Some(Address::Known(address)) => Ok(Some(Address::Known(*address))),
+            Some(Address::Name(name)) => {
+                let name = String::from_str(alloc, name.as_str())?;
+                Ok(Some(Address::Name(name)))
+            }
+            None => Ok(None),
+        }
+    }
+
+    /// Begins a connection to this address.
+    fn connect<R: Net>(
+        &mut self,
+        rt: &R,
+        poll: &Poll,
+        place: usize,
+        address: SocketAddr,
+        now: Instant,
+    ) -> Notice {
+        let both = Interest::READABLE | Interest::WRITABLE;
+        let Ok(mut stream) = TcpStream::connect(rt, address) else {
+            self.line.ended(now);
+            return Notice::NotMade;
+        };
+        if poll
+            .registry()
+            .register(&mut stream, Token(place), both)
+            .is_err()
+        {
+            self.line.ended(now);
+            return Notice::SocketFault;
+        }
+        self.stream = Some(stream);
+        self.line.called(now);
+        Notice::Called
+    }
+
+    /// Finds out whether the connection that was begun is made by now, or has failed.
+    fn finish_call(&mut self, now: Instant) -> Option<Notice> {
+        let Some(stream) = &self.stream else {
+            return None;
+        };
+        match stream.take_error() {
+            Ok(None) => {}
+            _ => {
+                self.end(now);
+                return Some(Notice::NotMade);
+            }
+        }
+        if stream.peer_addr().is_err() {
+            return None;
+        }
+        let is_set = stream.set_nodelay(true).is_ok();
+        self.line.made(now);
+        if is_set {
+            Some(Notice::Made)
+        } else {
+            Some(Notice::SocketFault)
+        }
+    }
+
+    /// Ends the connection, or the call.
+    fn end(&mut self, now: Instant) {
+        self.stream = None;
+        self.line.ended(now);
+    }
+
+    /// Ends the connection, and calls anew.
+    fn renew(&mut self, now: Instant) {
+        self.stream = None;
+        self.line.renew(now);
+    }
+}
+
+/// This machine's clock: milliseconds since 1970-01-01 00:00 UTC, as far as it tells.
+fn clock_ms<R: Clock>(rt: &R) -> Option<u64> {
+    let now = SystemTime::now(rt).ok()?;
+    let since = now.duration_since(SystemTime::UNIX_EPOCH).ok()?;
+    u64::try_from(since.as_millis()).ok()
+}
+
+impl<R: Wait + Net + Clock, N: Named> Work for SourceWorker<'_, R, N> {
+    fn turn(&mut self) -> bool {
+        let most = self.patience();
+        self.waiting.wait(self.rt, self.neighbours.journal, most);
+        self.read_clocks();
+        if self.waiting.is_woken() {
+            self.obey_all();
+        }
+        for at in 0..self.waiting.named().len() {
+            if let Some(place) = self.waiting.named().get(at).copied() {
+                self.mark(place);
+            }
+        }
+        if self.due.is_some_and(|due| due <= self.now) {
+            self.do_due();
+        }
+        self.serve_ready();
+        true
+    }
+}

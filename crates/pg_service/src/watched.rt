@@ -1,0 +1,178 @@
+//! A gate that tells what went through it.
+
+ghost use Rattle.std.specs.Prelude.{◌≡◌, None, true, false};
+ghost use Rattle.pg_gateway.specs.Posting.{Answers};
+ghost use Rattle.pg_service.specs.Posts.{through};
+
+use pg_data::DataFrame;
+use pg_gateway::{Event, Gate, Reply};
+use pg_limits::ClockGuard;
+use pg_wire::Refusal;
+use std::mem;
+
+/// What went through a gate.
+#[derive(Clone, Copy, Debug, PartialEq, Eq)]
+pub struct Seen {
+    /// The data frames that its events made.
+    pub made: u64,
+    /// The announcements and measurements.
+    pub events: u64,
+    /// DATA_RATE of the last announcement, if there was one.
+    pub rate: Option<i16>,
+    /// The measurements that were too far from this machine's clock.
+    pub far: u64,
+    /// The bytes that the last drain handed out.
+    pub handed: usize,
+}
+
+impl Seen {
+    /// Nothing went through.
+    pub fn nothing() -> Seen {
+        Seen {
+            made: 0,
+            events: 0,
+            rate: None,
+            far: 0,
+            handed: 0,
+        }
+    }
+}
+
+/// A measurement's distance from the clock is looked at.
+#[derive(Clone, Copy, Debug)]
+pub struct Guarding {
+    /// How far it may be.
+    pub guard: ClockGuard,
+    /// This machine's clock: milliseconds since 1970-01-01 00:00 UTC.
+    pub clock: u64,
+}
+
+impl Guarding {
+    /// Whether a measurement is too far from the clock.
+    fn is_far(&self, frame: &DataFrame) -> bool {
+        !self
+            .guard
+            .is_near(self.clock, frame.soc, frame.frac, frame.base())
+    }
+}
+
+/// A gate that keeps count of what went through it, and refuses measurements that are too far from the clock where it is told
+/// to (own rule). All else is answered as by the gate inside.
+///
+/// What it tells of its posts is what the gate inside tells; while it guards measurements it tells nothing.
+#[derive(Drop)]
+pub struct Watched<G> {
+    /// The gate inside.
+    pub gate: G,
+    /// How measurements are guarded, if they are.
+    pub guarding: Option<Guarding>,
+    /// What went through it since it was asked last.
+    pub seen: Seen,
+}
+
+impl<G: Gate> Watched<G> {
+    /// A gate through which nothing went.
+    pub fn new(gate: G) -> Watched<G>
+        ensures gate { result.gate ≡ gate }
+        ensures guarding { result.guarding ≡ None }
+    {
+        Watched {
+            gate,
+            guarding: None,
+            seen: Seen::nothing(),
+        }
+    }
+
+    /// From now on measurements are guarded by this, or not at all.
+    pub fn guard(&mut self, guarding: Option<Guarding>)
+        ensures state { self.new ≡ record self.old { guarding = guarding } }
+    {
+        self.guarding = guarding;
+    }
+
+    /// What went through it since it was asked last.
+    pub fn take_seen(&mut self) -> Seen
+        ensures seen { result ≡ self.old.seen }
+        ensures gate { self.new.gate ≡ self.old.gate }
+        ensures same { self.new.guarding ≡ self.old.guarding }
+    {
+        mem::replace(&mut self.seen, Seen::nothing())
+    }
+
+    /// The bytes that the last drain handed out.
+    pub fn handed(&self) -> usize
+        ensures { result ≡ self.now.seen.handed }
+    {
+        self.seen.handed
+    }
+
+    /// The gate inside.
+    pub fn into_inner(self) -> G
+        ensures { result ≡ self.gate }
+    {
+        let Watched { gate, .. } = self;
+        gate
+    }
+
+    /// Whether a measurement is guarded, and too far from the clock.
+    fn is_far(&self, frame: &DataFrame) -> bool
+        ensures guarding { self.now.guarding ≡ None → result ≡ false }
+    {
+        let guarding = self.guarding;
+        match guarding {
+            Some(guarding) => guarding.is_far(frame),
+            None => false,
+        }
+    }
+
+    /// Counts an event, and tells whether it is to be refused.
+    fn refuses(&mut self, event: &Event) -> bool
+        ensures gate { self.new.gate ≡ self.old.gate }
+        ensures same { self.new.guarding ≡ self.old.guarding }
+        ensures guarding { self.old.guarding ≡ None → result ≡ false }
+        // It is no drain, so that a refusal answers it.
+        ensures answers { result ≡ true → Answers event.now (Reply.Refused Refusal.FarClock) }
+    {
+        match event {
+            Event::Announce(config) => {
+                self.seen.events = self.seen.events.saturating_add(1);
+                self.seen.rate = match config.parts.first() {
+                    Some(part) => Some(part.rate),
+                    None => None,
+                };
+                false
+            }
+            Event::Measure(frame) => {
+                self.seen.events = self.seen.events.saturating_add(1);
+                let is_far = self.is_far(frame);
+                if is_far {
+                    self.seen.far = self.seen.far.saturating_add(1);
+                }
+                is_far
+            }
+            _ => false,
+        }
+    }
+}
+
+impl<G: Gate> Gate for Watched<G> {
+    ghost posts = { λ w. through w.guarding (G.posts w.gate) };
+
+    fn post(&mut self, event: Event) -> Reply {
+        if self.refuses(&event) {
+            return Reply::Refused(Refusal::FarClock);
+        }
+        let reply = self.gate.post(event);
+        match &reply {
+            Reply::Done { made, .. } => self.seen.made = self.seen.made.saturating_add(*made),
+            Reply::Drained { out, .. } => {
+                self.seen.handed = match out {
+                    Ok(drained) => drained.len,
+                    Err(_) => 0,
+                };
+            }
+            _ => {}
+        }
+        reply
+    }
+}

@@ -1,0 +1,18 @@
+//! Tests of pg_service, as its callers see it: over memory, with a clock that the test moves. They stand in a crate of their
+//! own, so that the gate proves that crate once.
+#![tactic(auto)]
+
+#[cfg(test)]
+mod chain;
+#[cfg(test)]
+mod doors;
+#[cfg(test)]
+mod frames;
+#[cfg(test)]
+mod loopback;
+#[cfg(test)]
+mod plans;
+#[cfg(test)]
+mod registering;
+#[cfg(test)]
+mod sources;

@@ -1,0 +1,59 @@
+//! What workers are told after an edit.
+use crate::frames::{key, source, subscriber};
+use pg_gateway::{Edit, Reply};
+use pg_service::{After, Change, Registered};
+use pg_wire::{PmuKey, Refusal};
+use std::process::Abort;
+use std::test::*;
+
+fn is_done() -> Reply {
+    Reply::Done { made: 0, kept: 0 }
+}
+
+/// PMU 8 of source 7.
+fn second(rt: &impl Abort) -> PmuKey {
+    PmuKey {
+        source: source(rt, 7),
+        pmu: source(rt, 8),
+    }
+}
+
+/// An edit that is refused tells workers nothing, and one that is done tells them this.
+fn expect_told(rt: &(impl Abort + Eprint), registered: &mut Registered, edit: Edit, told: After) {
+    let refused = Reply::Refused(Refusal::PmuExists);
+    let after = registered
+        .note(Change::of(&edit), &refused)
+        .expect(rt, "room");
+    assert_eq!(rt; after, After::Nothing);
+    let after = registered
+        .note(Change::of(&edit), &is_done())
+        .expect(rt, "room");
+    assert_eq!(rt; after, told);
+}
+
+#[test]
+fn edits_tell_workers(rt: HostRuntime) {
+    let mut registered = Registered::new(rt.alloc()).expect(&rt, "memory");
+    let seven = source(&rt, 7);
+    let add = Edit::AddPmu(key(&rt, 7));
+    expect_told(&rt, &mut registered, add, After::Renew(seven));
+    let add = Edit::AddPmu(second(&rt));
+    expect_told(&rt, &mut registered, add, After::Renew(seven));
+    let add = Edit::AddPmu(key(&rt, 9));
+    expect_told(&rt, &mut registered, add, After::Renew(source(&rt, 9)));
+    let drop_first = Edit::DropPmu(key(&rt, 7));
+    expect_told(&rt, &mut registered, drop_first, After::Nothing);
+    let drop_second = Edit::DropPmu(second(&rt));
+    expect_told(&rt, &mut registered, drop_second, After::Rest(seven));
+    let leave = Edit::DropSub(subscriber(&rt, 20));
+    expect_told(
+        &rt,
+        &mut registered,
+        leave,
+        After::HangUp(subscriber(&rt, 20)),
+    );
+    let grant = Edit::Grant(subscriber(&rt, 1), key(&rt, 7));
+    expect_told(&rt, &mut registered, grant, After::Nothing);
+    assert!(rt; registered.has(source(&rt, 9)));
+    assert!(rt; !registered.has(seven));
+}

@@ -1,0 +1,199 @@
+//! Sources over memory: budgets, silence, the clock's guard, and whose bytes are whose.
+use crate::frames::{CONFIG_7, DATA_7, after, gateway, source};
+use pg_gateway::Event;
+use pg_ingest::End;
+use pg_ingest::fakes::{FakeGate, FakeReader, FakeWriter};
+use pg_limits::{Budget, ClockGuard};
+use pg_service::{Due, SourceLine, Turn, Watched};
+use std::alloc::Global;
+use std::io::ErrorKind;
+use std::process::Abort;
+use std::test::*;
+use std::time::{Duration, Instant};
+
+/// Commands 5 and 2 to source 7.
+const ASKED_7: &[u8] = b"\xAA\x42\0\x12\0\x07\0\0\0\0\x0F\0\0\0\0\x05\x32\x3A\
+    \xAA\x42\0\x12\0\x07\0\0\0\0\x0F\0\0\0\0\x02\x42\xDD";
+
+fn reader(bytes: &[u8], most: usize, reads: u32) -> Budget<FakeReader<'_>> {
+    let fake = FakeReader {
+        left: bytes,
+        most,
+        calls: 0,
+        fails_at: 0,
+        kind: ErrorKind::WouldBlock,
+    };
+    Budget::new(fake, reads)
+}
+
+fn writer(alloc: Global) -> FakeWriter {
+    FakeWriter {
+        taken: Vec::new(alloc),
+        most: 50,
+        calls: 0,
+        fails_at: 0,
+        kind: ErrorKind::WouldBlock,
+    }
+}
+
+fn fake_gate<'a>(alloc: Global) -> FakeGate<'a> {
+    FakeGate {
+        alloc,
+        calls: Vec::new(alloc),
+        chunks: &[],
+        drains: 0,
+        is_full: false,
+    }
+}
+
+/// Source 7's CFG-2 and this many data frames.
+fn stream_of(rt: &impl Abort, alloc: Global, frames: u32) -> Vec<u8> {
+    let mut bytes = Vec::new(alloc);
+    bytes.extend_from_slice(CONFIG_7).expect(rt, "memory");
+    for _ in 0..frames {
+        bytes.extend_from_slice(DATA_7).expect(rt, "memory");
+    }
+    bytes
+}
+
+/// A source that sends without end is left after 16 reads, and goes on in the next turn where it was: no frame is lost.
+#[test]
+fn budget_of_reads(rt: HostRuntime) {
+    let alloc = rt.alloc();
+    let now = Instant::now(&rt).expect(&rt, "a clock");
+    let mut line = SourceLine::new(alloc, source(&rt, 7), None, None, now).expect(&rt, "memory");
+    let mut gate = Watched::new(fake_gate(alloc));
+    let mut out = writer(alloc);
+    let bytes = stream_of(&rt, alloc, 100);
+    line.called(now);
+    line.made(now);
+    // 2,674 bytes are 26 whole reads of 100 and one of 74.
+    let mut budget = reader(bytes.as_slice(), 100, 16);
+    let (turn, seen) = line.serve(&mut budget, &mut out, &mut gate, now, 0);
+    assert_eq!(rt; turn, Turn::More);
+    assert_eq!(rt; seen.events, 59);
+    assert_eq!(rt; budget.reader.calls, 16);
+    budget.left = 16;
+    let (turn, seen) = line.serve(&mut budget, &mut out, &mut gate, now, 0);
+    assert_eq!(rt; seen.events, 42);
+    assert_eq!(rt; turn, Turn::Ended(End::Closed));
+    assert!(rt; out.taken.as_slice() == ASKED_7);
+    assert_eq!(rt; gate.into_inner().calls.len(), 101);
+}
+
+/// A source that gives no event is given up by its silence, and its link starts anew; an event keeps it.
+#[test]
+fn silent_source(rt: HostRuntime) {
+    let alloc = rt.alloc();
+    let start = Instant::now(&rt).expect(&rt, "a clock");
+    let silence = Some(Duration::from_secs(10));
+    let mut line = SourceLine::new(alloc, source(&rt, 7), silence, None, start).expect(
+        &rt, "memory",
+    );
+    let mut gate = Watched::new(fake_gate(alloc));
+    let mut out = writer(alloc);
+    line.called(start);
+    line.made(start);
+    // A CFG-2 with a wrong CHK is no event.
+    let mut wrong = stream_of(&rt, alloc, 0);
+    if let Some(last) = wrong.last_mut() {
+        *last ^= 1;
+    }
+    let mut budget = reader(wrong.as_slice(), 4096, 1);
+    let at = after(&rt, start, 5_000);
+    let (turn, seen) = line.serve(&mut budget, &mut out, &mut gate, at, 0);
+    assert!(rt; turn == Turn::More && seen.events == 0);
+    assert_eq!(rt; line.due(after(&rt, start, 10_000)), Due::Silent);
+    let good = stream_of(&rt, alloc, 1);
+    let mut budget = reader(good.as_slice(), 4096, 1);
+    let at = after(&rt, start, 9_000);
+    let (turn, seen) = line.serve(&mut budget, &mut out, &mut gate, at, 0);
+    assert!(rt; turn == Turn::More && seen.events == 2);
+    assert_eq!(rt; line.due(after(&rt, start, 10_000)), Due::Nothing);
+    assert_eq!(rt; line.due(after(&rt, start, 19_000)), Due::Silent);
+    line.ended(after(&rt, start, 19_000));
+    assert_eq!(rt; line.due(after(&rt, start, 19_000)), Due::Call);
+    // The link asks for CFG-2 again, and takes no data before it.
+    line.called(start);
+    line.made(start);
+    out.taken.clear();
+    let mut budget = reader(DATA_7, 4096, 1);
+    let (_, seen) = line.serve(&mut budget, &mut out, &mut gate, start, 0);
+    assert_eq!(rt; seen.events, 0);
+    assert!(rt; out.taken.as_slice() == &ASKED_7[..18]);
+}
+
+/// A connection that ends is ended for its link too, whatever was held of a frame; the pause grows without an event.
+#[test]
+fn ended_source(rt: HostRuntime) {
+    let alloc = rt.alloc();
+    let start = Instant::now(&rt).expect(&rt, "a clock");
+    let mut line = SourceLine::new(alloc, source(&rt, 7), None, None, start).expect(&rt, "memory");
+    let mut gate = Watched::new(fake_gate(alloc));
+    let mut out = writer(alloc);
+    for pause in [1_000u64, 2_000] {
+        line.called(start);
+        line.made(start);
+        let mut budget = reader(&CONFIG_7[..40], 4096, 16);
+        let (turn, _) = line.serve(&mut budget, &mut out, &mut gate, start, 0);
+        assert_eq!(rt; turn, Turn::Ended(End::Closed));
+        assert_eq!(rt; line.due(after(&rt, start, pause - 1)), Due::Nothing);
+        assert_eq!(rt; line.due(after(&rt, start, pause)), Due::Call);
+    }
+    line.called(start);
+    line.made(start);
+    let mut budget = reader(b"\xAB", 4096, 16);
+    let (turn, _) = line.serve(&mut budget, &mut out, &mut gate, start, 0);
+    assert_eq!(rt; turn, Turn::Ended(End::Fault(2)));
+    assert!(rt; gate.into_inner().calls.is_empty());
+}
+
+/// A measurement whose time is further from the clock than `clock_ms` does not reach the gateway; an announcement does.
+#[test]
+fn guarded_source(rt: HostRuntime) {
+    let alloc = rt.alloc();
+    let now = Instant::now(&rt).expect(&rt, "a clock");
+    // The frame's time is 100.033333 s.
+    let rows: [(u64, u64, usize); 5] = [
+        (100_000, 0, 2),
+        (100_100, 0, 2),
+        (100_134, 1, 1),
+        (99_933, 1, 1),
+        (99_934, 0, 2),
+    ];
+    for (clock, far, posted) in rows {
+        let guard = Some(ClockGuard { limit: 100 });
+        let mut line = SourceLine::new(alloc, source(&rt, 7), None, guard, now).expect(
+            &rt, "memory",
+        );
+        let mut gate = Watched::new(fake_gate(alloc));
+        let mut out = writer(alloc);
+        line.called(now);
+        line.made(now);
+        let bytes = stream_of(&rt, alloc, 1);
+        let mut budget = reader(bytes.as_slice(), 4096, 1);
+        let (_, seen) = line.serve(&mut budget, &mut out, &mut gate, now, clock);
+        assert_eq!(rt; seen.far, far);
+        assert_eq!(rt; seen.events, 2);
+        let inner = gate.into_inner();
+        assert_eq!(rt; inner.calls.len(), posted);
+        assert!(rt; matches!(inner.calls.first(), Some(Event::Announce(_))));
+    }
+}
+
+/// What a source's events made is told, so that those who serve subscribers are woken.
+#[test]
+fn made_is_told(rt: HostRuntime) {
+    let alloc = rt.alloc();
+    let now = Instant::now(&rt).expect(&rt, "a clock");
+    let mut line = SourceLine::new(alloc, source(&rt, 7), None, None, now).expect(&rt, "memory");
+    let mut gate = Watched::new(gateway(&rt, alloc));
+    let mut out = writer(alloc);
+    line.called(now);
+    line.made(now);
+    let bytes = stream_of(&rt, alloc, 1);
+    let mut budget = reader(bytes.as_slice(), 4096, 1);
+    let (_, seen) = line.serve(&mut budget, &mut out, &mut gate, now, 0);
+    // Both streams are off.
+    assert!(rt; seen.events == 2 && seen.made == 0);
+}

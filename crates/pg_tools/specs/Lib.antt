@@ -1,0 +1,2 @@
+-- Definitions that the contracts of the tools cite.
+pub mod Playing

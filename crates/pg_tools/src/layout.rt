@@ -1,0 +1,151 @@
+//! The configuration of a simulated source: names, units and counts of its channels (C37.118.2, 6.4).
+
+use crate::settings::{Nominal, Settings};
+use std::alloc::{AllocError, Global};
+
+/// How long a name is.
+const NAME: usize = 16;
+
+/// What a count of a voltage is: 10 V, in units of 10^-5 V (PHUNIT).
+pub const VOLT_UNIT: u32 = 1_000_000;
+
+/// What a count of a current is: 50 mA, in units of 10^-5 A (PHUNIT).
+pub const AMPERE_UNIT: u32 = 5_000;
+
+/// The digital inputs of a word that are used, its low four bits (DIGUNIT).
+const USED_INPUTS: u16 = 0x000F;
+
+/// What a phasor is of.
+#[derive(Clone, Copy, Debug, PartialEq, Eq)]
+pub enum Quantity {
+    /// A voltage.
+    Voltage,
+    /// A current.
+    Current,
+}
+
+/// What phasor k is of: three phases of a voltage, three of a current, and so on.
+pub fn quantity_of(phasor: u8) -> Quantity {
+    if phasor / 3 % 2 == 0 {
+        Quantity::Voltage
+    } else {
+        Quantity::Current
+    }
+}
+
+/// Whether PMU i tells magnitude and angle, which each second one does; the others tell rectangular parts.
+pub fn is_polar(pmu: u8) -> bool {
+    pmu % 2 == 1
+}
+
+/// The configuration blocks of all PMUs.
+pub fn blocks_of(alloc: Global, settings: &Settings) -> Result<Vec<u8>, AllocError> {
+    let mut out = Vec::new(alloc);
+    for pmu in 0..settings.numbers.pmus {
+        add_block(alloc, &mut out, settings, pmu)?;
+    }
+    Ok(out)
+}
+
+/// Adds the block of PMU i: STN, IDCODE, FORMAT, counts, names, units, FNOM and CFGCNT.
+fn add_block(
+    alloc: Global,
+    out: &mut Vec<u8>,
+    settings: &Settings,
+    pmu: u8,
+) -> Result<(), AllocError> {
+    let id = settings.numbers.first.saturating_add(u16::from(pmu));
+    let channels = settings.channels;
+    add_name(out, &format!(in alloc; "SIMULATED {id}")?)?;
+    add_word(out, id)?;
+    add_word(out, u16::from(is_polar(pmu)))?;
+    add_word(out, u16::from(channels.phasors))?;
+    add_word(out, u16::from(channels.analogs))?;
+    add_word(out, u16::from(channels.digitals))?;
+    add_names(alloc, out, settings)?;
+    add_units(out, settings)?;
+    add_word(
+        out,
+        match settings.nominal {
+            Nominal::Fifty => 1,
+            Nominal::Sixty => 0,
+        },
+    )?;
+    add_word(out, 1)
+}
+
+/// Adds the names of a PMU's channels.
+fn add_names(alloc: Global, out: &mut Vec<u8>, settings: &Settings) -> Result<(), AllocError> {
+    for phasor in 0..settings.channels.phasors {
+        let of = match quantity_of(phasor) {
+            Quantity::Voltage => "V",
+            Quantity::Current => "I",
+        };
+        let phase = match phasor % 3 {
+            0 => "A",
+            1 => "B",
+            _ => "C",
+        };
+        let set = phasor / 6;
+        add_name(out, &format!(in alloc; "BUS{set} {of}{phase}")?)?;
+    }
+    for analog in 0..settings.channels.analogs {
+        let of = if analog % 2 == 0 { "MW" } else { "MVAR" };
+        let line = analog / 2;
+        add_name(out, &format!(in alloc; "LINE{line} {of}")?)?;
+    }
+    for digital in 0..settings.channels.digitals {
+        add_inputs(alloc, out, digital)?;
+    }
+    Ok(())
+}
+
+/// Adds the names of the sixteen inputs of a digital word, the least significant first.
+fn add_inputs(alloc: Global, out: &mut Vec<u8>, digital: u8) -> Result<(), AllocError> {
+    for input in 0..16u8 {
+        let name = match input {
+            0 => format!(in alloc; "BREAKER{digital}")?,
+            1 => format!(in alloc; "ALARM{digital}")?,
+            2 => format!(in alloc; "TRIP{digital}")?,
+            3 => format!(in alloc; "MINUTE{digital}")?,
+            _ => format!(in alloc; "SPARE{digital}.{input}")?,
+        };
+        add_name(out, &name)?;
+    }
+    Ok(())
+}
+
+/// Adds PHUNIT, ANUNIT and DIGUNIT of a PMU's channels.
+fn add_units(out: &mut Vec<u8>, settings: &Settings) -> Result<(), AllocError> {
+    for phasor in 0..settings.channels.phasors {
+        let unit = match quantity_of(phasor) {
+            Quantity::Voltage => VOLT_UNIT,
+            // The top byte 1 tells of a current.
+            Quantity::Current => 0x0100_0000 + AMPERE_UNIT,
+        };
+        out.extend_from_slice(&unit.to_be_bytes())?;
+    }
+    for _ in 0..settings.channels.analogs {
+        // The top byte 1 tells of an effective value; a count is 1.
+        out.extend_from_slice(&[1, 0, 0, 1])?;
+    }
+    for _ in 0..settings.channels.digitals {
+        add_word(out, 0)?;
+        add_word(out, USED_INPUTS)?;
+    }
+    Ok(())
+}
+
+/// Adds a name, filled up with spaces.
+fn add_name(out: &mut Vec<u8>, name: &String) -> Result<(), AllocError> {
+    let bytes = name.as_bytes();
+    for at in 0..NAME {
+        out.push(bytes.get(at).copied().unwrap_or(b' '))?;
+    }
+    Ok(())
+}
+
+/// Adds two bytes.
+pub fn add_word(out: &mut Vec<u8>, word: u16) -> Result<(), AllocError> {
+    out.extend_from_slice(&word.to_be_bytes())
+}

@@ -1,0 +1,190 @@
+//! What is watched, as lines of text: a line a second, or a line of comma separated values for each frame.
+
+ghost use Rattle.std.specs.Prelude.{◌≤◌};
+
+use crate::moment::Moment;
+use crate::reading::{Cell, Quality, Reading};
+use crate::watcher::Tally;
+use jiff::Timestamp;
+use pg_config::SourceConfig;
+use pg_data::DataFrame;
+use std::alloc::AllocError;
+use std::fmt;
+
+/// The instant of a frame in ISO 8601, to the microsecond.
+#[derive(Clone, Copy)]
+pub struct Instant {
+    /// Seconds since 1970-01-01 00:00 UTC.
+    pub soc: u32,
+    /// The numerator of the fraction.
+    pub frac: u32,
+    /// Its denominator.
+    pub base: u32,
+}
+
+impl Instant {
+    /// When a frame was measured.
+    pub fn of(frame: &DataFrame) -> Instant {
+        Instant {
+            soc: frame.soc,
+            frac: frame.frac,
+            base: frame.base(),
+        }
+    }
+
+    /// The same by its microseconds.
+    pub fn moment(self) -> Moment {
+        Moment::new(self.soc, self.micros() as u32)
+    }
+
+    /// The fraction in microseconds.
+    fn micros(self) -> u64
+        ensures { result ≤ 999999 }
+    {
+        (u64::from(self.frac) * 1_000_000)
+            .checked_div(u64::from(self.base))
+            .unwrap_or(0)
+            .min(999_999)
+    }
+}
+
+impl fmt::Display for Instant {
+    fn fmt<W: fmt::Write>(&self, f: &mut fmt::Formatter<W>) -> fmt::Result {
+        let micros = self.micros();
+        let second = i64::from(self.soc);
+        match Timestamp::from_second(second) {
+            Ok(time) => {
+                let civil = jiff::tz::Offset::UTC.to_datetime(time);
+                write!(f, "{civil}.{micros:06}Z")
+            }
+            Err(_) => write!(f, "{second}.{micros:06}"),
+        }
+    }
+}
+
+/// The heading of the lines of values: `time`, the time quality, and the channels of each PMU by their names.
+pub fn write_heading(out: &mut String, config: &SourceConfig) -> Result<(), AllocError> {
+    out.push_str("time,quality")?;
+    for part in config.parts.iter() {
+        let reading = Reading::new(part, &[]);
+        let station = Cell(reading.station());
+        write!(out, ",{station} STAT")?;
+        for k in 0..usize::from(part.phasors) {
+            let name = Cell(reading.channel(k));
+            write!(out, ",{station} {name} magnitude,{station} {name} degrees")?;
+        }
+        write!(out, ",{station} Hz,{station} Hz/s")?;
+        for k in 0..usize::from(part.analogs) {
+            let name = Cell(reading.channel(usize::from(part.phasors).saturating_add(k)));
+            write!(out, ",{station} {name}")?;
+        }
+        for k in 0..part.digitals {
+            write!(out, ",{station} digital {k}")?;
+        }
+    }
+    out.push('\n')
+}
+
+/// The line of a frame: magnitudes in volts or amperes, angles in degrees. A value that is absent is left out.
+pub fn write_values(out: &mut String, frame: &DataFrame) -> Result<(), AllocError> {
+    let time = Instant::of(frame);
+    let quality = frame.quality;
+    write!(out, "{time},{quality:02X}")?;
+    for (i, part) in frame.config.parts.iter().enumerate() {
+        if i < frame.count() {
+            write_block(
+                out,
+                &Reading::new(part, frame.block(i)),
+                usize::from(part.phasors),
+                usize::from(part.analogs),
+                usize::from(part.digitals),
+            )?;
+        }
+    }
+    out.push('\n')
+}
+
+/// The values of one PMU.
+fn write_block(
+    out: &mut String,
+    reading: &Reading<'_>,
+    phasors: usize,
+    analogs: usize,
+    digitals: usize,
+) -> Result<(), AllocError> {
+    let stat = reading.stat();
+    write!(out, ",{stat:04X}")?;
+    for k in 0..phasors {
+        match reading.phasor(k) {
+            Some(phasor) => {
+                let magnitude = phasor.magnitude;
+                let degrees = phasor.degrees;
+                write!(out, ",{magnitude:.3},{degrees:.3}")?;
+            }
+            None => out.push_str(",,")?,
+        }
+    }
+    match reading.millihertz() {
+        Some(millihertz) => {
+            let hertz = f64::from(millihertz) / 1_000.0;
+            write!(out, ",{hertz:.3}")?;
+        }
+        None => out.push(',')?,
+    }
+    match reading.change() {
+        Some(change) => {
+            let change = f64::from(change) / 100.0;
+            write!(out, ",{change:.2}")?;
+        }
+        None => out.push(',')?,
+    }
+    for k in 0..analogs {
+        match reading.analog(k) {
+            Some(value) => write!(out, ",{value}")?,
+            None => out.push(',')?,
+        }
+    }
+    for k in 0..digitals {
+        let word = reading.digital(k);
+        write!(out, ",{word:04X}")?;
+    }
+    Ok(())
+}
+
+/// The line of a second: what came in it, what was counted since the start, and of each PMU its frequency.
+pub fn write_second(
+    out: &mut String,
+    frame: Option<&DataFrame>,
+    in_second: u64,
+    delay: Option<i64>,
+    tally: &Tally,
+) -> Result<(), AllocError> {
+    let frames = tally.frames;
+    let missing = tally.missing;
+    let fillers = tally.fillers;
+    let troubles = tally.troubles;
+    let Some(frame) = frame else {
+        return write!(out, "no data frame yet; {troubles} troubles\n");
+    };
+    let time = Instant::of(frame);
+    let quality = Quality(frame.quality);
+    let delay = delay.unwrap_or(0);
+    write!(
+        out,
+        "{time} {in_second} frames, {frames} so far, {missing} missing, {fillers} fillers, {troubles} troubles, {delay} ms behind, time {quality}"
+    )?;
+    for (i, part) in frame.config.parts.iter().enumerate() {
+        if i < frame.count() {
+            let reading = Reading::new(part, frame.block(i));
+            let station = reading.station();
+            match reading.millihertz() {
+                Some(millihertz) => {
+                    let hertz = f64::from(millihertz) / 1_000.0;
+                    write!(out, "; {station} {hertz:.3} Hz")?;
+                }
+                None => write!(out, "; {station} absent")?,
+            }
+        }
+    }
+    out.push('\n')
+}

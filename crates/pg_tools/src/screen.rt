@@ -1,0 +1,338 @@
+//! The screen of `watch`: plain ANSI sequences, which move the cursor up and wipe the rest of a line, and nothing that would
+//! have to be undone.
+
+use crate::lines::Instant;
+use crate::reading::{Quality, Reading, Status, shown};
+use crate::watcher::{Tally, Trouble};
+use pg_config::{PmuConfig, SourceConfig};
+use pg_data::DataFrame;
+use std::alloc::{AllocError, Global};
+use std::fmt;
+use std::net::SocketAddr;
+
+/// The columns of the screen that are used.
+const COLUMNS: usize = 79;
+
+/// The lines of the screen that are used at most.
+const LINES: usize = 23;
+
+/// The seconds that a plot shows.
+const SECONDS: usize = 60;
+
+/// The least difference of frequencies that fills a plot, in millihertz.
+const LEAST_RANGE: i32 = 8;
+
+/// Eighths of a cell.
+const BLOCKS: [char; 9] = [' ', '▁', '▂', '▃', '▄', '▅', '▆', '▇', '█'];
+
+/// The frequencies of one PMU in the last minute, in millihertz, a value a second.
+#[derive(Drop)]
+pub struct History {
+    values: Vec<Option<i32>>,
+}
+
+impl History {
+    /// No values yet.
+    pub fn new(alloc: Global) -> History {
+        History {
+            values: Vec::new(alloc),
+        }
+    }
+
+    /// Adds the value of a second, or that there is none.
+    pub fn push(&mut self, value: Option<i32>) -> Result<(), AllocError> {
+        if self.values.len() >= SECONDS {
+            self.values.remove(0);
+        }
+        self.values.push(value)?;
+        Ok(())
+    }
+
+    /// The least and the greatest value, with some room between them.
+    fn range(&self) -> (i32, i32) {
+        let mut least = i32::MAX;
+        let mut most = i32::MIN;
+        for value in self.values.iter() {
+            if let Some(value) = value {
+                least = least.min(*value);
+                most = most.max(*value);
+            }
+        }
+        if least > most {
+            return (0, LEAST_RANGE);
+        }
+        let lack = LEAST_RANGE
+            .saturating_sub(most.saturating_sub(least))
+            .max(0);
+        (
+            least.saturating_sub(lack / 2),
+            most.saturating_add(lack - lack / 2),
+        )
+    }
+
+    /// Row `row` of a plot of so many rows, the lowest one 0: a cell for each second.
+    fn write_row(&self, out: &mut String, row: i64, rows: i64) -> Result<(), AllocError> {
+        let (least, most) = self.range();
+        let span = i64::from(most).saturating_sub(i64::from(least)).max(1);
+        for value in self.values.iter() {
+            let filled = match value {
+                Some(value) => {
+                    let above = i64::from(*value).saturating_sub(i64::from(least));
+                    filled_of(above, span, row, rows)
+                }
+                None => 0,
+            };
+            out.push(BLOCKS.get(filled).copied().unwrap_or(' '))?;
+        }
+        Ok(())
+    }
+}
+
+/// How many eighths of its cell in a row are filled, for a value so far above the least one.
+fn filled_of(above: i64, span: i64, row: i64, rows: i64) -> usize {
+    let level = above
+        .saturating_mul(rows.saturating_mul(8).saturating_sub(1))
+        .checked_div(span)
+        .unwrap_or(0)
+        .saturating_add(1)
+        .saturating_sub(row.saturating_mul(8));
+    usize::try_from(level).unwrap_or(0).min(8)
+}
+
+/// What a screen shows.
+#[derive(Drop)]
+pub struct View<'a> {
+    /// Who is watched.
+    pub address: SocketAddr,
+    /// The stream's IDCODE.
+    pub stream: u16,
+    /// The frames of the last second.
+    pub measured: u64,
+    /// What was counted.
+    pub tally: Tally,
+    /// The header's text.
+    pub header: &'a [u8],
+    /// The configuration, if it is known.
+    pub config: Option<&'a SourceConfig>,
+    /// The latest data frame.
+    pub frame: Option<&'a DataFrame>,
+    /// The last minute of each PMU.
+    pub histories: &'a [History],
+    /// How many milliseconds behind its stamp that frame came.
+    pub delay: Option<i64>,
+    /// What was wrong last.
+    pub trouble: Option<Trouble>,
+}
+
+/// The lines of a screen, as they are made.
+#[derive(Drop)]
+struct Page {
+    text: String,
+    line: String,
+    lines: usize,
+}
+
+impl Page {
+    /// Ends the line that is written, cut to the columns; the rest of it is wiped. Past the last line nothing is added.
+    fn end_line(&mut self) -> Result<(), AllocError> {
+        if self.lines < LINES {
+            for letter in self.line.chars().take(COLUMNS) {
+                self.text.push(letter)?;
+            }
+            self.text.push_str("\x1b[K\n")?;
+            self.lines = self.lines.saturating_add(1);
+        }
+        self.line.clear();
+        Ok(())
+    }
+}
+
+/// The text that draws a screen over the last one, which had so many lines, and how many lines it has. The cursor stands in the
+/// line below it, so that whatever ends the program leaves the terminal as it was.
+pub fn draw(
+    alloc: Global,
+    view: &View<'_>,
+    lines_before: usize,
+) -> Result<(String, usize), AllocError> {
+    let mut page = Page {
+        text: String::new(alloc),
+        line: String::new(alloc),
+        lines: 0,
+    };
+    if lines_before > 0 {
+        write!(page.text, "\x1b[{lines_before}A\r")?;
+    }
+    draw_head(&mut page, view)?;
+    if let Some(frame) = view.frame {
+        let count = frame.count();
+        for (i, part) in frame.config.parts.iter().enumerate() {
+            if i < count {
+                let reading = Reading::new(part, frame.block(i));
+                draw_pmu(&mut page, part, &reading, view.histories.get(i), count)?;
+            }
+        }
+    }
+    // What is left of a longer screen.
+    page.text.push_str("\x1b[J")?;
+    let Page { text, lines, .. } = page;
+    Ok((text, lines))
+}
+
+/// The head: who, when, what was counted.
+fn draw_head(page: &mut Page, view: &View<'_>) -> Result<(), AllocError> {
+    let address = view.address;
+    let stream = view.stream;
+    write!(page.line, "{address}  stream {stream}  ")?;
+    if let Some(frame) = view.frame {
+        let time = Instant::of(frame);
+        let quality = Quality(frame.quality);
+        write!(page.line, "{time}  {quality}")?;
+        if let Some(delay) = view.delay {
+            write!(page.line, "  {delay} ms behind")?;
+        }
+    }
+    page.end_line()?;
+    let measured = view.measured;
+    write!(page.line, "rate ")?;
+    match view.config.and_then(|config| config.parts.first()) {
+        Some(part) => {
+            let rate = part.rate;
+            write!(page.line, "{rate} told, ")?;
+        }
+        None => write!(page.line, "not told, ")?,
+    }
+    let frames = view.tally.frames;
+    let missing = view.tally.missing;
+    let fillers = view.tally.fillers;
+    let troubles = view.tally.troubles;
+    write!(
+        page.line,
+        "{measured} measured  frames {frames}  missing {missing}  fillers {fillers}  troubles {troubles}"
+    )?;
+    page.end_line()?;
+    for byte in view.header.iter().take(COLUMNS) {
+        page.line.push(shown(*byte))?;
+    }
+    page.end_line()?;
+    if let Some(trouble) = view.trouble {
+        write!(page.line, "last trouble: {trouble}")?;
+    }
+    page.end_line()
+}
+
+/// One PMU: its name and state, the last minute of its frequency, its channels.
+fn draw_pmu(
+    page: &mut Page,
+    part: &PmuConfig,
+    reading: &Reading<'_>,
+    history: Option<&History>,
+    count: usize,
+) -> Result<(), AllocError> {
+    let station = reading.station();
+    let status = Status(reading.stat());
+    write!(page.line, "{station}  {status}  ")?;
+    match reading.millihertz() {
+        Some(millihertz) => {
+            let hertz = f64::from(millihertz) / 1_000.0;
+            write!(page.line, "{hertz:.3} Hz  ")?;
+        }
+        None => write!(page.line, "frequency absent  ")?,
+    }
+    if let Some(change) = reading.change() {
+        let change = f64::from(change) / 100.0;
+        write!(page.line, "{change:.2} Hz/s")?;
+    }
+    page.end_line()?;
+    if let Some(history) = history {
+        draw_history(page, history, if count == 1 { 4 } else { 1 })?;
+    }
+    draw_phasors(page, reading, usize::from(part.phasors))?;
+    draw_others(
+        page,
+        reading,
+        usize::from(part.phasors),
+        usize::from(part.analogs),
+        usize::from(part.digitals),
+    )
+}
+
+/// The plot of a history, with so many rows, its greatest value at the top and its least one at the bottom.
+fn draw_history(page: &mut Page, history: &History, rows: u8) -> Result<(), AllocError> {
+    let (least, most) = history.range();
+    for down in 0..rows {
+        if down == 0 {
+            let top = f64::from(most) / 1_000.0;
+            write!(page.line, "  {top:.3} ")?;
+        } else if down + 1 == rows {
+            let bottom = f64::from(least) / 1_000.0;
+            write!(page.line, "  {bottom:.3} ")?;
+        } else {
+            write!(page.line, "         ")?;
+        }
+        let row = i64::from(rows - 1 - down);
+        history.write_row(&mut page.line, row, i64::from(rows))?;
+        page.end_line()?;
+    }
+    Ok(())
+}
+
+/// The phasors, two in a line.
+fn draw_phasors(page: &mut Page, reading: &Reading<'_>, phasors: usize) -> Result<(), AllocError> {
+    for k in 0..phasors {
+        let name = Padded(reading.channel(k));
+        match reading.phasor(k) {
+            Some(phasor) => {
+                let degrees = phasor.degrees;
+                if phasor.is_current {
+                    let amperes = phasor.magnitude;
+                    write!(page.line, "  {name} {amperes:9.1} A {degrees:7.2}°")?;
+                } else {
+                    let kilovolts = phasor.magnitude / 1_000.0;
+                    write!(page.line, "  {name} {kilovolts:8.3} kV {degrees:7.2}°")?;
+                }
+            }
+            None => write!(page.line, "  {name}    absent         ")?,
+        }
+        if k % 2 == 1 || k + 1 == phasors {
+            page.end_line()?;
+        }
+    }
+    Ok(())
+}
+
+/// Analog values and digital words.
+fn draw_others(
+    page: &mut Page,
+    reading: &Reading<'_>,
+    phasors: usize,
+    analogs: usize,
+    digitals: usize,
+) -> Result<(), AllocError> {
+    for k in 0..analogs {
+        let name = reading.channel(phasors.saturating_add(k));
+        match reading.analog(k) {
+            Some(value) => write!(page.line, "  {name} {value}")?,
+            None => write!(page.line, "  {name} absent")?,
+        }
+    }
+    for k in 0..digitals {
+        let word = reading.digital(k);
+        write!(page.line, "  digital {k}: {word:04X}")?;
+    }
+    page.end_line()
+}
+
+/// A name with spaces behind it, of sixteen letters.
+#[derive(Clone, Copy)]
+struct Padded(crate::reading::Name);
+
+impl fmt::Display for Padded {
+    fn fmt<W: fmt::Write>(&self, f: &mut fmt::Formatter<W>) -> fmt::Result {
+        let name = self.0;
+        write!(f, "{name}")?;
+        for _ in name.len()..16 {
+            write!(f, " ")?;
+        }
+        Ok(())
+    }
+}

@@ -1,0 +1,568 @@
+//! `pdcgw watch`: a subscriber that shows what comes.
+
+use crate::fault::Fault;
+use crate::lines::{Instant, write_heading, write_second, write_values};
+use crate::moment::Moment;
+use crate::playing::written;
+use crate::screen::{History, View, draw};
+use crate::settings::{Misword, address, number};
+use crate::watcher::{Seen, Trouble, Watcher};
+use mio::net::TcpStream;
+use mio::{Events, Interest, Poll, Token};
+use pg_config::SourceConfig;
+use pg_data::DataFrame;
+use pg_wire::PmuId;
+use std::alloc::{AllocError, Global};
+use std::io::{ErrorKind, Read, Write};
+use std::net::{Net, Shutdown, SocketAddr};
+use std::rt::{Clock, Files};
+use std::sync::Arc;
+use std::sync::atomic::{AtomicBool, Ordering};
+use std::time::Duration;
+use std::{fs, io};
+
+/// How long one wait for bytes is at most, in milliseconds: a screen is drawn so often.
+const TURN: u64 = 100;
+
+/// How many turns a connection is waited for.
+const CONNECTING: u32 = 50;
+
+/// How many turns an end of the stream is waited for.
+const ENDING: u32 = 5;
+
+/// How long a configuration may take, in seconds, before its want is told.
+const PATIENCE: u64 = 5;
+
+/// How many bytes one read takes at most.
+const PIECE: usize = 16_384;
+
+/// The reads of a turn at most.
+const READS: u32 = 256;
+
+/// The longest delay that is told, in milliseconds.
+const MOST_DELAY: u64 = 4_000_000_000;
+
+/// A second, in microseconds.
+const SECOND: u64 = 1_000_000;
+
+/// How what comes is shown.
+#[derive(Clone, Copy, Debug, PartialEq, Eq)]
+pub enum Style {
+    /// A screen, which is drawn again and again.
+    Screen,
+    /// A line a second.
+    Plain,
+    /// A line for each data frame, of values with commas between.
+    Csv,
+}
+
+/// What is watched, and how.
+#[derive(Clone, Copy)]
+pub struct Watched<'a> {
+    /// The address of the gateway, or of a source.
+    pub address: SocketAddr,
+    /// The IDCODE of the stream.
+    pub stream: PmuId,
+    /// How it is shown.
+    pub style: Style,
+    /// The file that keeps the bytes as they come.
+    pub raw: Option<&'a str>,
+    /// After how many data frames it ends.
+    pub frames: Option<u32>,
+    /// After how many seconds it ends.
+    pub seconds: Option<u32>,
+}
+
+/// The values of the words of `watch`, as they were typed.
+#[derive(Clone, Copy)]
+pub struct WatchWords<'a> {
+    /// The address.
+    pub address: &'a str,
+    /// `--stream`
+    pub stream: &'a str,
+    /// `--csv`
+    pub is_csv: bool,
+    /// `--plain`
+    pub is_plain: bool,
+    /// Whether standard output is a terminal.
+    pub is_terminal: bool,
+    /// `--raw`
+    pub raw: Option<&'a str>,
+    /// `--frames`
+    pub frames: Option<&'a str>,
+    /// `--seconds`
+    pub seconds: Option<&'a str>,
+}
+
+/// What `watch` is asked for.
+///
+/// # Errors
+///
+/// The first option that can't be taken, with what it takes.
+pub fn read_watched<'a>(words: &WatchWords<'a>) -> Result<Watched<'a>, Misword> {
+    let address = address(words.address, "ADDRESS")?;
+    let wrong = Misword {
+        option: "--stream",
+        takes: "a number of 1 to 65534",
+    };
+    let Some(number) = number(words.stream, 1, 65_534) else {
+        return Err(wrong);
+    };
+    let Some(stream) = PmuId::new(number as u16) else {
+        return Err(wrong);
+    };
+    let style = if words.is_csv {
+        Style::Csv
+    } else if words.is_plain || !words.is_terminal {
+        Style::Plain
+    } else {
+        Style::Screen
+    };
+    Ok(Watched {
+        address,
+        stream,
+        style,
+        raw: words.raw,
+        frames: limit(words.frames, "--frames")?,
+        seconds: limit(words.seconds, "--seconds")?,
+    })
+}
+
+/// A limit, where there is one.
+fn limit(word: Option<&str>, option: &'static str) -> Result<Option<u32>, Misword> {
+    let Some(word) = word else {
+        return Ok(None);
+    };
+    match number(word, 1, u32::MAX) {
+        Some(limit) => Ok(Some(limit)),
+        None => Err(Misword {
+            option,
+            takes: "a number of 1 to 4294967295",
+        }),
+    }
+}
+
+/// What `watch` shows, apart from the socket.
+#[derive(Drop)]
+struct Show {
+    alloc: Global,
+    watcher: Watcher,
+    latest: Option<Arc<DataFrame>>,
+    histories: Vec<History>,
+    frames_before: u64,
+    measured: u64,
+    delay: Option<i64>,
+    trouble: Option<Trouble>,
+    lines: usize,
+    is_over: bool,
+}
+
+/// Watches a stream until it ends, or as many frames or seconds as are asked for have come, and stops it. It answers whether
+/// nothing was wrong with what came.
+///
+/// # Errors
+///
+/// `Reach`, where no connection can be had; `File`, where the file for the bytes can't be written; `Output`; `System`.
+pub fn watch<R>(rt: &R, watched: &Watched<'_>) -> Result<bool, Fault>
+where
+    R: Net + Clock + Files + Print + Eprint + Alloc<A = Global>,
+{
+    watch_until(rt, watched, &AtomicBool::new(false))
+}
+
+/// As `watch`, and it ends soon after `stop` is set too.
+///
+/// # Errors
+///
+/// As `watch`.
+pub fn watch_until<R>(rt: &R, watched: &Watched<'_>, stop: &AtomicBool) -> Result<bool, Fault>
+where
+    R: Net + Clock + Files + Print + Eprint + Alloc<A = Global>,
+{
+    let alloc = rt.alloc();
+    let mut raw = match watched.raw {
+        None => None,
+        Some(path) => match fs::create(rt, path) {
+            Ok(file) => Some(file),
+            Err(error) => return Err(Fault::File(error)),
+        },
+    };
+    let mut poll = Poll::new(rt)?;
+    let mut events = Events::with_capacity(alloc, 4).map_err(io::Error::from)?;
+    let stream = connect(rt, watched.address, &mut poll, &mut events)?;
+    let mut show = Show::new(alloc, watched.stream)?;
+    let start = now(rt)?;
+    let mut second = start;
+    for _ in 0..u64::MAX {
+        send_owed(rt, &stream, &mut show)?;
+        poll.poll(&mut events, Some(Duration::from_millis(TURN)))?;
+        read_all(rt, &stream, &mut show, watched, &mut raw)?;
+        let at = now(rt)?;
+        if at.micros.saturating_sub(second.micros) >= SECOND {
+            second = Moment {
+                micros: second.micros.saturating_add(SECOND),
+            };
+            show.end_second(rt, watched, at.micros.saturating_sub(start.micros))?;
+        }
+        if watched.style == Style::Screen {
+            show.draw(rt, watched)?;
+        }
+        let micros = at.micros.saturating_sub(start.micros);
+        if show.is_over || stop.load(Ordering::SeqCst) || has_all(&show, watched, micros) {
+            break;
+        }
+    }
+    stop_stream(rt, &stream, &show, &mut poll, &mut events)?;
+    show.end(rt, watched)?;
+    Ok(show.watcher.tally().troubles == 0)
+}
+
+/// Whether as much has come as was asked for.
+fn has_all(show: &Show, watched: &Watched<'_>, micros: u64) -> bool {
+    let frames = show.watcher.tally().frames;
+    let by_frames = matches!(watched.frames, Some(most) if frames >= u64::from(most));
+    let by_time = matches!(watched.seconds, Some(most) if micros / SECOND >= u64::from(most));
+    by_frames || by_time
+}
+
+/// Connects.
+fn connect<R: Net>(
+    rt: &R,
+    address: SocketAddr,
+    poll: &mut Poll,
+    events: &mut Events<Global>,
+) -> Result<TcpStream, Fault> {
+    let mut stream = match TcpStream::connect(rt, address) {
+        Ok(stream) => stream,
+        Err(error) => return Err(Fault::Reach(address, error)),
+    };
+    let both = Interest::READABLE | Interest::WRITABLE;
+    poll.registry().register(&mut stream, Token(0), both)?;
+    for _ in 0..CONNECTING {
+        poll.poll(events, Some(Duration::from_millis(TURN)))?;
+        match stream.take_error() {
+            Ok(None) => {}
+            Ok(Some(error)) | Err(error) => return Err(Fault::Reach(address, error)),
+        }
+        if stream.peer_addr().is_ok() {
+            let _ = stream.set_nodelay(true);
+            return Ok(stream);
+        }
+    }
+    Err(Fault::Reach(address, io::Error::from(ErrorKind::TimedOut)))
+}
+
+/// Sends the commands that are owed. They are so few that the system takes them at once; a connection that does not is over.
+fn send_owed<R: Clock>(rt: &R, stream: &TcpStream, show: &mut Show) -> Result<(), Fault> {
+    let soc = now(rt)?.soc();
+    for _ in 0..3 {
+        let Some(command) = show.watcher.next_out(soc) else {
+            return Ok(());
+        };
+        match (&*stream).write(&command) {
+            Ok(18) => {}
+            _ => show.note(Trouble::Closed),
+        }
+    }
+    Ok(())
+}
+
+/// Reads what is there, keeps it and shows it.
+fn read_all<R: Files + Clock + Print + Eprint>(
+    rt: &R,
+    stream: &TcpStream,
+    show: &mut Show,
+    watched: &Watched<'_>,
+    raw: &mut Option<R::File>,
+) -> Result<(), Fault> {
+    let mut piece = [0; PIECE];
+    for _ in 0..READS {
+        match (&*stream).read(&mut piece) {
+            Ok(0) => {
+                show.trouble_told(rt, watched, Trouble::Closed)?;
+                show.is_over = true;
+                return Ok(());
+            }
+            Ok(read) => {
+                let bytes = &piece[..read];
+                if let Some(file) = raw {
+                    if let Err(error) = file.write_all(bytes) {
+                        return Err(Fault::File(error));
+                    }
+                }
+                show.take(rt, watched, bytes)?;
+                show.delay = delay_of(show.latest.as_ref(), now(rt)?);
+            }
+            Err(error) if error.kind() == ErrorKind::WouldBlock => return Ok(()),
+            Err(error) if error.kind() == ErrorKind::Interrupted => {}
+            Err(_) => {
+                show.trouble_told(rt, watched, Trouble::Closed)?;
+                show.is_over = true;
+                return Ok(());
+            }
+        }
+        if show.is_over || has_all(show, watched, 0) {
+            return Ok(());
+        }
+    }
+    Ok(())
+}
+
+/// Stops the stream, and waits a little until the peer has closed, so that it reads the command.
+fn stop_stream<R: Clock>(
+    rt: &R,
+    stream: &TcpStream,
+    show: &Show,
+    poll: &mut Poll,
+    events: &mut Events<Global>,
+) -> Result<(), Fault> {
+    let _ = (&*stream).write(&show.watcher.stop(now(rt)?.soc()));
+    let _ = stream.shutdown(Shutdown::Write);
+    let mut piece = [0; PIECE];
+    for _ in 0..ENDING {
+        poll.poll(events, Some(Duration::from_millis(TURN)))?;
+        for _ in 0..READS {
+            match (&*stream).read(&mut piece) {
+                Ok(0) => return Ok(()),
+                Ok(_) => {}
+                Err(error) if error.kind() == ErrorKind::WouldBlock => break,
+                Err(_) => return Ok(()),
+            }
+        }
+    }
+    Ok(())
+}
+
+impl Show {
+    fn new(alloc: Global, stream: PmuId) -> Result<Show, Fault> {
+        let watcher = match Watcher::new(alloc, stream) {
+            Ok(watcher) => watcher,
+            Err(_) => return Err(no_memory()),
+        };
+        Ok(Show {
+            alloc,
+            watcher,
+            latest: None,
+            histories: Vec::new(alloc),
+            frames_before: 0,
+            measured: 0,
+            delay: None,
+            trouble: None,
+            lines: 0,
+            is_over: false,
+        })
+    }
+
+    /// Takes the bytes that came.
+    fn take<R: Print + Eprint>(
+        &mut self,
+        rt: &R,
+        watched: &Watched<'_>,
+        bytes: &[u8],
+    ) -> Result<(), Fault> {
+        let mut at = 0;
+        for _ in 0..=bytes.len() {
+            if at < bytes.len() {
+                at += self.watcher.feed(&bytes[at..]);
+            }
+            match self.watcher.next() {
+                Seen::More if at >= bytes.len() => return Ok(()),
+                Seen::More | Seen::Header => {}
+                Seen::Config(config) => self.begin(rt, watched, &config)?,
+                Seen::Frame(frame) => self.show_frame(rt, watched, frame)?,
+                Seen::Trouble(trouble) => self.tell(rt, watched, trouble)?,
+                Seen::Ended => {
+                    self.is_over = true;
+                    return Ok(());
+                }
+                Seen::NoMemory => return Err(no_memory()),
+            }
+            if has_all(self, watched, 0) {
+                return Ok(());
+            }
+        }
+        Ok(())
+    }
+
+    /// Begins with a configuration.
+    fn begin<R: Print>(
+        &mut self,
+        rt: &R,
+        watched: &Watched<'_>,
+        config: &SourceConfig,
+    ) -> Result<(), Fault> {
+        self.histories.clear();
+        for _ in 0..config.count() {
+            let history = History::new(self.alloc);
+            if self.histories.push(history).is_err() {
+                return Err(no_memory());
+            }
+        }
+        if watched.style == Style::Csv {
+            let mut line = String::new(self.alloc);
+            made(write_heading(&mut line, config))?;
+            written(print!(rt; "{line}"))?;
+        }
+        Ok(())
+    }
+
+    /// Shows a data frame.
+    fn show_frame<R: Print>(
+        &mut self,
+        rt: &R,
+        watched: &Watched<'_>,
+        frame: Arc<DataFrame>,
+    ) -> Result<(), Fault> {
+        if watched.style == Style::Csv {
+            let mut line = String::new(self.alloc);
+            made(write_values(&mut line, &frame))?;
+            written(print!(rt; "{line}"))?;
+        }
+        self.latest = Some(frame);
+        Ok(())
+    }
+
+    /// Notes what is wrong apart from the bytes.
+    fn note(&mut self, trouble: Trouble) {
+        self.watcher.note(trouble);
+        self.trouble = Some(trouble);
+    }
+
+    /// Notes it, and tells it.
+    fn trouble_told<R: Print + Eprint>(
+        &mut self,
+        rt: &R,
+        watched: &Watched<'_>,
+        trouble: Trouble,
+    ) -> Result<(), Fault> {
+        self.watcher.note(trouble);
+        self.tell(rt, watched, trouble)
+    }
+
+    /// Tells what is wrong: on the screen, or else on standard error.
+    fn tell<R: Print + Eprint>(
+        &mut self,
+        rt: &R,
+        watched: &Watched<'_>,
+        trouble: Trouble,
+    ) -> Result<(), Fault> {
+        self.trouble = Some(trouble);
+        if watched.style != Style::Screen {
+            // Where standard error can't be written either, the status still tells.
+            let _ = eprintln!(rt; "pdcgw: {trouble}");
+        }
+        Ok(())
+    }
+
+    /// Ends a second: its rate, its frequencies, its line.
+    fn end_second<R: Print + Eprint>(
+        &mut self,
+        rt: &R,
+        watched: &Watched<'_>,
+        micros: u64,
+    ) -> Result<(), Fault> {
+        let tally = self.watcher.tally();
+        self.measured = tally.frames.saturating_sub(self.frames_before);
+        self.frames_before = tally.frames;
+        if tally.configs == 0 && micros / SECOND == PATIENCE {
+            self.trouble_told(rt, watched, Trouble::Silent)?;
+        }
+        made(self.keep_frequencies())?;
+        if watched.style == Style::Plain {
+            let mut line = String::new(self.alloc);
+            let latest = self.latest.as_ref().map(|frame| &**frame);
+            made(write_second(
+                &mut line,
+                latest,
+                self.measured,
+                self.delay,
+                &self.watcher.tally(),
+            ))?;
+            written(print!(rt; "{line}"))?;
+        }
+        Ok(())
+    }
+
+    /// Adds the last frequency of each PMU to its history.
+    fn keep_frequencies(&mut self) -> Result<(), AllocError> {
+        let Some(frame) = &self.latest else {
+            return Ok(());
+        };
+        for (i, history) in self.histories.iter_mut().enumerate() {
+            let value = match frame.config.parts.get(i) {
+                Some(part) if i < frame.count() && self.measured > 0 => {
+                    crate::reading::Reading::new(part, frame.block(i)).millihertz()
+                }
+                _ => None,
+            };
+            history.push(value)?;
+        }
+        Ok(())
+    }
+
+    /// Draws the screen.
+    fn draw<R: Print>(&mut self, rt: &R, watched: &Watched<'_>) -> Result<(), Fault> {
+        let view = View {
+            address: watched.address,
+            stream: self.watcher.stream().get(),
+            measured: self.measured,
+            tally: self.watcher.tally(),
+            header: self.watcher.header(),
+            config: self.watcher.config().map(|config| &**config),
+            frame: self.latest.as_ref().map(|frame| &**frame),
+            histories: &self.histories,
+            delay: self.delay,
+            trouble: self.trouble,
+        };
+        let (text, lines) = made(draw(self.alloc, &view, self.lines))?;
+        self.lines = lines;
+        written(print!(rt; "{text}"))
+    }
+
+    /// Tells at the end what was counted.
+    fn end<R: Print + Eprint>(&mut self, rt: &R, watched: &Watched<'_>) -> Result<(), Fault> {
+        let tally = self.watcher.tally();
+        let frames = tally.frames;
+        let missing = tally.missing;
+        let fillers = tally.fillers;
+        let troubles = tally.troubles;
+        let wrong = tally.wrong_checks;
+        let order = tally.not_rising;
+        let misfits = tally.misfits;
+        if watched.style == Style::Csv {
+            return Ok(());
+        }
+        written(println!(rt;
+            "{frames} frames, {missing} missing, {fillers} fillers, {troubles} troubles ({wrong} CHK, {order} order, {misfits} misfit)"
+        ))
+    }
+}
+
+/// How many milliseconds behind its stamp the latest frame came, below 0 where it came before.
+fn delay_of(frame: Option<&Arc<DataFrame>>, at: Moment) -> Option<i64> {
+    let stamp = Instant::of(&**frame?).moment();
+    let behind = (at.micros.saturating_sub(stamp.micros) / 1_000).min(MOST_DELAY);
+    let ahead = (stamp.micros.saturating_sub(at.micros) / 1_000).min(MOST_DELAY);
+    Some(i64::from(behind as u32).saturating_sub(i64::from(ahead as u32)))
+}
+
+/// What memory was there for.
+fn made<T: Drop>(made: Result<T, AllocError>) -> Result<T, Fault> {
+    match made {
+        Ok(value) => Ok(value),
+        Err(_) => Err(no_memory()),
+    }
+}
+
+/// There is no memory.
+fn no_memory() -> Fault {
+    Fault::System(io::Error::from(ErrorKind::OutOfMemory))
+}
+
+/// The time.
+fn now<R: Clock>(rt: &R) -> Result<Moment, Fault> {
+    match Moment::now(rt) {
+        Some(now) => Ok(now),
+        None => Err(Fault::System(io::Error::from(ErrorKind::Unsupported))),
+    }
+}

@@ -1,0 +1,387 @@
+//! A simulated source, apart from sockets and clocks: bytes of commands go in, bytes of frames come out.
+
+ghost use Rattle.std.specs.Prelude.{◌≡◌, ◌⊎◌, ◌+◌, ◌/◌, ◌^◌, ◌≤◌, ◌<◌, length, IfOk, None, is_some};
+ghost use Rattle.pg_tools.specs.Playing.{sending_after, least_slot, IsAfter};
+
+use crate::layout::blocks_of;
+use crate::measuring::add_measured;
+use crate::moment::{MICROS, Moment, Rate};
+use crate::settings::Settings;
+use pg_command::{Word, read_command};
+use pg_config::{end_config, start_config, write_header};
+use pg_stream::stamp_of;
+use pg_wire::{Deframer, Head, Kind, Refusal, StreamId, Taken, end_frame, start_frame};
+use std::alloc::Global;
+
+/// How many bytes a frame has beside its body.
+const AROUND_BODY: usize = 16;
+
+/// The seconds with data frames between two silences.
+const HEARD: u64 = 10;
+
+/// What a source has done.
+#[derive(Clone, Copy, Debug, PartialEq, Eq)]
+pub struct SourceCounts {
+    /// Commands that were obeyed.
+    pub obeyed: u64,
+    /// Frames of the peer that were ignored.
+    pub ignored: u64,
+    /// Data frames that were sent.
+    pub sent: u64,
+    /// Data frames that a fault left out.
+    pub left_out: u64,
+    /// Data frames that were sent with a wrong CHK.
+    pub spoiled: u64,
+}
+
+impl SourceCounts {
+    /// Nothing yet.
+    pub const NONE: SourceCounts = SourceCounts {
+        obeyed: 0,
+        ignored: 0,
+        sent: 0,
+        left_out: 0,
+        spoiled: 0,
+    };
+}
+
+/// What comes next of the bytes that a source was fed.
+#[derive(Clone, Copy, Debug, PartialEq, Eq)]
+pub enum Heard {
+    /// This command was obeyed.
+    Obeyed(Word),
+    /// This command is known, and not obeyed: the fault `no-config` keeps the answer back, or it is none of 1 to 5.
+    Kept(Word),
+    /// A frame was ignored: `BadCheck` or `BadVersion`; `WrongType` or `BadLength`, it is no command; `NoSuchStream`, it is for
+    /// another IDCODE; `UnknownCommand`.
+    Ignored(Refusal),
+    /// More bytes have to come.
+    More,
+    /// The bytes broke, and the connection is to be closed: `BadFirst`, `BadSecond` or `ShortSize`.
+    Broken(Refusal),
+}
+
+/// A source that is simulated (own rule). It obeys commands 1 to 5 of whoever is connected, and has data frames on the slots of
+/// its rate while data is on.
+#[derive(Drop)]
+pub struct Source {
+    alloc: Global,
+    settings: Settings,
+    blocks: Vec<u8>,
+    deframer: Deframer,
+    /// The last slot that is done with, while data is on.
+    pub sending: Option<u64>,
+    counts: SourceCounts,
+}
+
+impl Source {
+    /// A source with these settings, whose data is off.
+    ///
+    /// # Errors
+    ///
+    /// `NoMemory`.
+    pub fn new(alloc: Global, settings: Settings) -> Result<Source, Refusal>
+        ensures { IfOk result (λ source. source.sending ≡ None) }
+    {
+        Ok(Source {
+            alloc,
+            settings,
+            blocks: blocks_of(alloc, &settings)?,
+            deframer: Deframer::new(alloc)?,
+            sending: None,
+            counts: SourceCounts::NONE,
+        })
+    }
+
+    /// What it has done since it was made.
+    pub fn counts(&self) -> SourceCounts {
+        self.counts
+    }
+
+    /// What it plays.
+    pub fn settings(&self) -> Settings {
+        self.settings
+    }
+
+    /// Whether data is on.
+    pub fn is_sending(&self) -> bool
+        ensures { result ≡ is_some self.now.sending }
+    {
+        self.sending.is_some()
+    }
+
+    /// Begins anew, for the next connection: data is off, and the bytes of the last one are forgotten.
+    pub fn reset(&mut self)
+        ensures { self.new.sending ≡ None }
+    {
+        self.deframer.reset();
+        self.sending = None;
+    }
+
+    /// Takes the next bytes of the peer, and answers how many of them there was room for: `next` makes room.
+    pub fn feed(&mut self, bytes: &[u8]) -> usize
+        ensures taken { result ≤ length bytes.now }
+        ensures same { self.new.sending ≡ self.old.sending }
+    {
+        let taken = bytes.len().min(self.deframer.room());
+        self.deframer.feed(&bytes[..taken]);
+        taken
+    }
+
+    /// What comes next of the peer's bytes. A command is obeyed at once, and the answer to it is added to `out`.
+    ///
+    /// # Errors
+    ///
+    /// `NoMemory`, where the answer finds none.
+    pub fn next(&mut self, now: Moment, out: &mut Vec<u8>) -> Result<Heard, Refusal>
+        // Just the commands 1 and 2 for its IDCODE switch data.
+        ensures { IfOk result (λ heard. IsAfter heard self.old.sending self.new.sending) }
+    {
+        let read = match self.deframer.next() {
+            Taken::Frame(frame) => read_command(frame),
+            Taken::Skipped(refusal) => Err(refusal),
+            Taken::More => return Ok(Heard::More),
+            Taken::Broken(refusal) => return Ok(Heard::Broken(refusal)),
+        };
+        let word = match read {
+            Ok(command) if command.stream != self.settings.numbers.first => {
+                Err(Refusal::NoSuchStream)
+            }
+            Ok(command) => Word::of(command.word).ok_or(Refusal::UnknownCommand),
+            Err(refusal) => Err(refusal),
+        };
+        match word {
+            Ok(word) => self.obey(word, now, out),
+            Err(refusal) => {
+                self.counts.ignored = self.counts.ignored.saturating_add(1);
+                Ok(Heard::Ignored(refusal))
+            }
+        }
+    }
+
+    /// Obeys a command.
+    fn obey(&mut self, word: Word, now: Moment, out: &mut Vec<u8>) -> Result<Heard, Refusal>
+        ensures { IfOk result (λ heard. IsAfter heard self.old.sending self.new.sending) }
+    {
+        let at = self.clock(now);
+        let answered = match word {
+            Word::StopData | Word::StartData => true,
+            Word::SendHeader => {
+                add_header(self.alloc, &self.settings, at, out)?;
+                true
+            }
+            Word::SendCfgOne => self.add_config(Kind::CfgOne, at, out)?,
+            Word::SendCfgTwo => self.add_config(Kind::CfgTwo, at, out)?,
+            Word::SendCfgThree | Word::Extended => false,
+        };
+        self.sending = after_command(self.sending, word, at.slot(self.settings.rate));
+        if !answered {
+            self.counts.ignored = self.counts.ignored.saturating_add(1);
+            return Ok(Heard::Kept(word));
+        }
+        self.counts.obeyed = self.counts.obeyed.saturating_add(1);
+        Ok(Heard::Obeyed(word))
+    }
+
+    /// Its own time, at this instant: the fault `clock` puts it off.
+    fn clock(&self, now: Moment) -> Moment {
+        now.shifted(self.settings.faults.clock)
+    }
+
+    /// Adds CFG-1 or CFG-2, and tells whether it does: the fault `no-config` keeps it back.
+    fn add_config(&self, kind: Kind, at: Moment, out: &mut Vec<u8>) -> Result<bool, Refusal>
+        requires { (kind ≡ Kind.CfgOne) ⊎ (kind ≡ Kind.CfgTwo) }
+    {
+        if self.settings.faults.no_config {
+            return Ok(false);
+        }
+        let frame = config_frame(self.alloc, &self.settings, &self.blocks, kind, at)?;
+        out.extend_from_slice(&frame)?;
+        Ok(true)
+    }
+
+    /// Adds the data frames that are due at an instant: those of the slots since the last call, of a second at most. A source
+    /// that was held up for longer leaves out what lies further back.
+    ///
+    /// # Errors
+    ///
+    /// `NoMemory`. The frames before it stand in `out`, and are due no more.
+    pub fn due(&mut self, now: Moment, out: &mut Vec<u8>) -> Result<(), Refusal>
+        ensures { self.old.sending ≡ None → self.new.sending ≡ None }
+    {
+        let Some(last) = self.sending else {
+            return Ok(());
+        };
+        let rate = self.settings.rate;
+        let end = self
+            .clock(now)
+            .earlier(self.settings.faults.late)
+            .slot(rate);
+        let first = first_due(last, end, rate);
+        if first <= end {
+            self.sending = Some(end);
+            for slot in first..=end {
+                self.add_data(slot, out)?;
+            }
+        }
+        Ok(())
+    }
+
+    /// Passes the data frames that are due at an instant over: the peer does not take them.
+    pub fn pass(&mut self, now: Moment)
+        ensures { self.old.sending ≡ None → self.new.sending ≡ None }
+    {
+        if self.sending.is_some() {
+            self.sending = Some(self.clock(now).slot(self.settings.rate));
+        }
+    }
+
+    /// Adds the data frame of a slot, unless a fault leaves it out.
+    fn add_data(&mut self, slot: u64, out: &mut Vec<u8>) -> Result<(), Refusal>
+        ensures { self.new.sending ≡ self.old.sending }
+    {
+        let rate = u64::from(self.settings.rate.frames);
+        let faults = self.settings.faults;
+        if is_silent(slot / rate, faults.silence)
+            || slot / rate > u64::from(u32::MAX)
+            || happens(slot, 1, faults.drop)
+        {
+            self.counts.left_out = self.counts.left_out.saturating_add(1);
+            return Ok(());
+        }
+        let mut frame = data_frame(self.alloc, &self.settings, slot)?;
+        if happens(slot, 2, faults.wrong_check) {
+            if let Some(last) = frame.last_mut() {
+                *last = !*last;
+            }
+            self.counts.spoiled = self.counts.spoiled.saturating_add(1);
+        }
+        out.extend_from_slice(&frame)?;
+        self.counts.sent = self.counts.sent.saturating_add(1);
+        Ok(())
+    }
+
+    /// How many microseconds there are until the next data frame is due, none while data is off: at most a second and the delay
+    /// of the fault `late`.
+    pub fn until_due(&self, now: Moment) -> Option<u64> {
+        let last = self.sending?;
+        let rate = u64::from(self.settings.rate.frames);
+        let next = last.saturating_add(1);
+        let start = (next / rate)
+            .saturating_mul(1_000_000)
+            .saturating_add((next % rate * 1_000_000).div_ceil(rate));
+        let late = u64::from(self.settings.faults.late) * 1_000;
+        Some(
+            start
+                .saturating_add(late)
+                .saturating_sub(self.clock(now).micros),
+        )
+    }
+}
+
+/// The last slot that is done with, while data is on: a start begins behind the slot of its instant, another one changes
+/// nothing, and a stop ends it.
+fn after_command(sending: Option<u64>, word: Word, slot: u64) -> Option<u64>
+    ensures { result ≡ sending_after sending word slot }
+{
+    match word {
+        Word::StartData => Some(sending.unwrap_or(slot)),
+        Word::StopData => None,
+        _ => sending,
+    }
+}
+
+/// The first slot that is due behind `last`, where `end` is the last one: a second of slots at most.
+fn first_due(last: u64, end: u64, rate: Rate) -> u64
+    ensures { last + 1 < 2 ^ 64 → result ≡ least_slot last end rate.frames }
+{
+    let next = last.saturating_add(1);
+    let least = end.saturating_sub(u64::from(rate.frames) - 1);
+    if next < least { least } else { next }
+}
+
+/// Whether no frames are sent in this second: after every ten seconds with frames, so many are silent.
+fn is_silent(second: u64, silence: u32) -> bool {
+    second % (HEARD + u64::from(silence)) >= HEARD
+}
+
+/// Whether something that happens to so many of a hundred slots happens to this one: always the same ones.
+fn happens(slot: u64, salt: u64, percent: u8) -> bool {
+    let mixed = slot
+        .wrapping_mul(2)
+        .wrapping_add(salt)
+        .wrapping_mul(0x9E37_79B9_7F4A_7C15);
+    (mixed >> 33) % 100 < u64::from(percent)
+}
+
+/// The stream whose number a source's frames carry.
+fn stream_of(settings: &Settings) -> Result<StreamId, Refusal> {
+    StreamId::new(settings.numbers.first).ok_or(Refusal::WrongId)
+}
+
+/// Adds the header frame (C37.118.2, 6.5).
+fn add_header(
+    alloc: Global,
+    settings: &Settings,
+    at: Moment,
+    out: &mut Vec<u8>,
+) -> Result<(), Refusal> {
+    let pmus = settings.numbers.pmus;
+    let rate = settings.rate.frames;
+    let s = if pmus == 1 { "" } else { "s" };
+    let text = format!(in alloc; "pdcgw simulate: {pmus} PMU{s}, {rate} frames a second")?;
+    let bytes = text.as_bytes();
+    if bytes.len() > 1_024 || !bytes.is_ascii() {
+        return Err(Refusal::BadLength);
+    }
+    let frame = write_header(alloc, stream_of(settings)?, at.soc(), bytes)?;
+    out.extend_from_slice(&frame)?;
+    Ok(())
+}
+
+/// CFG-1 or CFG-2, which are alike: it reports what it can report.
+fn config_frame(
+    alloc: Global,
+    settings: &Settings,
+    blocks: &[u8],
+    kind: Kind,
+    at: Moment,
+) -> Result<Vec<u8>, Refusal>
+    requires { (kind ≡ Kind.CfgOne) ⊎ (kind ≡ Kind.CfgTwo) }
+{
+    let len = match u16::try_from(blocks.len()) {
+        Ok(len) if len <= 32_000 => len,
+        _ => return Err(Refusal::ConfigTooLarge),
+    };
+    let pmus = u16::from(settings.numbers.pmus);
+    let id = stream_of(settings)?;
+    let mut frame = start_config(alloc, kind, id, at.soc(), MICROS, pmus, len)?;
+    frame.extend_from_slice(blocks)?;
+    frame.reserve(4)?;
+    end_config(&mut frame, settings.rate.frames);
+    Ok(frame)
+}
+
+/// The data frame of a slot, with the values of the slot's instant and a locked clock.
+fn data_frame(alloc: Global, settings: &Settings, slot: u64) -> Result<Vec<u8>, Refusal>
+    requires { slot / settings.now.rate.frames < 2 ^ 32 }
+{
+    let (soc, frac) = stamp_of(settings.rate.frames, MICROS, slot);
+    let blocks = u16::from(settings.numbers.pmus) * settings.channels.block_len();
+    let head = Head {
+        kind: Kind::Measured,
+        version: 2,
+        size: AROUND_BODY as u16 + blocks,
+        id: settings.numbers.first,
+        soc,
+        quality: 0,
+        frac,
+    };
+    let mut frame = start_frame(alloc, &head)?;
+    for pmu in 0..settings.numbers.pmus {
+        add_measured(&mut frame, settings, Moment::new(soc, frac), pmu)?;
+    }
+    frame.reserve(2)?;
+    end_frame(&mut frame);
+    Ok(frame)
+}

@@ -1,0 +1,258 @@
+//! A simulated source with each of its faults, and what a watcher says of it.
+use crate::desk::{SOC, hear, number, source, take, watched};
+use pg_command::write_command;
+use pg_tools::{Faults, Moment, Seen, Stamp, Trouble, Watcher};
+use pg_wire::{Refusal, check};
+use std::process::Abort;
+use std::test::*;
+
+// Without a fault nothing is wrong: each slot of thirty seconds behind the start's.
+#[test]
+fn no_fault(rt: HostRuntime) {
+    let alloc = rt.alloc();
+    let mut source = source(&rt, alloc, 2, Faults::NONE);
+    let mut watcher = Watcher::new(alloc, number(&rt, 7)).expect(&rt, "memory");
+    let tally = watched(&rt, alloc, &mut source, &mut watcher, 30);
+    assert_eq!(rt;
+        (tally.frames, tally.missing, tally.troubles, tally.configs),
+        (899, 0, 0, 1)
+    );
+    assert!(rt; watcher.header() == b"pdcgw simulate: 2 PMUs, 30 frames a second".as_slice());
+}
+
+#[test]
+fn dropped_frames_are_missing(rt: HostRuntime) {
+    let alloc = rt.alloc();
+    let faults = Faults {
+        drop: 10,
+        ..Faults::NONE
+    };
+    let mut source = source(&rt, alloc, 1, faults);
+    let mut watcher = Watcher::new(alloc, number(&rt, 7)).expect(&rt, "memory");
+    let tally = watched(&rt, alloc, &mut source, &mut watcher, 100);
+    let counts = source.counts();
+    assert_eq!(rt; tally.frames, counts.sent);
+    // All that were left out, but for those before the first frame and behind the last one.
+    assert!(rt; tally.missing <= counts.left_out);
+    assert!(rt; counts.left_out.saturating_sub(tally.missing) <= 3);
+    assert!(rt; (200..400).contains(&counts.left_out));
+    assert_eq!(rt; tally.troubles, 0);
+}
+
+#[test]
+fn wrong_checks_are_told(rt: HostRuntime) {
+    let alloc = rt.alloc();
+    let faults = Faults {
+        wrong_check: 10,
+        ..Faults::NONE
+    };
+    let mut source = source(&rt, alloc, 1, faults);
+    let mut watcher = Watcher::new(alloc, number(&rt, 7)).expect(&rt, "memory");
+    let tally = watched(&rt, alloc, &mut source, &mut watcher, 100);
+    let spoiled = source.counts().spoiled;
+    assert_eq!(rt; (tally.wrong_checks, tally.troubles), (spoiled, spoiled));
+    assert_eq!(rt; tally.frames.saturating_add(spoiled), source.counts().sent);
+    assert!(rt; (200..400).contains(&spoiled));
+}
+
+// Ten seconds with frames, five without: of 45 seconds 30 are heard, whichever the first one is.
+#[test]
+fn silence_is_missing(rt: HostRuntime) {
+    let alloc = rt.alloc();
+    let faults = Faults {
+        silence: 5,
+        ..Faults::NONE
+    };
+    let mut source = source(&rt, alloc, 1, faults);
+    let mut watcher = Watcher::new(alloc, number(&rt, 7)).expect(&rt, "memory");
+    let tally = watched(&rt, alloc, &mut source, &mut watcher, 45);
+    assert!(rt; (899..=900).contains(&tally.frames), "{tally:?}");
+    assert!(rt; tally.missing >= 300);
+    assert_eq!(rt; tally.troubles, 0);
+}
+
+// Frames that are 200 ms late and stamps of a clock that is 5 s behind or ahead: each frame is right, and only its time tells.
+#[test]
+fn late_and_wrong_clocks(rt: HostRuntime) {
+    let alloc = rt.alloc();
+    // The fault, and the last slot's SOC and numerator at SOC + 10 s less 10 ms.
+    for (late, clock, want) in [
+        (
+            0u32,
+            0i32,
+            Stamp {
+                soc: SOC + 9,
+                frac: 966_667,
+            },
+        ),
+        (
+            200,
+            0,
+            Stamp {
+                soc: SOC + 9,
+                frac: 766_667,
+            },
+        ),
+        (
+            0,
+            -5_000,
+            Stamp {
+                soc: SOC + 4,
+                frac: 966_667,
+            },
+        ),
+        (
+            0,
+            5_000,
+            Stamp {
+                soc: SOC + 14,
+                frac: 966_667,
+            },
+        ),
+    ] {
+        let faults = Faults {
+            late,
+            clock,
+            ..Faults::NONE
+        };
+        let mut source = source(&rt, alloc, 1, faults);
+        let mut watcher = Watcher::new(alloc, number(&rt, 7)).expect(&rt, "memory");
+        let tally = watched(&rt, alloc, &mut source, &mut watcher, 10);
+        assert_eq!(rt; (tally.missing, tally.troubles), (0, 0));
+        assert_eq!(rt; watcher.last(), Some(want));
+    }
+}
+
+#[test]
+fn no_configuration(rt: HostRuntime) {
+    let alloc = rt.alloc();
+    let faults = Faults {
+        no_config: true,
+        ..Faults::NONE
+    };
+    let mut source = source(&rt, alloc, 1, faults);
+    let mut watcher = Watcher::new(alloc, number(&rt, 7)).expect(&rt, "memory");
+    let tally = watched(&rt, alloc, &mut source, &mut watcher, 6);
+    // The header came, and the stream was never started.
+    assert_eq!(rt;
+        (tally.configs, tally.frames, source.counts().sent),
+        (0, 0, 0)
+    );
+    assert!(rt; !watcher.header().is_empty());
+}
+
+// A frame twice, one of an earlier slot, one that is cut short by its FRAMESIZE, one of another stream.
+#[test]
+fn troubles_are_told(rt: HostRuntime) {
+    let alloc = rt.alloc();
+    let mut source = source(&rt, alloc, 1, Faults::NONE);
+    let mut watcher = Watcher::new(alloc, number(&rt, 7)).expect(&rt, "memory");
+    watched(&rt, alloc, &mut source, &mut watcher, 1);
+    let mut frame = Vec::new(alloc);
+    source
+        .due(Moment::new(SOC + 1, 0), &mut frame)
+        .expect(&rt, "memory");
+    assert_eq!(rt; frame.len(), 38);
+    assert_eq!(rt; take(&rt, &mut watcher, &frame), 1);
+    let stamp = Stamp {
+        soc: SOC + 1,
+        frac: 0,
+    };
+    tells(&rt, &mut watcher, &frame, Trouble::Order(stamp, stamp));
+    // A second before.
+    change(&rt, &mut frame, 9, (SOC & 0xFF) as u8);
+    tells(
+        &rt,
+        &mut watcher,
+        &frame,
+        Trouble::Order(stamp, Stamp { soc: SOC, frac: 0 }),
+    );
+    change(&rt, &mut frame, 5, 8);
+    tells(&rt, &mut watcher, &frame, Trouble::Data(Refusal::WrongId));
+    change(&rt, &mut frame, 5, 7);
+    change(&rt, &mut frame, 11, 0xFF);
+    tells(
+        &rt,
+        &mut watcher,
+        &frame,
+        Trouble::Data(Refusal::BadFraction),
+    );
+    frame.truncate(36);
+    change(&rt, &mut frame, 3, 36);
+    tells(&rt, &mut watcher, &frame, Trouble::Data(Refusal::BadLength));
+    // After a length that does not fit it asks for the configuration again, once.
+    assert!(rt; watcher.next_out(0) == Some(write_command(number(&rt, 7), 0, 5)));
+    assert!(rt; watcher.next_out(0).is_none());
+    change(&rt, &mut frame, 1, 0x42);
+    tells(
+        &rt,
+        &mut watcher,
+        &frame,
+        Trouble::Unasked(pg_wire::Kind::Cmd),
+    );
+    tells(
+        &rt,
+        &mut watcher,
+        &[0x55],
+        Trouble::Broken(Refusal::BadFirst),
+    );
+    assert!(rt; matches!(watcher.next(), Seen::Ended));
+    let tally = watcher.tally();
+    assert_eq!(rt;
+        (tally.troubles, tally.not_rising, tally.misfits),
+        (7, 2, 3)
+    );
+}
+
+// Another byte at this place, and the right check behind it.
+fn change(rt: &impl Abort, frame: &mut Vec<u8>, place: usize, byte: u8) {
+    *frame.get_mut(place).expect(rt, "a byte") = byte;
+    seal(frame);
+}
+
+// The right check behind the frame's bytes.
+fn seal(frame: &mut Vec<u8>) {
+    let end = frame.len().saturating_sub(2);
+    frame.truncate(end);
+    let sum = check(frame.as_slice()).to_be_bytes();
+    let _ = frame.extend_from_slice(&sum);
+}
+
+fn tells(rt: &impl std::process::Abort, watcher: &mut Watcher, bytes: &[u8], want: Trouble) {
+    assert_eq!(rt; watcher.feed(bytes), bytes.len());
+    match watcher.next() {
+        Seen::Trouble(trouble) => assert_eq!(rt; trouble, want),
+        _ => panic!(rt; "no trouble, but {want:?}"),
+    }
+}
+
+// A stop ends the data at once, and a new start goes on behind its own slot.
+#[test]
+fn stop_and_start(rt: HostRuntime) {
+    let alloc = rt.alloc();
+    let mut source = source(&rt, alloc, 1, Faults::NONE);
+    let mut watcher = Watcher::new(alloc, number(&rt, 7)).expect(&rt, "memory");
+    watched(&rt, alloc, &mut source, &mut watcher, 1);
+    let mut out = Vec::new(alloc);
+    hear(
+        &rt,
+        &mut source,
+        Moment::new(SOC + 1, 0),
+        &watcher.stop(SOC),
+        &mut out,
+    );
+    source
+        .due(Moment::new(SOC + 9, 0), &mut out)
+        .expect(&rt, "memory");
+    assert!(rt; out.is_empty());
+    let start = write_command(number(&rt, 7), SOC, 2);
+    hear(&rt, &mut source, Moment::new(SOC + 9, 0), &start, &mut out);
+    source
+        .due(Moment::new(SOC + 9, 999_999), &mut out)
+        .expect(&rt, "memory");
+    assert_eq!(rt; take(&rt, &mut watcher, &out), 29);
+    assert_eq!(rt;
+        (watcher.tally().missing, watcher.tally().troubles),
+        (241, 0)
+    );
+}
