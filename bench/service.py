@@ -2,7 +2,7 @@
 """Measures the running service: starts the program with sources and subscribers of its own, and prints each figure beside its
 bound.
 
-    python3 bench/service.py PROGRAM [CASE..]      CASE: latency idle flood reader throughput commands; none: all of them
+    python3 bench/service.py PROGRAM [CASE..]      CASE: direct latency idle flood reader throughput address name descriptors; none: all of them
 
 PROGRAM is `pdcgw` as `rt run` left it in crates/pdcgw/out. Nothing beside Python's standard library is needed (and `strace` or
 `perf` for system calls, where one of them is there). The status is 1 where a figure is past its bound.
@@ -10,6 +10,7 @@ PROGRAM is `pdcgw` as `rt run` left it in crates/pdcgw/out. Nothing beside Pytho
 import binascii
 import multiprocessing
 import os
+import resource
 import selectors
 import socket
 import struct
@@ -255,24 +256,69 @@ def tell(what, figure, bound, is_met):
         failures.append(what)
 
 
+def read_directly(seconds, told):
+    """Plays the one subscriber of the first source itself."""
+    made = socket.create_connection(("127.0.0.1", FIRST_SOURCE_PORT))
+    made.setsockopt(socket.IPPROTO_TCP, socket.TCP_NODELAY, 1)
+    made.sendall(command(100, 2))
+    made.settimeout(0.1)
+    told.put("started")
+    end, got, buffer = time.monotonic() + seconds, [], bytearray()
+    while time.monotonic() < end:
+        try:
+            buffer += made.recv(1 << 18)
+        except socket.timeout:
+            continue
+        now = time.monotonic_ns()
+        got += [(1, 100, *struct.unpack(">II", it[6:14]), now) for it in frames_in(buffer)]
+    told.put([(sub, stream, soc, frac & 0xFFFFFF, now) for sub, stream, soc, frac, now in got])
+
+
+def case_direct(_program):
+    """What both ends' Python and this machine take without a gateway between them."""
+    source, of_sources = spawn(run_sources, {100: [100]}, 60, 8, 1)
+    of_sources.get()
+    reader, of_reader = spawn(read_directly, 11)
+    of_reader.get()
+    of_sources.get()
+    time.sleep(0.3)
+    of_sources.go.put("go")
+    sent, got = of_sources.get(), of_reader.get()
+    found, missing = latencies(sent, got, [(1, 100, [(100, 100)])])
+    tell("no gateway, source to reader at 60/s: p50, p99 ms",
+         f"{percentile(found, 0.5):.2f}, {percentile(found, 0.99):.2f} ({missing} lost)", "(no bound)", True)
+
+
 def case_latency(program):
-    for count, members, tick_ms in ((1, 1, 10), (1, 1, 100), (1, 1, 1000), (16, 16, 10), (64, 1, 10), (64, 1, 1000)):
+    for count, members, tick_ms, serve in ((1, 1, 10, 1), (1, 1, 100, 1), (1, 1, 1000, 1), (16, 16, 10, 1), (16, 16, 10, 2),
+                                           (64, 1, 10, 1), (64, 1, 1000, 1)):
         sources = {100 + at: [100 + at] for at in range(count)}
         keys = [(s, s) for s in sources]
         subscribers = []
         for at in range(count):
             listed = keys if members > 1 else [keys[at]]
             subscribers.append((at + 1, 64, [(1000 + at, 60, listed)]))
-        sent, got, _ = measure(program, sources, subscribers, 60, 8, tick_ms=tick_ms, ingest=1, serve=1)
+        sent, got, _ = measure(program, sources, subscribers, 60, 8, tick_ms=tick_ms, ingest=1, serve=serve)
         streams = [(sub, stream, listed) for sub, _, defined in subscribers for stream, _, listed in defined]
         found, missing = latencies(sent, got, streams)
-        name = f"{count} x {count} x {members} at 60/s, tick_ms {tick_ms}: p50, p99 ms"
+        name = f"{count} x {count} x {members} at 60/s, tick_ms {tick_ms}, serve {serve}: p50, p99 ms"
         p99 = percentile(found, 0.99)
         tell(name, f"{percentile(found, 0.5):.2f}, {p99:.2f} ({missing} lost)", "p99 < 1, 0 lost", p99 < 1 and missing == 0)
 
 
-def flood_source(port, kind):
-    """A source that sends without end as soon as it is called."""
+def send_all(peer, junk, rest):
+    """Sends without end; with `rest` for a second, then not for so many seconds."""
+    end = time.monotonic() + 1
+    while True:
+        peer.sendall(junk)
+        if rest and time.monotonic() > end:
+            time.sleep(rest)
+            end = time.monotonic() + 1
+
+
+def flood_source(port, kind, rest=0):
+    """A source that sends without end as soon as it is called, in the time that others leave: it would not be on this machine."""
+    os.nice(19)
     listener = listen(port)
     whole = configuration(1, [1], 60) + data(1, 1, int(time.time()), 0) * 500
     wrong = bytearray(data(1, 1, int(time.time()), 0))
@@ -281,21 +327,20 @@ def flood_source(port, kind):
     while True:
         peer, _ = listener.accept()
         try:
-            while True:
-                peer.sendall(junk)
+            send_all(peer, junk, rest)
         except OSError:
             pass
 
 
-def flood_subscriber(port):
-    """A subscriber that sends commands 2 and 1 without end."""
+def flood_subscriber(port, rest=0):
+    """A subscriber that sends commands 2 and 1 without end, in the time that others leave."""
+    os.nice(19)
     while True:
         try:
             peer = socket.create_connection(("127.0.0.1", port))
             peer.setblocking(True)
             junk = (command(2000, 2) + command(2000, 1)) * 200
-            while True:
-                peer.sendall(junk)
+            send_all(peer, junk, rest)
         except OSError:
             time.sleep(0.05)
 
@@ -412,7 +457,72 @@ def case_throughput(program):
     print(f"    {len(got):,} of {wanted:,} came, {(last - begun) / 1e6:.0f} ms")
 
 
-CASES = {"latency": case_latency, "idle": case_idle, "flood": case_flood, "reader": case_reader, "throughput": case_throughput}
+def can_connect(host, port):
+    try:
+        socket.create_connection((host, port), 1).close()
+        return True
+    except OSError:
+        return False
+
+
+def case_address(program):
+    """A port is bound on its address alone."""
+    text = setup_text(10, {100: [100]}, [(1, 64, []), (2, 64, [])])
+    text = text.replace("[[subscriber]]\nid = 2", '[[subscriber]]\naddress = "127.0.0.2"\nid = 2')
+    gateway = Gateway(program, text)
+    time.sleep(0.5)
+    got = [can_connect(host, FIRST_PORT + sub) for sub in (1, 2) for host in ("127.0.0.1", "127.0.0.2")]
+    tell("address: everywhere, and 127.0.0.2 alone", " ".join("yes" if it else "no" for it in got), "yes yes no yes",
+         got == [True, True, False, True])
+    gateway.quit()
+
+
+def case_name(program):
+    """A source whose address is a name is looked up and called."""
+    listener = listen(FIRST_SOURCE_PORT)
+    listener.settimeout(5)
+    gateway = Gateway(program, setup_text(10, {100: [100]}, [(1, 64, [])]).replace('"127.0.0.1:', '"localhost:'))
+    try:
+        peer, _ = listener.accept()
+        peer.settimeout(5)
+        is_asked = peer.recv(18)[:2] == b"\xaa\x42"
+    except OSError:
+        is_asked = False
+    tell("a source at localhost is called, and asked", "yes" if is_asked else "no", "yes", is_asked)
+    gateway.quit()
+
+
+def is_let_in(peer, stream):
+    """Whether who has connected is asked in: whether the header that it asks for comes."""
+    try:
+        peer.sendall(command(stream, 4))
+        peer.settimeout(0.5)
+        return len(peer.recv(4096)) >= 16
+    except OSError:
+        return False
+
+
+def case_descriptors(program):
+    """Where the process has no descriptor left, who waits is accepted as soon as there is one again, and a neighbour is served."""
+    subscribers = [(at + 1, 64, [(1000 + at, 60, [(100, 100)])]) for at in range(8)]
+    gateway = Gateway(program, setup_text(10, {100: [100]}, subscribers))
+    time.sleep(0.5)
+    used = len(os.listdir(f"/proc/{gateway.process.pid}/fd"))
+    resource.prlimit(gateway.process.pid, resource.RLIMIT_NOFILE, (used + 4, used + 4))
+    made = [socket.create_connection(("127.0.0.1", FIRST_PORT + sub)) for sub, _, _ in subscribers]
+    time.sleep(1.5)
+    before = [is_let_in(it, 1000 + at) for at, it in enumerate(made)]
+    for it in made[:4]:
+        it.close()
+    time.sleep(2.5)
+    after = [is_let_in(it, 1004 + at) for at, it in enumerate(made[4:])]
+    tell("8 connect, descriptors for 4: let in, and once 4 have gone", f"{sum(before)}, {sum(after)}", "4, 4", (sum(before), sum(after)) == (4, 4))
+    for it in made:
+        it.close()
+    gateway.quit()
+
+
+CASES = {"direct": case_direct, "address": case_address, "name": case_name, "descriptors": case_descriptors, "latency": case_latency, "idle": case_idle, "flood": case_flood, "reader": case_reader, "throughput": case_throughput}
 
 
 def main():

@@ -1,6 +1,6 @@
 #!/usr/bin/env python3
 """Soaks the running service: for so many minutes sources are lost and come back, subscribers reconnect in storms, read slowly and
-flood, sources flood, and an operator edits, all beside a quiet neighbour. What the neighbour got is compared byte for byte with
+flood (a second in five, so that the machine is left to others), sources flood, and an operator edits, all beside a quiet neighbour. What the neighbour got is compared byte for byte with
 what `pdcgw replay` hands out for the same frames; the gateway's memory and descriptors are read once a second.
 
     python3 bench/soak.py PROGRAM [MINUTES]     30 minutes if not told
@@ -163,7 +163,7 @@ def main():
     seconds = minutes * 60
     told = {name: multiprocessing.SimpleQueue() for name in ("steady", "broken", "edited", "quiet")}
     starts = [(play, 0, 100, seconds + 4, False, told["steady"]), (play, 1, 101, seconds + 4, True, told["broken"]),
-              (flood_source, FIRST_SOURCE_PORT + 2, "whole"), (play, 3, 103, seconds + 4, True, told["edited"])]
+              (flood_source, FIRST_SOURCE_PORT + 2, "whole", 4), (play, 3, 103, seconds + 4, True, told["edited"])]
     children = [multiprocessing.Process(target=work, args=args, daemon=True) for work, *args in starts]
     for child in children:
         child.start()
@@ -171,7 +171,7 @@ def main():
     gateway = Gateway(program, setup_text(10, SOURCES, SUBSCRIBERS))
     time.sleep(0.5)
     starts = [(quiet, seconds + 6, told["quiet"]), (storm, FIRST_PORT + 2, 2000, False), (storm, FIRST_PORT + 3, 3000, True),
-              (flood_subscriber, FIRST_PORT + 4)]
+              (flood_subscriber, FIRST_PORT + 4, 4)]
     others = [multiprocessing.Process(target=work, args=args, daemon=True) for work, *args in starts]
     for child in others:
         child.start()
@@ -185,22 +185,27 @@ def main():
         readings.append(used(gateway.process))
     sent, got = told["steady"].get(), told["quiet"].get()
     operator.join(2)
+    counts = gateway.ask("stats 1")
     status = gateway.quit()
     for child in children + others:
         child.kill()
-    judge(program, sent, got, readings, status)
+    judge(program, sent, got, readings, status, counts)
 
 
-def judge(program, sent, got, readings, status):
+def judge(program, sent, got, readings, status, counts):
     wanted = replayed(program, sent)
     # The stream was started a moment after the source's first frames.
     first = wanted.index(got[0]) if got and got[0] in wanted else 0
     wanted = wanted[first:]
-    same = sum(a == b for a, b in zip(wanted, got))
+    # SOC and FRACSEC tell which frame of the replay it is.
+    by_stamp = {it[6:14]: it for it in wanted}
+    same = sum(by_stamp.get(it[6:14]) == it for it in got)
     part = max(1, len(readings) // 10)
     early, late = readings[part:2 * part] or readings, readings[-part:]
     grown = [max(it[at] for it in late) - max(it[at] for it in early) for at in (0, 1)]
-    print(f"neighbour: {len(sent):,} sent, {len(got):,} came, {same:,} equal those of a replay, of {len(wanted):,}")
+    print(f"neighbour: {len(sent):,} sent, {len(got):,} came, of {len(wanted):,}; {same:,} equal those of a replay, "
+          f"{len(got) - same:,} differ, {len(wanted) - len(got):,} are missing")
+    print(f"the gateway's own counts of the neighbour: {counts}")
     print(f"memory: {max(it[0] for it in readings):,} KiB at most, {grown[0]:+,} from the second tenth to the last")
     print(f"descriptors: {max(it[1] for it in readings)} at most, {grown[1]:+} from the second tenth to the last")
     print(f"status at quit: {status}")

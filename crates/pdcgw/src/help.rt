@@ -6,8 +6,8 @@ Exit status:
   0  done
   1  a fault, told on standard error as `pdcgw: N NAME`: 1 NoMemory; 39 ReadFault, standard input or a setup file can't be
      read, or a port can't be bound; 40 WriteFault, standard output can't be written; 37 BadSetup, and any other by which
-     an edit of a setup is refused
-  2  other words than those above, or help; this text goes to standard error
+     an edit of a setup is refused. What is wrong with a setup is told before it, a line for each fault
+  2  other words than those above
 
 `pdcgw replay --help` tells the lines of a script and the answers to them, `pdcgw run --help` the keys of a setup file.";
 
@@ -80,6 +80,7 @@ pub const RUN: &str = "\
 The edits of the setup are done, the ports of the subscribers are bound, and then sources are called and subscribers are
 served, in C37.118.2 over TCP. Lines of an operator, as in `pdcgw replay --help`, are read from standard input, and the answers
 to them are written to standard output. The line `quit` ends the program with status 0; it goes on where standard input ends.
+What sources and subscribers do is logged on standard error, a line an event: TIME LEVEL WHAT.
 A PMU or subscriber that a line adds has no socket until the next start.
 
 A setup file is TOML:
@@ -115,6 +116,14 @@ A setup file is TOML:
 
 A subscriber sends commands for its streams: 1 stop, 2 start, 3 send the header, 4 CFG-1, 5 CFG-2.";
 
+/// Of `check`.
+pub const CHECK: &str = "\
+Reads a setup file and tries its edits on a gateway of its own; nothing is bound or called. It prints a line for each source, subscriber
+and stream that would run. Each fault of the file is told on standard error as FILE:LINE: KEY: what is wrong; what has to be there.
+An edit that is refused is told with the PMU, the subscriber or the stream that it concerns, and why.
+
+`pdcgw run --help` has the keys of a setup file. Exit status: 0 where it would run, else 1.";
+
 /// Of `simulate`.
 pub const SIMULATE: &str = "\
 Listens, and plays a source to whoever connects, one connection after another: it obeys the commands 1 to 5 of C37.118.2 and
@@ -141,3 +150,18 @@ Slots of which no frame came are counted as missing; fillers are blocks of a gat
 
 Exit status: 0 where nothing was wrong; 1 where something was, or the address can't be reached, or output can't be written;
 2 for other words than these.";
+
+/// Of `demo`.
+pub const DEMO: &str = "\
+Two simulated sources, 7 and 8 with a PMU each, the gateway, and two subscribers, on free ports of 127.0.0.1. Subscriber 1 has
+stream 101 of both PMUs, which is shown as `watch` shows it; subscriber 2 has stream 102 of PMU 8 alone. Each data frame that
+comes is compared, byte for byte, with what the sources sent.
+
+Lines of an operator, as in `pdcgw replay --help`, are read from standard input where it is a terminal or a pipe: `revoke 1 8`
+takes PMU 8 from subscriber 1, `grant 1 8` gives it back, `droppmu 7` drops PMU 7. From the first line that changes what comes
+on, frames are not compared any more. Ctrl-C, or the line `q`, ends it.
+
+With `--seconds` no lines are read. Data frames are sent for so many seconds, and the last ones waited for; then it ends.
+
+Exit status: 0 where it was ended by hand, or where every frame came as it was sent; 1 where one did not, came changed or twice,
+or a port could not be bound; 2 for other words than these.";

@@ -2,10 +2,12 @@
 #![tactic(auto)]
 
 mod help;
+mod setup;
 mod tools;
 
 use clap::error::ErrorKind;
 use clap::{Arg, ArgMatches, Command};
+use pg_check::Trouble;
 use pg_replay::{Fault, replay};
 use pg_tools::Misword;
 use pg_wire::Refusal;
@@ -18,36 +20,57 @@ use std::sync::Wait;
 use std::thread::Threads;
 use std::{env, io};
 
+/// The program's version.
+const VERSION: &str = "0.1.0";
+
+/// The option that names a setup file.
+fn setup_word<'a>(alloc: Global) -> Arg<'a> {
+    Arg::new(alloc, "setup")
+        .long("setup")
+        .value_name("FILE")
+        .help("The setup file")
+        .required(true)
+}
+
 /// The program's own words.
 fn program<'a>(alloc: Global) -> Result<Command<'a>, AllocError> {
     let replay = Command::new(alloc, "replay")
         .about("Answers the lines of a script")
         .after_help(help::REPLAY);
-    let setup = Arg::new(alloc, "setup")
-        .long("setup")
-        .value_name("FILE")
-        .help("The setup file")
-        .required(true);
     let run = Command::new(alloc, "run")
         .about("Serves sources and subscribers over TCP")
         .after_help(help::RUN)
-        .arg(setup)?;
+        .arg(setup_word(alloc))?;
+    let check = Command::new(alloc, "check")
+        .about("Tells what is wrong with a setup, or what would run by it")
+        .after_help(help::CHECK)
+        .arg(setup_word(alloc))?;
     let simulate = tools::simulate_words(alloc)?;
     let watch = tools::watch_words(alloc)?;
+    let demo = tools::demo_words(alloc)?;
     Command::new(alloc, "pdcgw")
         .about("A phasor data concentrator gateway for many subscribers")
+        .version(VERSION)
         .after_help(help::PROGRAM)
         .subcommand_required(true)
         .subcommand(replay)?
         .subcommand(run)?
+        .subcommand(check)?
         .subcommand(simulate)?
-        .subcommand(watch)
+        .subcommand(watch)?
+        .subcommand(demo)
 }
 
 /// What the program comes to.
 enum Outcome {
     Done,
     Failed(Refusal),
+    /// A setup was checked: what would run.
+    Checked(String),
+    /// By this setup nothing runs, for what is told of it.
+    Unfit(Trouble),
+    /// `clap` was asked for help or for the version.
+    Asked(clap::Error),
     /// `clap` refuses the words, and says why.
     Misused(clap::Error),
     /// The value of an option is none that it takes.
@@ -56,6 +79,8 @@ enum Outcome {
     Troubled,
     /// A tool has ended by this.
     Fallen(pg_tools::Fault),
+    /// A demo has ended by this.
+    Broken(pg_demo::Fault),
     /// The arguments can't be had as text, or name no work.
     Unread,
 }
@@ -80,19 +105,26 @@ where
     match work {
         "simulate" => return tools::simulate(rt, words),
         "watch" => return tools::watch(rt, words, is_terminal),
+        "demo" => return tools::demo(rt, words, is_terminal),
         _ => {}
     }
-    let done = match (work, words.get_str("setup")) {
-        ("run", Some(file)) => pg_run::run(rt, file),
-        ("replay", _) => match replay_input(rt) {
-            Ok(()) => Ok(()),
-            Err(fault) => Err(fault.refusal()),
+    match (work, words.get_str("setup")) {
+        ("run", Some(file)) => match pg_run::run(rt, file) {
+            Ok(()) => Outcome::Done,
+            Err(refusal) => Outcome::Unfit(Trouble {
+                refusal,
+                told: setup::told_of(rt, file),
+            }),
         },
-        _ => return Outcome::Unread,
-    };
-    match done {
-        Ok(()) => Outcome::Done,
-        Err(refusal) => Outcome::Failed(refusal),
+        ("check", Some(file)) => match setup::check(rt, file) {
+            Ok(report) => Outcome::Checked(report),
+            Err(trouble) => Outcome::Unfit(trouble),
+        },
+        ("replay", _) => match replay_input(rt) {
+            Ok(()) => Outcome::Done,
+            Err(fault) => Outcome::Failed(fault.refusal()),
+        },
+        _ => Outcome::Unread,
     }
 }
 
@@ -139,8 +171,17 @@ where
         Ok(matches) => do_words(rt, &matches, is_terminal),
         Err(error) => match error.kind() {
             ErrorKind::OutOfMemory => Outcome::Failed(Refusal::NoMemory),
+            ErrorKind::DisplayHelp | ErrorKind::DisplayVersion => Outcome::Asked(error),
             _ => Outcome::Misused(error),
         },
+    }
+}
+
+/// The status where something was printed, or could not be.
+fn told(printed: io::Result<()>) -> ExitCode {
+    match printed {
+        Ok(()) => ExitCode::SUCCESS,
+        Err(_) => ExitCode::from(1),
     }
 }
 
@@ -148,8 +189,19 @@ fn main(rt: HostRuntime) -> ExitCode {
     let is_terminal = rt.stdout().is_terminal();
     match outcome_of(&rt, is_terminal) {
         Outcome::Done => ExitCode::SUCCESS,
+        Outcome::Checked(report) => told(print!(rt; "{}", report.as_str())),
+        Outcome::Asked(text) => told(print!(rt; "{text}")),
         Outcome::Failed(refusal) => {
             let _ = eprintln!(rt; "pdcgw: {} {}", refusal.number(), refusal.name());
+            ExitCode::from(1)
+        }
+        Outcome::Unfit(trouble) => {
+            let _ = eprint!(rt; "{}", trouble.told.as_str());
+            let _ = eprintln!(rt;
+                "pdcgw: {} {}",
+                trouble.refusal.number(),
+                trouble.refusal.name()
+            );
             ExitCode::from(1)
         }
         Outcome::Misused(error) => {
@@ -162,6 +214,10 @@ fn main(rt: HostRuntime) -> ExitCode {
         }
         Outcome::Troubled => ExitCode::from(1),
         Outcome::Fallen(fault) => {
+            let _ = eprintln!(rt; "pdcgw: {fault}");
+            ExitCode::from(1)
+        }
+        Outcome::Broken(fault) => {
             let _ = eprintln!(rt; "pdcgw: {fault}");
             ExitCode::from(1)
         }

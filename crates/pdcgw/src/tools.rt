@@ -1,11 +1,16 @@
-//! The words of the tools: `simulate` and `watch`.
+//! The words of the tools: `simulate`, `watch` and `demo`.
 
 use crate::{Outcome, help};
 use clap::{Arg, ArgAction, ArgMatches, Command};
-use pg_tools::{SimulateWords, WatchWords, read_settings, read_watched};
+use pg_demo::Asked;
+use pg_demo_core::Verdict;
+use pg_tools::{Misword, SimulateWords, Style, WatchWords, number, read_settings, read_watched};
 use std::alloc::{AllocError, Global};
-use std::net::Net;
+use std::io::StdinLock;
+use std::net::{Net, TcpListener, TcpStream};
 use std::rt::{Clock, Files};
+use std::sync::Wait;
+use std::thread::Threads;
 
 /// An option with a value, and the value that it has where it is absent.
 fn option<'a>(
@@ -163,5 +168,74 @@ where
             Err(fault) => Outcome::Fallen(fault),
         },
         Err(misword) => Outcome::Misworded(misword),
+    }
+}
+
+/// The words of `demo`.
+pub fn demo_words<'a>(alloc: Global) -> Result<Command<'a>, AllocError> {
+    let plain = Arg::new(alloc, "plain")
+        .long("plain")
+        .action(ArgAction::SetTrue)
+        .help("Writes a line a second, where standard output is a terminal too");
+    let seconds = Arg::new(alloc, "seconds")
+        .long("seconds")
+        .value_name("N")
+        .help("Ends after so many seconds, with status 0 only where every frame came");
+    Command::new(alloc, "demo")
+        .about("Shows the gateway at work: two sources, two subscribers, in one process")
+        .after_help(help::DEMO)
+        .arg(plain)?
+        .arg(seconds)
+}
+
+/// Does the work of `demo`.
+pub fn demo<R>(rt: &R, words: &ArgMatches<'_>, is_terminal: bool) -> Outcome
+where
+    R: Files
+        + Input<Reader = StdinLock<'static>>
+        + Print
+        + Eprint
+        + Clock
+        + Net<Listener = TcpListener, Stream = TcpStream>
+        + Threads
+        + Wait
+        + Sync
+        + Alloc<A = Global>,
+{
+    let seconds = match words.get_str("seconds") {
+        None => None,
+        Some(word) => match number(word, 1, 86_400) {
+            Some(seconds) => Some(seconds),
+            None => {
+                return Outcome::Misworded(Misword {
+                    option: "--seconds",
+                    takes: "a number of 1 to 86400",
+                });
+            }
+        },
+    };
+    let style = if words.get_flag("plain") || !is_terminal {
+        Style::Plain
+    } else {
+        Style::Screen
+    };
+    match pg_demo::demo(rt, Asked { style, seconds }) {
+        Ok(verdict) => told(rt, verdict),
+        Err(fault) => Outcome::Broken(fault),
+    }
+}
+
+/// Tells what a demo came to: on standard output where it is good, else on standard error.
+fn told<R: Print + Eprint>(rt: &R, verdict: Verdict) -> Outcome {
+    if !verdict.is_good() {
+        let _ = eprintln!(rt; "pdcgw: {verdict}");
+        return Outcome::Troubled;
+    }
+    if let Verdict::Ended = verdict {
+        return Outcome::Done;
+    }
+    match println!(rt; "{verdict}") {
+        Ok(()) => Outcome::Done,
+        Err(_) => Outcome::Fallen(pg_tools::Fault::Output),
     }
 }

@@ -26,3 +26,5 @@ pub mod PlainLaws
 pub mod ReachLaws
 pub mod FrugalLaws
 pub mod AlikeLaws
+pub mod RouteLaws
+pub mod RouteKept

@@ -18,3 +18,4 @@ pub mod Alike
 pub mod Consistent
 pub mod Placing
 pub mod Taking
+pub mod Routes

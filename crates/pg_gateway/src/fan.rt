@@ -103,7 +103,7 @@ fn lay_all(
 }
 
 /// Each subscriber gives up the copies that lie ready.
-fn forget_all(subs: &mut IndexMap<SubId, Seat>)
+pub(crate) fn forget_all(subs: &mut IndexMap<SubId, Seat>)
     ensures none { AllSeats HasNone subs.new.entries }
     ensures shows { (seats : Seats) → Related SeatShows subs.old.entries seats → Related SeatShows subs.new.entries seats }
     ensures len { index_map_len subs.new ≡ index_map_len subs.old }

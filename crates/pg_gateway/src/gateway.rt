@@ -1,6 +1,6 @@
 //! The gateway, as its callers know it.
 
-ghost use Rattle.std.specs.Prelude.{◌≡◌, nat_eq, nat_le, length, is_some, option_map, false, IfOk, IfErr};
+ghost use Rattle.std.specs.Prelude.{◌≡◌, nat_eq, nat_le, length, is_some, option_map, true, false, IfOk, IfErr};
 ghost use Rattle.std.specs.Map.{lookup};
 ghost use Rattle.std.specs.Option.{option_map_or};
 ghost use Rattle.pg_registry.specs.Registered.{has_source};
@@ -11,9 +11,11 @@ ghost use Rattle.pg_gateway.specs.Alike.{LeavesAlike, TakesOwnBlocks};
 ghost use Rattle.pg_gateway.specs.Frugal.{Frugal};
 ghost use Rattle.pg_gateway.specs.Posting.{Answers};
 ghost use Rattle.pg_gateway.specs.Consistent.{IsPosted};
+ghost use Rattle.pg_gateway.specs.Routes.{KeepsRoutes};
 
 use crate::event::{Event, Reply};
 use crate::kernel::Kernel;
+use crate::routes::Routes;
 use crate::seat::announced;
 use pg_ring::OutQueue;
 use pg_wire::{PmuId, Refusal, SubId};
@@ -24,17 +26,19 @@ use std::marker::Model;
 #[derive(Drop)]
 pub struct Gateway {
     kernel: Kernel,
+    routes: Routes,
 }
 
 impl Model for Gateway {
     ghost use Rattle.pg_gateway.specs.Shown.{GatewayValue};
     ghost use Rattle.pg_gateway.specs.Consistent.{IsReached};
+    ghost use Rattle.pg_gateway.specs.Routes.{IsRouted};
 
     ghost Value = { GatewayValue };
 
     ghost view = { λ g. g.kernel };
 
-    ghost invariant = { λ g. IsReached g.kernel };
+    ghost invariant = { λ g. IsReached g.kernel × IsRouted g.kernel g.routes };
 }
 
 /// What an event says was read, where a source announced it.
@@ -46,6 +50,21 @@ fn posted(event: &Event)
     }
 }
 
+/// Whether an event changes no grant, no subscriber's place and no PMU's place.
+fn keeps_routes(event: &Event) -> bool
+    ensures { result ≡ true → KeepsRoutes (occurrence event.now) }
+{
+    match event {
+        Event::AddPmu(_) => false,
+        Event::DropPmu(_) => false,
+        Event::AddSub(_, _, _) => false,
+        Event::DropSub(_) => false,
+        Event::Grant(_, _) => false,
+        Event::Revoke(_, _) => false,
+        _ => true,
+    }
+}
+
 impl Gateway {
     /// No PMUs and no subscribers, with room reserved for 256 and 64. The one refusal is `NoMemory`.
     pub fn new(alloc: Global) -> Result<Gateway, Refusal>
@@ -54,6 +73,7 @@ impl Gateway {
     {
         Ok(Gateway {
             kernel: Kernel::new(alloc)?,
+            routes: Routes::new(alloc)?,
         })
     }
 
@@ -69,8 +89,10 @@ impl Gateway {
         ensures limits { IsWithinLimits self.new }
     {
         posted(&event);
-        let reply = self.kernel.step(event);
+        let kept = keeps_routes(&event);
+        let reply = self.kernel.step(event, &mut self.routes);
         self.kernel.tell_limits();
+        self.routes.keep(kept);
         reply
     }
 

@@ -19,6 +19,7 @@ ghost use Rattle.pg_gateway.specs.Taking.{MayCopy};
 ghost use Rattle.pg_gateway.specs.Consistent.{IsReached};
 ghost use Rattle.pg_gateway.specs.Posting.{Answers};
 ghost use Rattle.pg_gateway.specs.Taking.{IsForAll};
+ghost use Rattle.pg_gateway.specs.Routes.{IsRouted};
 ghost use Rattle.pg_session.specs.Ready.{AreRising};
 ghost use Rattle.std.specs.Arc.{arc_value};
 ghost use Rattle.std.specs.Prelude.{List};
@@ -27,7 +28,9 @@ use crate::announcing::{announce_all, copy_announced, count_first};
 use crate::asking::{ask_at, drain_at, grant_at, insert_new, note_at, reply_of};
 use crate::blocks::{count_blocks, count_memory, first_refusal, has_registered, judge_shared};
 use crate::event::{Event, Reply};
-use crate::fan::{fan_out, lay_copies};
+use crate::fan::fan_out;
+use crate::marked::{fan_out_marked, lay_copies_marked};
+use crate::routes::Routes;
 use crate::seat::{Seat, announced};
 use circular_buffer::HeapCircularBuffer;
 use indexmap::IndexMap;
@@ -99,9 +102,11 @@ impl Kernel {
         })
     }
 
-    /// One event.
-    pub(crate) fn step(&mut self, event: Event) -> Reply
+    /// One event. The routes are found anew where a data frame needs them and they are not fresh.
+    pub(crate) fn step(&mut self, event: Event, routes: &mut Routes) -> Reply
         requires reached { IsReached self.old }
+        requires routed { IsRouted self.old routes.old }
+        ensures routed { IsRouted self.old routes.new }
         ensures goes { Goes self.old (occurrence event) (told result) self.new }
         ensures copies { MayCopy (occurrence event) → Frugal self.old (occurrence event) (told result) }
         ensures answers { Answers event result }
@@ -125,14 +130,16 @@ impl Kernel {
             Event::Stats(sub) => self.stats(sub),
             Event::PmuStats(key) => self.pmu_stats(key),
             Event::Audit(sub, index) => self.audit(sub, index),
-            for_all => self.step_all(&for_all),
+            for_all => self.step_all(&for_all, routes),
         }
     }
 
     /// An event for all: a PMU is dropped, an announcement, a measurement, a tick. There is no reply to another.
-    fn step_all(&mut self, event: &Event) -> Reply
+    fn step_all(&mut self, event: &Event, routes: &mut Routes) -> Reply
         requires all { IsForAll event.now }
         requires reached { IsReached self.old }
+        requires routed { IsRouted self.old routes.old }
+        ensures routed { IsRouted self.old routes.new }
         ensures goes { Goes self.old (occurrence event.now) (told result) self.new }
         ensures copies { MayCopy (occurrence event.now) → Frugal self.old (occurrence event.now) (told result) }
         ensures answers { Answers event.now result }
@@ -143,7 +150,7 @@ impl Kernel {
                 let config = announced(config);
                 self.announce(event, config)
             }
-            Event::Measure(frame) => self.measure(event, frame),
+            Event::Measure(frame) => self.measure(event, frame, routes),
             Event::Tick(soc) => self.tick(event, *soc),
             _ => unreachable!(),
         }
@@ -335,12 +342,15 @@ impl Kernel {
         Reply::Done { made, kept }
     }
 
-    /// A source sent a data frame. All copies are made before anything changes.
-    fn measure(&mut self, event: &Event, frame: &Arc<DataFrame>) -> Reply
+    /// A source sent a data frame. All copies are made before anything changes. Subscribers that hold no PMU of a block that was
+    /// taken are not visited.
+    fn measure(&mut self, event: &Event, frame: &Arc<DataFrame>, routes: &mut Routes) -> Reply
         requires event { (places : List ℕ) → offered event.now places ≡ measured (arc_value frame.now) places }
         requires rising { (places : List ℕ) → AreRising 0 (length (arc_value frame.now).config.parts) places
             → IsRising event.now places }
         requires reached { IsReached self.old }
+        requires routed { IsRouted self.old routes.old }
+        ensures routed { IsRouted self.old routes.new }
         ensures goes { Goes self.old (measure (arc_value frame.now)) (told result) self.new }
         ensures frugal { Frugal self.old (measure (arc_value frame.now)) (told result) }
         ensures plain { IsPlain result }
@@ -356,7 +366,9 @@ impl Kernel {
             count_blocks(&mut self.registry, &self.judged);
             return Reply::Refused(first_refusal(&self.judged));
         }
-        match lay_copies(&mut self.subs, event, &self.taken, &mut self.held) {
+        routes.refresh(&self.registry, &self.subs);
+        let marks = routes.union_of(&self.judged);
+        match lay_copies_marked(&mut self.subs, marks, event, &self.taken, &mut self.held) {
             Err(refusal) => {
                 count_memory(&mut self.registry, &self.judged);
                 return Reply::Refused(refusal);
@@ -364,7 +376,13 @@ impl Kernel {
             Ok(_) => {}
         }
         count_blocks(&mut self.registry, &self.judged);
-        let (made, kept) = fan_out(&mut self.subs, event, &self.taken, &mut self.held);
+        let (made, kept) = fan_out_marked(
+            &mut self.subs,
+            marks,
+            event,
+            &self.taken,
+            &mut self.held,
+        );
         Reply::Done { made, kept }
     }
 

@@ -13,6 +13,8 @@ mod gateway;
 mod kernel;
 mod laws;
 mod machine;
+mod marked;
+mod routes;
 mod seat;
 
 pub use edit::Edit;

@@ -8,7 +8,7 @@ use std::marker::Model;
 use std::net::Ipv4Addr;
 
 /// Hosts whose addresses begin alike: the first `bits` bits of an address, 0 to 32 (own rule).
-#[derive(Clone, Copy, Debug)]
+#[derive(Clone, Copy, Debug, PartialEq, Eq)]
 pub struct Network {
     address: u32,
     bits: u8,

@@ -4,7 +4,10 @@
 mod address;
 mod define;
 mod door;
+mod faults;
+mod kind;
 mod line;
+mod place;
 mod pmu;
 mod setup;
 mod source;
@@ -14,6 +17,8 @@ mod verb;
 pub mod words;
 
 pub use door::PortRules;
+pub use faults::{Fault, Wrong, setup_faults};
+pub use kind::{Found, Heading, Kind, Misfit};
 pub use line::{parse_line, words_of};
 pub use setup::{Setup, read_setup};
 pub use source::SourceRules;

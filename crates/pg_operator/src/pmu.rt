@@ -53,7 +53,7 @@ fn pmus_in(alloc: Global, value: &Value) -> Result<Vec<PmuTable<'_>>, Refusal>
 }
 
 /// A PMU's table.
-fn pmu_in(value: &Value) -> Option<PmuTable<'_>>
+pub(crate) fn pmu_in(value: &Value) -> Option<PmuTable<'_>>
     ensures { option_map told result ≡ pmu_in (view value.now) }
 {
     pmu_by(value.as_table()?)

@@ -33,8 +33,10 @@ pub fn run_anew(alloc: Global, inputs: &[Input]) -> Result<Ran, Refusal>
     ensures memory { IfErr result (λ refusal. refusal ≡ Refusal.NoMemory) }
 {
     let mut world = World::new(alloc)?;
-    let outputs = world.run(inputs)?;
-    Ok(Ran { world, outputs })
+    match world.run(inputs) {
+        Ok(outputs) => Ok(Ran { world, outputs }),
+        Err(refusal) => Err(refusal),
+    }
 }
 
 /// Two worlds after their runs.

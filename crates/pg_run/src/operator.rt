@@ -88,6 +88,11 @@ impl<'a, W: Write> Console<'a, W> {
         }
     }
 
+    /// Where its answers are written.
+    pub fn out_mut(&mut self) -> &mut W {
+        &mut self.out
+    }
+
     /// Answers a line, and tells whether it is `quit`: an edit is posted, and its reply printed.
     fn answer<R: Wait, G: Gate>(
         &mut self,

@@ -1,19 +1,22 @@
 //! `pdcgw run`: the gateway, served over sockets.
 
-ghost use Rattle.std.specs.Prelude.{◌≡◌, IfOk};
+ghost use Rattle.std.specs.Prelude.{◌≡◌, IfOk, map, option_map};
+ghost use Rattle.std.specs.Duration.{as_nanos};
+ghost use Rattle.pg_run.specs.Limits.{limit_of};
 
 use crate::operator::{Console, Operator, Told};
 use crate::workers::{
     Worker, join_all, mailboxes, port_workers, share_ports, share_sources, source_workers, told_as,
 };
+use log::LevelFilter;
 use mio::net::TcpListener as PortListener;
-use pg_gateway::{Edit, Gateway, Reply};
+use pg_gateway::Gateway;
 use pg_limits::ClockGuard;
 use pg_operator::{PortRules, Setup, SourceRules, read_setup};
-use pg_serve::{Named, Seat, Shared, SharedGate, event_of, run_workers};
+use pg_serve::{Named, Seat, SeatGate, Shared, SharedGate, run_workers};
 use pg_service::{
-    Address, Change, Dial, DoorRules, Finder, Journal, Lookup, Mailbox, Neighbours, Port,
-    PortOrder, Registered, SourceOrder, Ticker, Waiting,
+    Address, Detail, Dial, DoorRules, Entry, Finder, Journal, Logger, Lookup, Mailbox, Neighbours,
+    Notice, Port, PortOrder, Registered, SourceOrder, Ticker, Waiting, Whom, post_edits,
 };
 use pg_wire::{PmuId, Refusal, SubId};
 use std::alloc::Global;
@@ -51,6 +54,7 @@ where
     R: Files
         + Input<Reader = StdinLock<'static>>
         + Print
+        + Eprint
         + Clock
         + Net<Listener = TcpListener, Stream = TcpStream>
         + Threads
@@ -71,13 +75,16 @@ where
     } = setup_in(rt, file)?;
     let (shared, seat) = Shared::new(alloc, Gateway::new(alloc)?)?;
     let mut registered = Registered::new(alloc)?;
-    let seat = post_edits(rt, &shared, seat, edits, &mut registered)?;
+    let mut gate = SeatGate::new(rt, &shared, seat);
+    post_edits(&mut gate, edits, &mut registered)?;
+    let gateway = gate.gateway();
+    let seat = gate.into_seat();
     let now = match Instant::now(rt) {
         Ok(now) => now,
         Err(error) => return Err(told_as(error)),
     };
     let plan = Plan {
-        ports: ports_of(rt, alloc, &ports, doors)?,
+        ports: ports_of(rt, alloc, port_plans(alloc, &ports, doors)?)?,
         dials: dials_of(alloc, &links, &sources)?,
         registered,
         tick: Duration::from_millis(u64::from(tick_ms)),
@@ -88,7 +95,7 @@ where
     let Ok(out) = BufWriter::new(alloc, io::writer(rt)) else {
         return Err(Refusal::NoMemory);
     };
-    serve_all::<R, Brand>(rt, alloc, &shared, seat, plan, out)
+    serve_all::<R, Brand>(rt, alloc, gateway, seat, plan, out)
 }
 
 /// The setup that a file has.
@@ -103,59 +110,100 @@ fn setup_in<R: Files + Alloc<A = Global>>(rt: &R, file: &str) -> Result<Setup, R
     }
 }
 
-/// Posts the edits in their order, until one is refused.
-fn post_edits<R: Wait>(
-    rt: &R,
-    shared: &Shared,
-    seat: Seat,
-    edits: Vec<Edit>,
-    registered: &mut Registered,
-) -> Result<Seat, Refusal>
-    requires { seat.table ≡ shared.now }
-    ensures { IfOk result (λ last. last.table ≡ shared.now) }
-{
-    let mut seat = seat;
-    'edits: for edit in edits {
-        let change = Change::of(&edit);
-        let (next, reply) = shared.post(rt, seat, event_of(edit));
-        seat = next;
-        if let Reply::Refused(refusal) = reply {
-            return Err(refusal);
-        }
-        // No worker is there to be told anything yet.
-        registered.note(change, &reply)?;
-    }
-    Ok(seat)
-}
-
 /// A limit of so many seconds; 0 is none.
-fn limit_of(seconds: u16) -> Option<Duration> {
+fn limit_of(seconds: u16) -> Option<Duration>
+    ensures { option_map as_nanos result ≡ limit_of seconds }
+{
     match seconds {
         0 => None,
         some => Some(Duration::from_secs(u64::from(some))),
     }
 }
 
-/// Listens on the subscribers' ports, in their order, each with the rules of its subscriber.
-fn ports_of<R: Net>(
-    rt: &R,
+/// A port that is to be listened on: whose it is, its number, and its rules.
+#[derive(Drop)]
+struct PortPlan {
+    sub: SubId,
+    port: u16,
+    rules: PortRules,
+}
+
+/// The ports that are to be listened on, in their order, each with the rules of its own subscriber.
+///
+/// # Errors
+///
+/// `NoMemory`; `BadSetup` where a port has no rules or those of another subscriber, which no setup that was read has.
+fn port_plans(
     alloc: Global,
     ports: &[(SubId, u16)],
     doors: Vec<PortRules>,
-) -> Result<Vec<Port>, Refusal> {
-    let mut bound = Vec::new(alloc);
-    for (door, (_, port)) in doors.into_iter().zip(ports) {
-        let address = SocketAddr::from((door.address, *port));
-        let rules = DoorRules {
-            allow: door.allow,
-            takeover: door.takeover,
-            stall: limit_of(door.stall),
-            idle: limit_of(door.idle),
+) -> Result<Vec<PortPlan>, Refusal>
+    ensures subs { IfOk result (λ plans. map (λ p. p.sub) plans.items ≡ map (λ x. x.0) ports.now) }
+    ensures ports { IfOk result (λ plans. map (λ p. p.port) plans.items ≡ map (λ x. x.1) ports.now) }
+    ensures rules { IfOk result (λ plans. map (λ p. p.rules.sub) plans.items ≡ map (λ x. x.0) ports.now) }
+{
+    let mut plans = Vec::new(alloc);
+    let mut rest = doors.into_iter();
+    'ports: for port in ports {
+        let Some(rules) = rest.next() else {
+            return Err(Refusal::BadSetup);
         };
-        match PortListener::bind(rt, address) {
-            Ok(listener) => bound.push(Port::new(door.sub, rules, listener))?,
-            Err(error) => return Err(told_as(error)),
-        }
+        plans.push(port_plan(*port, rules)?)?;
+    }
+    Ok(plans)
+}
+
+/// The plan of this subscriber's port, by these rules.
+fn port_plan(port: (SubId, u16), rules: PortRules) -> Result<PortPlan, Refusal>
+    ensures sub { IfOk result (λ p. p.sub ≡ port.0) }
+    ensures port { IfOk result (λ p. p.port ≡ port.1) }
+    ensures own { IfOk result (λ p. p.rules.sub ≡ port.0) }
+    ensures rules { IfOk result (λ p. p.rules ≡ rules) }
+{
+    if rules.sub != port.0 {
+        return Err(Refusal::BadSetup);
+    }
+    Ok(PortPlan {
+        sub: port.0,
+        port: port.1,
+        rules,
+    })
+}
+
+/// How a port is served by the rules of the setup.
+fn door_rules(rules: PortRules) -> DoorRules
+    ensures allow { result.allow ≡ rules.allow }
+    ensures takeover { result.takeover ≡ rules.takeover }
+    ensures stall { option_map as_nanos result.stall ≡ limit_of rules.stall }
+    ensures idle { option_map as_nanos result.idle ≡ limit_of rules.idle }
+{
+    DoorRules {
+        allow: rules.allow,
+        takeover: rules.takeover,
+        stall: limit_of(rules.stall),
+        idle: limit_of(rules.idle),
+    }
+}
+
+/// Listens on a port.
+fn port_of<R: Net>(rt: &R, plan: PortPlan) -> Result<Port, Refusal>
+    ensures { IfOk result (λ port. port.sub ≡ plan.sub) }
+{
+    let PortPlan { sub, port, rules } = plan;
+    let address = SocketAddr::from((rules.address, port));
+    match PortListener::bind(rt, address) {
+        Ok(listener) => Ok(Port::new(sub, door_rules(rules), listener)),
+        Err(error) => Err(told_as(error)),
+    }
+}
+
+/// Listens on the subscribers' ports, in their order.
+fn ports_of<R: Net>(rt: &R, alloc: Global, plans: Vec<PortPlan>) -> Result<Vec<Port>, Refusal>
+    ensures { IfOk result (λ bound. map (λ p. p.sub) bound.items ≡ map (λ p. p.sub) plans.items) }
+{
+    let mut bound = Vec::new(alloc);
+    'plans: for plan in plans {
+        bound.push(port_of(rt, plan)?)?;
     }
     Ok(bound)
 }
@@ -179,22 +227,32 @@ fn dials_of(
     alloc: Global,
     links: &[(PmuId, String)],
     sources: &[SourceRules],
-) -> Result<Vec<Dial>, Refusal> {
+) -> Result<Vec<Dial>, Refusal>
+    ensures { IfOk result (λ dials. map (λ d. d.source) dials.items ≡ map (λ l. l.0) links.now) }
+{
     let mut dials = Vec::new(alloc);
-    for (source, address) in links {
-        let address = match address.as_str().parse::<SocketAddrV4>() {
-            Ok(address) => Address::Known(SocketAddr::V4(address)),
-            Err(_) => Address::Name(String::from_str(alloc, address.as_str())?),
-        };
-        let (silence, guard) = rules_of(sources, *source);
-        dials.push(Dial {
-            source: *source,
-            address,
-            silence,
-            guard,
-        })?;
+    'links: for link in links {
+        dials.push(dial_of(alloc, link, sources)?)?;
     }
     Ok(dials)
+}
+
+/// A source that is called, at its address and by its rules.
+fn dial_of(alloc: Global, link: &(PmuId, String), sources: &[SourceRules]) -> Result<Dial, Refusal>
+    ensures { IfOk result (λ d. d.source ≡ link.now.0) }
+{
+    let (source, address) = link;
+    let address = match address.as_str().parse::<SocketAddrV4>() {
+        Ok(address) => Address::Known(SocketAddr::V4(address)),
+        Err(_) => Address::Name(String::from_str(alloc, address.as_str())?),
+    };
+    let (silence, guard) = rules_of(sources, *source);
+    Ok(Dial {
+        source: *source,
+        address,
+        silence,
+        guard,
+    })
 }
 
 /// What workers wait with and are told by.
@@ -218,6 +276,7 @@ struct Waits {
 fn serve_all<
     R: Input<Reader = StdinLock<'static>>
         + Print
+        + Eprint
         + Clock
         + Net<Listener = TcpListener, Stream = TcpStream>
         + Threads
@@ -263,6 +322,7 @@ fn make_workers<
     'a,
     R: Input<Reader = StdinLock<'static>>
         + Print
+        + Eprint
         + Clock
         + Net<Listener = TcpListener, Stream = TcpStream>
         + Wait,
@@ -314,6 +374,7 @@ fn make_workers<
         neighbours,
         plan.now,
     )?;
+    tell_ports(rt, &boxes.journal, &plan.ports);
     share_ports(&mut servers, plan.ports)?;
     for worker in servers {
         workers.push(Worker::Subscribers(worker))?;
@@ -325,6 +386,10 @@ fn make_workers<
     let (seat, own) = shared.split(seat);
     let gate = SharedGate::new(rt, shared, own);
     workers.push(Worker::Ticks(Ticker::new(rt, gate, plan.tick, neighbours)))?;
+    match Logger::new(rt, alloc, &boxes.journal, LevelFilter::Info, plan.now) {
+        Ok(log) => workers.push(Worker::Log(log))?,
+        Err(error) => return Err(told_as(error)),
+    }
     let (seat, own) = shared.split(seat);
     let gate = SharedGate::new(rt, shared, own);
     let told = Told {
@@ -335,4 +400,14 @@ fn make_workers<
     let console = Console::new(alloc, out, plan.registered, told);
     workers.push(Worker::Lines(Operator::new(rt, gate, console)))?;
     Ok((seat, workers))
+}
+
+/// Tells the log where each subscriber may connect.
+fn tell_ports<R: Wait>(rt: &R, journal: &Journal, ports: &[Port]) {
+    for port in ports {
+        if let Ok(address) = port.address() {
+            let whom = Whom::Subscriber(port.sub());
+            journal.tell(rt, Entry::new(Notice::Listening, whom, Detail::At(address)));
+        }
+    }
 }

@@ -6,8 +6,8 @@ ghost use Rattle.std.specs.IoError.{error_kind};
 use crate::operator::Operator;
 use pg_serve::{Named, Seat, Shared, SharedGate, Work};
 use pg_service::{
-    Dial, Finder, Mailbox, Neighbours, Port, PortOrder, PortWorker, SourceOrder, SourceWorker,
-    Ticker, Waiting,
+    Dial, Finder, Logger, Mailbox, Neighbours, Port, PortOrder, PortWorker, SourceOrder,
+    SourceWorker, Ticker, Waiting,
 };
 use pg_wire::Refusal;
 use std::alloc::Global;
@@ -26,7 +26,8 @@ pub enum Worker<
         + Net<Listener = TcpListener, Stream = TcpStream>
         + Clock
         + Input<Reader = StdinLock<'static>>
-        + Print,
+        + Print
+        + Eprint,
     N: Named,
 > {
     Sources(SourceWorker<'a, R, N>),
@@ -34,6 +35,7 @@ pub enum Worker<
     Names(Finder<'a, R>),
     Ticks(Ticker<'a, R, N>),
     Lines(Operator<'a, R, N>),
+    Log(Logger<'a, R>),
 }
 
 impl<
@@ -41,7 +43,8 @@ impl<
         + Net<Listener = TcpListener, Stream = TcpStream>
         + Clock
         + Input<Reader = StdinLock<'static>>
-        + Print,
+        + Print
+        + Eprint,
     N: Named,
 > Work for Worker<'_, R, N> {
     fn turn(&mut self) -> bool {
@@ -51,6 +54,7 @@ impl<
             Worker::Names(worker) => worker.turn(),
             Worker::Ticks(worker) => worker.turn(),
             Worker::Lines(worker) => worker.turn(),
+            Worker::Log(worker) => worker.turn(),
         }
     }
 }
@@ -61,7 +65,8 @@ impl<
         + Net<Listener = TcpListener, Stream = TcpStream>
         + Clock
         + Input<Reader = StdinLock<'static>>
-        + Print,
+        + Print
+        + Eprint,
     N: Named,
 > Worker<'a, R, N> {
     /// Its gate, if it has one.
@@ -69,7 +74,7 @@ impl<
         match self {
             Worker::Sources(worker) => Some(worker.into_gate()),
             Worker::Subscribers(worker) => Some(worker.into_gate()),
-            Worker::Names(_) => None,
+            Worker::Names(_) | Worker::Log(_) => None,
             Worker::Ticks(worker) => Some(worker.into_gate()),
             Worker::Lines(worker) => Some(worker.into_gate()),
         }
@@ -82,7 +87,8 @@ pub fn join_all<
         + Net<Listener = TcpListener, Stream = TcpStream>
         + Clock
         + Input<Reader = StdinLock<'static>>
-        + Print,
+        + Print
+        + Eprint,
     N: Named,
 >(shared: &Shared, seat: Seat, workers: Vec<Worker<'_, R, N>>) -> Seat
     requires shared { shared.now ≡ N.table }

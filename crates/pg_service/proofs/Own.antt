@@ -7,7 +7,8 @@ use Rattle.pg_gateway.specs.Posting.{Posted, Notes}
 use Rattle.pg_ingest.specs.declared.run.End.{End}
 use Rattle.pg_ingest.proofs.Known.{notes_nil, notes_more}
 use Rattle.pg_serve.specs.Serving.{Call, happening_of, posted_by, ServedFrom, Served}
-use Rattle.pg_service.specs.Posts.{IsOf, OwnOnly}
+use Rattle.pg_session.specs.Events.{Happening}
+use Rattle.pg_service.specs.Posts.{IsOf, OwnOnly, Asks}
 use Rattle.pg_service.specs.Visits.{HasHeard}
 
 pub own_nil : (sub : ℕ) (o : Option (List Posted)) → OwnOnly sub o o
@@ -22,6 +23,9 @@ own_as sub sub' a b e h = subst (λ u. OwnOnly u a b) e h
 
 pub own_one : (sub : ℕ) (a b : Option (List Posted)) (x : Posted) → Notes a b (x ∷ []) → IsOf sub x → OwnOnly sub a b
 own_one sub a b x h k = record { more = x ∷ []; noted = h; own = All-cons (IsOf sub) x [] k (All-nil (IsOf sub)) }
+
+pub asks_as : (sub sub' : ℕ) (h : Happening) (a b : Option (List Posted)) → sub ≡ sub' → Asks sub h a b → Asks sub' h a b
+asks_as sub sub' h a b e k = subst (λ u. Asks u h a b) e k
 
 posted_own : (v : Hearing) (calls : List Call) → All (IsOf v.sub) (map (posted_by v) calls)
 posted_own v [] = All-nil (IsOf v.sub)

@@ -4,3 +4,4 @@ pub mod Patience
 pub mod Lines
 pub mod Posts
 pub mod Visits
+pub mod Setting

@@ -1,8 +1,16 @@
 -- The line to a source.
-use Rattle.std.specs.Prelude.{ℕ, Option}
+use Rattle.std.specs.Prelude.{◌≡◌, ◌↔◌, ℕ, zero, suc, ℤ, Bool, true, false, IsTrue, Option, Some, None, List}
+use Rattle.pg_gateway.specs.Posting.{Posted}
+use Rattle.pg_ingest.specs.declared.run.End.{End}
+use Rattle.pg_ingest.specs.declared.run.End.TheVariants.{Closed, Quiet, Stalled, Fault}
 use Rattle.pg_ingest.specs.Linking.{Linking, unfed}
+use Rattle.pg_ingest.specs.Runs.{Wires}
+use Rattle.pg_ingest.specs.Served.{IsCall}
 use Rattle.pg_limits.specs.declared.guard.ClockGuard.{ClockGuard}
-use Rattle.pg_service.specs.Plans.{Plan}
+use Rattle.pg_service.specs.declared.source.Turn.{Turn}
+use Rattle.pg_service.specs.declared.source.Turn.TheVariants.{Waits, More, Ended}
+use Rattle.pg_service.specs.declared.watched.Seen.{Seen}
+use Rattle.pg_service.specs.Plans.{Plan, heard, ended}
 
 -- its link, when it is called, and the guard of its measurements
 pub record Line : Type 0 where
@@ -17,3 +25,38 @@ unlinked l = record l { link = unfed l.link.source l.link.stats }
 -- the line with another plan
 abbrev pub with_plan : Plan → Line → Line
 with_plan plan l = record l { plan = plan }
+
+-- A gate tells all that a source's turn posts where its measurements are not guarded.
+abbrev pub unguarded : Option ClockGuard → Option (List Posted) → Option (List Posted)
+unguarded None posts = posts
+unguarded (Some g) posts = None
+
+-- the plan after so many events, with the last DATA_RATE that was announced by them
+abbrev pub hearing : ℕ → ℕ → Option ℤ → Plan → Plan
+hearing zero now rate p = p
+hearing (suc n) now rate p = heard now rate p
+
+-- Where the connection ended or failed, the link starts anew and the plan has ended.
+abbrev pub settled : End → ℕ → Line → Line
+settled Closed now l = with_plan (ended now l.plan) (unlinked l)
+settled Quiet now l = l
+settled Stalled now l = l
+settled (Fault n) now l = with_plan (ended now l.plan) (unlinked l)
+
+abbrev pub turn_after : End → Bool → Turn
+turn_after Closed used_up = Ended Closed
+turn_after Quiet true = More
+turn_after Quiet false = Waits
+turn_after Stalled used_up = Waits
+turn_after (Fault n) used_up = Ended (Fault n)
+
+-- A turn of a source is one call of its link's loop, which posts what its bytes tell and nothing else; then its plan hears what
+-- went through the gate, and the line settles as the call ended.
+pub record Turned (now reads : ℕ) (turn : Turn) (seen : Seen) (l l' : Line) (before after : Wires) : Type 0 where
+  pub end : End
+  pub link : Linking
+  pub call : IsCall end 10000 l.link link before after
+  pub line : l' ≡ settled end now (record l { link = link; plan = hearing seen.events now seen.rate l.plan })
+  pub used_up : Bool
+  pub used : IsTrue used_up ↔ (reads ≡ 0)
+  pub turn_is : turn ≡ turn_after end used_up

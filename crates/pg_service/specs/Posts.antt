@@ -1,7 +1,7 @@
 -- Who posts what.
-use Rattle.std.specs.Prelude.{◌≡◌, ℕ, List, All, Option, Some, None}
+use Rattle.std.specs.Prelude.{◌≡◌, ℕ, List, [], ◌∷◌, All, Option, Some, None}
 use Rattle.pg_session.specs.Events.{Happening}
-use Rattle.pg_gateway.specs.Occurrences.{asks}
+use Rattle.pg_gateway.specs.Occurrences.{asks, Answer}
 use Rattle.pg_gateway.specs.Posting.{Posted, Notes}
 use Rattle.pg_service.specs.declared.watched.Guarding.{Guarding}
 
@@ -19,3 +19,7 @@ pub record OwnOnly (sub : ℕ) (before after : Option (List Posted)) : Type 0 wh
   pub more : List Posted
   pub noted : Notes before after more
   pub own : All (IsOf sub) more
+
+-- Just this was asked of this subscriber meanwhile, where the gate tells it.
+abbrev pub Asks : ℕ → Happening → Option (List Posted) → Option (List Posted) → Type 0
+Asks sub h before after = (a : Answer) × Notes before after ((asks sub h, a) ∷ [])

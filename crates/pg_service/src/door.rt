@@ -1,9 +1,16 @@
 //! The place where a subscriber connects.
 
-ghost use Rattle.std.specs.Prelude.{◌≡◌, ◌≢◌, ◌↔◌, false, None, is_some, option_map};
+ghost use Rattle.std.specs.Prelude.{◌≡◌, ◌↔◌, ◌⊎◌, ◌∷◌, [], if◌then◌else◌, true, false, None, is_some, option_and_then, option_map};
+ghost use Rattle.std.specs.Duration.{as_nanos};
+ghost use Rattle.std.specs.Time.{instant_nanos};
 ghost use Rattle.std.specs.Net.Addr.{ipv4_bits};
 ghost use Rattle.pg_limits.specs.Hosts.{is_allowed};
+ghost use Rattle.pg_session.specs.Events.{connect};
+ghost use Rattle.pg_gateway.specs.Occurrences.{asks, told};
+ghost use Rattle.pg_gateway.specs.Posting.{Notes};
+ghost use Rattle.pg_service.specs.Patience.{left_by, overdue_by};
 ghost use Rattle.pg_service.specs.Posts.{OwnOnly, through};
+ghost use Rattle.pg_service.specs.Visits.{Admits, HungUp, makes_room, refusal_of, with_room};
 
 use crate::counted::Counted;
 use crate::guest::{Guest, Stay};
@@ -62,11 +69,12 @@ pub struct Door {
 
 impl Model for Door {
     ghost use Rattle.std.specs.Prelude.{◌≡◌, IfSome, option_map};
+    ghost use Rattle.std.specs.Duration.{as_nanos};
     ghost use Rattle.pg_service.specs.Visits.{Doorway};
 
     ghost Value = { Doorway };
 
-    ghost view = { λ d. record { sub = d.sub; allow = option_map (λ v. v.items) d.rules.allow.networks; guest = d.guest } };
+    ghost view = { λ d. record { sub = d.sub; allow = option_map (λ v. v.items) d.rules.allow.networks; takeover = d.rules.takeover; stall = option_map as_nanos d.rules.stall; idle = option_map as_nanos d.rules.idle; guest = d.guest } };
 
     ghost invariant = { λ d. IfSome d.guest (λ v. v.session.sub ≡ d.sub) };
 }
@@ -76,6 +84,9 @@ impl Door {
     pub fn new(sub: SubId, rules: DoorRules) -> Door
         ensures sub { result.sub ≡ sub }
         ensures allow { result.allow ≡ option_map (λ v. v.items) rules.allow.networks }
+        ensures takeover { result.takeover ≡ rules.takeover }
+        ensures stall { result.stall ≡ option_map as_nanos rules.stall }
+        ensures idle { result.idle ≡ option_map as_nanos rules.idle }
         ensures nobody { result.guest ≡ None }
     {
         Door {
@@ -110,10 +121,14 @@ impl Door {
         now: Instant,
     ) -> Knock
         ensures sub { self.new.sub ≡ self.old.sub }
-        ensures allow { self.new.allow ≡ self.old.allow }
+        ensures same { self.new ≡ record self.old { guest = self.new.guest } }
         // Who may not connect changes nothing.
         ensures foreign { (result ≡ Knock.Foreign) ↔ (is_allowed (ipv4_bits host) self.old.allow ≡ false) }
         ensures unasked { result ≡ Knock.Foreign → (G.posts gate.new ≡ G.posts gate.old) × (self.new ≡ self.old) }
+        // Who may is the subscriber's just where the gateway answers so; or there is no memory, and nothing changes.
+        ensures admits { is_allowed (ipv4_bits host) self.old.allow ≡ true →
+            ((result ≡ Knock.Refused Refusal.NoMemory false) × (G.posts gate.new ≡ G.posts gate.old) × (self.new ≡ self.old))
+            ⊎ Admits (instant_nanos now) self.old self.new result (G.posts gate.old) (G.posts gate.new) }
         // It posts of its own subscriber alone.
         ensures own { OwnOnly self.old.sub (G.posts gate.old) (G.posts gate.new) }
     {
@@ -131,7 +146,8 @@ impl Door {
             }
         };
         let replaced = self.make_room(gate);
-        match refusal_in(post_connect(self.sub, gate)) {
+        let reply = post_connect(self.sub, gate);
+        match refusal_in(&reply) {
             Some(refusal) => Knock::Refused { refusal, replaced },
             None => {
                 // Where the gateway knows of no connection, one that stood here was another subscriber's of the same number.
@@ -146,7 +162,10 @@ impl Door {
     #[tactic(auto, using(crate::proofs::Own::own_nil))]
     fn make_room<G: Gate>(&mut self, gate: &mut G) -> bool
         ensures sub { self.new.sub ≡ self.old.sub }
-        ensures allow { self.new.allow ≡ self.old.allow }
+        ensures same { self.new ≡ record self.old { guest = self.new.guest } }
+        ensures room { self.new ≡ with_room self.old }
+        ensures stood { result ≡ makes_room self.old }
+        ensures hung { HungUp (makes_room self.old) self.old.sub (G.posts gate.old) (G.posts gate.new) }
         ensures own { OwnOnly self.old.sub (G.posts gate.old) (G.posts gate.new) }
     {
         self.rules.takeover && self.hang_up(gate)
@@ -156,9 +175,10 @@ impl Door {
     #[tactic(auto, using(crate::proofs::Own::own_as, crate::proofs::Own::own_nil, crate::proofs::Own::own_more))]
     pub fn hang_up<G: Gate>(&mut self, gate: &mut G) -> bool
         ensures sub { self.new.sub ≡ self.old.sub }
-        ensures allow { self.new.allow ≡ self.old.allow }
+        ensures same { self.new ≡ record self.old { guest = self.new.guest } }
         ensures nobody { self.new.guest ≡ None }
         ensures stood { result ≡ is_some self.old.guest }
+        ensures hung { HungUp (is_some self.old.guest) self.old.sub (G.posts gate.old) (G.posts gate.new) }
         // It posts of its own subscriber alone.
         ensures own { OwnOnly self.old.sub (G.posts gate.old) (G.posts gate.new) }
     {
@@ -175,7 +195,10 @@ impl Door {
     #[tactic(auto, using(crate::proofs::Own::own_as, crate::proofs::Own::own_nil, crate::proofs::Own::own_more))]
     pub fn expire<G: Gate>(&mut self, gate: &mut G, now: Instant) -> Option<Overdue>
         ensures sub { self.new.sub ≡ self.old.sub }
-        ensures allow { self.new.allow ≡ self.old.allow }
+        ensures same { self.new ≡ record self.old { guest = self.new.guest } }
+        ensures told { result ≡ option_and_then (λ v. overdue_by (instant_nanos now) v.patience) self.old.guest }
+        ensures gone { self.new.guest ≡ (if is_some result then None else self.old.guest) }
+        ensures hung { HungUp (is_some result) self.old.sub (G.posts gate.old) (G.posts gate.new) }
         // It posts of its own subscriber alone.
         ensures own { OwnOnly self.old.sub (G.posts gate.old) (G.posts gate.new) }
     {
@@ -185,7 +208,9 @@ impl Door {
     }
 
     /// How long until who has connected is hung up, if nothing goes either way; `None` for ever.
-    pub fn left(&self, now: Instant) -> Option<Duration> {
+    pub fn left(&self, now: Instant) -> Option<Duration>
+        ensures { option_map as_nanos result ≡ option_and_then (λ v. left_by (instant_nanos now) v.patience) self.now.guest }
+    {
         self.guest.as_ref()?.patience().left(now)
     }
 
@@ -199,7 +224,7 @@ impl Door {
         now: Instant,
     ) -> Stay
         ensures sub { self.new.sub ≡ self.old.sub }
-        ensures allow { self.new.allow ≡ self.old.allow }
+        ensures same { self.new ≡ record self.old { guest = self.new.guest } }
         // It posts of its own subscriber alone.
         ensures own { OwnOnly self.old.sub (through gate.old.guarding (G.posts gate.old.gate)) (through gate.new.guarding (G.posts gate.new.gate)) }
     {
@@ -219,7 +244,7 @@ impl Door {
         now: Instant,
     ) -> Stay
         ensures sub { self.new.sub ≡ self.old.sub }
-        ensures allow { self.new.allow ≡ self.old.allow }
+        ensures same { self.new ≡ record self.old { guest = self.new.guest } }
         // It posts of its own subscriber alone.
         ensures own { OwnOnly self.old.sub (through gate.old.guarding (G.posts gate.old.gate)) (through gate.new.guarding (G.posts gate.new.gate)) }
     {
@@ -236,7 +261,7 @@ impl Door {
     /// Forgets who has connected where the connection ended.
     fn leave(&mut self, stay: Stay) -> Stay
         ensures sub { self.new.sub ≡ self.old.sub }
-        ensures allow { self.new.allow ≡ self.old.allow }
+        ensures same { self.new ≡ record self.old { guest = self.new.guest } }
     {
         if let Stay::Gone(_) = stay {
             self.guest = None;
@@ -248,15 +273,18 @@ impl Door {
 /// Posts that a subscriber connects.
 fn post_connect<G: Gate>(sub: SubId, gate: &mut G) -> Reply
     ensures own { OwnOnly sub (G.posts gate.old) (G.posts gate.new) }
+    ensures asked { Notes (G.posts gate.old) (G.posts gate.new) ((asks sub connect, told result) ∷ []) }
 {
     gate.post(Event::Connect(sub))
 }
 
 /// Why a connection is refused that was answered so, if it is.
-fn refusal_in(reply: Reply) -> Option<Refusal> {
+fn refusal_in(reply: &Reply) -> Option<Refusal>
+    ensures { result ≡ refusal_of reply.now }
+{
     match reply {
         Reply::Done { .. } => None,
-        Reply::Refused(refusal) => Some(refusal),
+        Reply::Refused(refusal) => Some(*refusal),
         // No gate answers a connection so.
         _ => Some(Refusal::NoMemory),
     }

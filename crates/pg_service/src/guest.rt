@@ -2,7 +2,8 @@
 
 ghost use Rattle.std.specs.Prelude.{◌≡◌, IfOk, IfErr};
 ghost use Rattle.pg_session.specs.Commands.{unheard};
-ghost use Rattle.pg_service.specs.Posts.{OwnOnly, through};
+ghost use Rattle.pg_session.specs.Events.{hangup};
+ghost use Rattle.pg_service.specs.Posts.{Asks, OwnOnly, through};
 ghost use Rattle.pg_service.specs.Visits.{HasHeard};
 
 use crate::counted::{Counted, Never};
@@ -99,6 +100,7 @@ impl Guest {
     pub fn hang_up<G: Gate>(&self, gate: &mut G)
         // It posts of its own subscriber alone.
         ensures own { OwnOnly self.now.session.sub (G.posts gate.old) (G.posts gate.new) }
+        ensures asked { Asks self.now.session.sub hangup (G.posts gate.old) (G.posts gate.new) }
     {
         post_hangup(self.session.sub(), gate);
     }
@@ -146,6 +148,7 @@ impl Guest {
 /// Posts that a subscriber hangs up.
 fn post_hangup<G: Gate>(sub: SubId, gate: &mut G)
     ensures own { OwnOnly sub (G.posts gate.old) (G.posts gate.new) }
+    ensures asked { Asks sub hangup (G.posts gate.old) (G.posts gate.new) }
 {
     gate.post(Event::Hangup(sub));
 }

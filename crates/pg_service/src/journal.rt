@@ -1,8 +1,14 @@
 //! What the service notes of what it meets.
 
-use pg_wire::Refusal;
+use log::Level;
+use pg_ingest::End;
+use pg_wire::{PmuId, Refusal, SubId};
 use std::alloc::Global;
+use std::io::ErrorKind;
+use std::mem;
+use std::net::SocketAddr;
 use std::sync::atomic::{AtomicU64, Ordering};
+use std::sync::{Mutex, Wait};
 
 /// What the service meets that nobody is answered (own rule).
 #[derive(Clone, Copy, Debug, PartialEq, Eq)]
@@ -49,15 +55,135 @@ pub enum Notice {
     MailFault = 19,
     /// Answers could not be written, or lines not be read.
     ConsoleFault = 20,
+    /// A source announced its configuration, as the first of its connection.
+    Announced = 21,
+    /// Frames of a source were ignored.
+    Ignored = 22,
+    /// Frames were handed out that others were dropped before.
+    Gap = 23,
+    /// A stream was started by its subscriber.
+    Started = 24,
+    /// A stream was stopped by its subscriber.
+    Stopped = 25,
+    /// A port is listened on.
+    Listening = 26,
+    /// Of what was met more was not kept for the log.
+    Untold = 27,
 }
 
 /// How many kinds of notices there are.
-const KINDS: usize = 21;
+const KINDS: usize = 28;
 
-/// Counts of what the service met, which all its workers share.
+impl Notice {
+    /// The kinds that are counted where nobody is named, so that the log tells how often they were met.
+    pub(crate) const UNNAMED: [Notice; 3] = [
+        Notice::PollFault,
+        Notice::ClockFault,
+        Notice::MailFault,
+    ];
+
+    /// How much it matters (own rule): an error is a fault of this machine, a warning what an operator may have to mend.
+    pub fn level(self) -> Level {
+        match self {
+            Notice::PollFault | Notice::ClockFault | Notice::MailFault | Notice::SocketFault => {
+                Level::Error
+            }
+            Notice::NotMade
+            | Notice::GivenUp
+            | Notice::NoAddress
+            | Notice::SourceEnded
+            | Notice::Silent
+            | Notice::FarMeasurement
+            | Notice::Foreign
+            | Notice::Refused
+            | Notice::Stalled
+            | Notice::Idle
+            | Notice::NotAccepted
+            | Notice::ConsoleFault
+            | Notice::Ignored
+            | Notice::Gap
+            | Notice::Untold => Level::Warn,
+            Notice::Called
+            | Notice::Made
+            | Notice::Connected
+            | Notice::GuestEnded
+            | Notice::HungUp
+            | Notice::Announced
+            | Notice::Started
+            | Notice::Stopped
+            | Notice::Listening => Level::Info,
+        }
+    }
+}
+
+/// Whom a notice is of.
+#[derive(Clone, Copy, Debug, PartialEq, Eq)]
+pub enum Whom {
+    /// Nobody, or the service itself.
+    Nobody,
+    /// A source.
+    Source(PmuId),
+    /// A subscriber.
+    Subscriber(SubId),
+}
+
+/// What is known beside.
+#[derive(Clone, Copy, Debug, PartialEq, Eq)]
+pub enum Detail {
+    /// Nothing.
+    Nothing,
+    /// Where, or from where.
+    At(SocketAddr),
+    /// By which rule.
+    Because(Refusal),
+    /// How a connection ended.
+    Ended(End),
+    /// What the system said.
+    System(ErrorKind),
+    /// DATA_RATE of the configuration that was announced.
+    Rate(i16),
+    /// Of this stream.
+    Stream(u16),
+}
+
+/// What was met, for the log.
+#[derive(Clone, Copy, Debug)]
+pub struct Entry {
+    /// What.
+    pub notice: Notice,
+    /// Of whom.
+    pub whom: Whom,
+    /// What is known beside.
+    pub detail: Detail,
+    /// How often, or how many frames.
+    pub times: u64,
+}
+
+impl Entry {
+    /// It was met once.
+    pub fn new(notice: Notice, whom: Whom, detail: Detail) -> Entry {
+        Entry {
+            notice,
+            whom,
+            detail,
+            times: 1,
+        }
+    }
+
+    /// Whether it is of the same kind and of the same one, so that one line may stand for both.
+    pub fn is_like(&self, other: &Entry) -> bool {
+        self.notice == other.notice && self.whom == other.whom
+    }
+}
+
+/// As many entries wait for the log at most.
+const WAITING: usize = 1_024;
+
+/// What the service met, which all its workers share: its counts, and what waits for the log.
 #[derive(Drop)]
 pub struct Journal {
     counts: Vec<AtomicU64>,
+    entries: Mutex<Vec<Entry>>,
 }
 
 impl Journal {
@@ -71,7 +197,29 @@ impl Journal {
         for _ in 0..KINDS {
             counts.push(AtomicU64::new(0))?;
         }
-        Ok(Journal { counts })
+        Ok(Journal {
+            counts,
+            entries: Mutex::new(Vec::new(alloc)),
+        })
+    }
+
+    /// Counts what was met, and keeps it for the log. Where too much waits there, it is counted alone.
+    pub fn tell<R: Wait>(&self, rt: &R, entry: Entry) {
+        let notice = entry.notice;
+        let times = entry.times;
+        self.add(notice, times);
+        let mut entries = self.entries.lock(rt);
+        let is_kept = keep(&mut *entries, entry);
+        drop(entries);
+        if !is_kept {
+            self.add(Notice::Untold, times);
+        }
+    }
+
+    /// What waits for the log, in the order in which it was met.
+    pub fn take<R: Wait>(&self, rt: &R, alloc: Global) -> Vec<Entry> {
+        let mut entries = self.entries.lock(rt);
+        mem::replace(&mut *entries, Vec::new(alloc))
     }
 
     /// Counts what was met.
@@ -96,4 +244,15 @@ impl Journal {
             None => 0,
         }
     }
+}
+
+/// Keeps an entry behind the others, and tells whether there was room. One that is like the last is counted with it.
+fn keep(entries: &mut Vec<Entry>, entry: Entry) -> bool {
+    if let Some(last) = entries.last_mut() {
+        if last.is_like(&entry) && last.detail == entry.detail {
+            last.times = last.times.saturating_add(entry.times);
+            return true;
+        }
+    }
+    entries.len() < WAITING && entries.push(entry).is_ok()
 }

@@ -4,11 +4,15 @@
 #![tactic(auto)]
 
 mod counted;
+mod digest;
 mod door;
+mod edits;
 mod finder;
 mod guest;
 mod journal;
+mod logger;
 mod mail;
+mod outlet;
 mod patience;
 mod plan;
 mod ports;
@@ -18,12 +22,16 @@ mod sources;
 mod ticker;
 mod waiting;
 mod watched;
+mod words;
 
 pub use counted::{Counted, Never};
+pub use digest::Digest;
 pub use door::{Door, DoorRules, Knock};
+pub use edits::post_edits;
 pub use finder::{Finder, Lookup};
 pub use guest::{Gone, Guest, Stay};
-pub use journal::{Journal, Notice};
+pub use journal::{Detail, Entry, Journal, Notice, Whom};
+pub use logger::Logger;
 pub use mail::{Mailbox, PortOrder, SourceOrder};
 pub use patience::{Overdue, Patience};
 pub use plan::{CallPlan, Due, Phase};

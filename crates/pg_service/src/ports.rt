@@ -1,22 +1,26 @@
 //! Workers that serve subscribers.
 
+ghost use Rattle.std.specs.Prelude.{◌≡◌, None, option_map};
+
 use crate::counted::Counted;
 use crate::door::{Door, DoorRules, Knock};
 use crate::guest::{Gone, Stay};
-use crate::journal::{Journal, Notice};
+use crate::journal::{Detail, Entry, Journal, Notice, Whom};
 use crate::mail::{Mailbox, PortOrder};
 use crate::patience::Overdue;
 use crate::sources::READS;
-use crate::waiting::{PATIENCE_MS, Waiting};
+use crate::waiting::{PATIENCE_MS, Waiting, sooner};
 use crate::watched::Watched;
 use mio::net::{TcpListener, TcpStream};
 use mio::{Interest, Poll, Token};
+use pg_command::Word;
 use pg_gateway::Gate;
 use pg_limits::Budget;
 use pg_serve::{Named, SharedGate, Work};
 use pg_wire::SubId;
 use std::alloc::Global;
 use std::io::ErrorKind;
+use std::marker::Model;
 use std::net::{IpAddr, Ipv4Addr, Net, SocketAddr};
 use std::rt::Clock;
 use std::sync::Wait;
@@ -25,6 +29,9 @@ use std::{io, mem};
 
 /// The connections that one turn accepts at most. The others wait for the next turn.
 const ACCEPTED: u32 = 16;
+
+/// When it is tried again to accept, where the system could not (own rule): it does not name a listener twice for one who waits.
+const RETRY_MS: u64 = 1_000;
 
 /// The port of a subscriber, where it connects, with its connection if there is one.
 #[derive(Drop)]
@@ -35,18 +42,40 @@ pub struct Port {
     is_ready: bool,
     // Whether somebody may wait to be accepted.
     is_asked: bool,
+    // When it is tried again to accept, where the system could not; None where it could.
+    retry: Option<Instant>,
+}
+
+impl Model for Port {
+    ghost use Rattle.pg_service.specs.Visits.{Doorway};
+
+    ghost Value = { Doorway };
+
+    ghost view = { λ p. p.door };
 }
 
 impl Port {
-    /// The port of this subscriber at this listener.
-    pub fn new(sub: SubId, rules: DoorRules, listener: TcpListener) -> Port {
+    /// The port of this subscriber at this listener. Nobody has connected.
+    pub fn new(sub: SubId, rules: DoorRules, listener: TcpListener) -> Port
+        ensures sub { result.sub ≡ sub }
+        ensures allow { result.allow ≡ option_map (λ v. v.items) rules.allow.networks }
+        ensures nobody { result.guest ≡ None }
+    {
         Port {
             door: Door::new(sub, rules),
             listener,
             stream: None,
             is_ready: false,
             is_asked: false,
+            retry: None,
         }
+    }
+
+    /// Whose it is.
+    pub fn sub(&self) -> SubId
+        ensures { result ≡ self.now.sub }
+    {
+        self.door.sub()
     }
 
     /// Where it listens.
@@ -178,7 +207,9 @@ impl<'a, R: Wait + Net + Clock, N: Named> PortWorker<'a, R, N> {
                 listener,
             } => {
                 if self.open(Port::new(sub, rules, listener)).is_err() {
-                    self.journal.note(Notice::SocketFault);
+                    let whom = Whom::Subscriber(sub);
+                    let entry = Entry::new(Notice::SocketFault, whom, Detail::Nothing);
+                    self.journal.tell(self.rt, entry);
                 }
             }
             PortOrder::Close(sub) => {
@@ -198,29 +229,34 @@ impl<'a, R: Wait + Net + Clock, N: Named> PortWorker<'a, R, N> {
         for port in self.ports.iter_mut().flatten() {
             if port.door.sub() == sub && port.door.hang_up(&mut self.gate) {
                 port.stream = None;
-                self.journal.note(Notice::HungUp);
+                let entry = port.entry(Notice::HungUp, Detail::Nothing);
+                self.journal.tell(self.rt, entry);
             }
         }
     }
 
-    /// Hangs up those that are waited for no longer, and finds out when the next one is.
+    /// Hangs up those that are waited for no longer, has it tried again to accept, and finds out when something is due next.
     fn do_due(&mut self) {
-        let mut next: Option<Duration> = None;
-        for port in self.ports.iter_mut().flatten() {
+        let mut next = None;
+        for place in 0..self.ports.len() {
+            let Some(Some(port)) = self.ports.get_mut(place) else {
+                continue;
+            };
             if let Some(overdue) = port.door.expire(&mut self.gate, self.now) {
                 port.stream = None;
-                self.journal.note(notice_of(Gone::Overdue(overdue)));
+                let entry = port.entry(notice_of(Gone::Overdue(overdue)), Detail::Nothing);
+                self.journal.tell(self.rt, entry);
             }
-            next = match (next, port.door.left(self.now)) {
-                (Some(next), Some(left)) => Some(next.min(left)),
-                (Some(next), None) => Some(next),
-                (None, left) => left,
-            };
+            let is_retried = port.retry.is_some_and(|at| at <= self.now);
+            if is_retried {
+                port.retry = None;
+            }
+            next = sooner(next, port.due(self.now));
+            if is_retried {
+                self.mark(place, true);
+            }
         }
-        self.due = match next {
-            Some(next) => self.now.checked_add(next),
-            None => None,
-        };
+        self.due = next;
     }
 
     /// Is due no later than this port, and serves it again where it has more to do.
@@ -228,16 +264,8 @@ impl<'a, R: Wait + Net + Clock, N: Named> PortWorker<'a, R, N> {
         if is_more {
             self.mark(place, false);
         }
-        let Some(Some(port)) = self.ports.get(place) else {
-            return;
-        };
-        if let Some(left) = port.door.left(self.now) {
-            let due = self.now.checked_add(left);
-            self.due = match (self.due, due) {
-                (Some(one), Some(other)) => Some(one.min(other)),
-                (Some(one), None) => Some(one),
-                (None, other) => other,
-            };
+        if let Some(Some(port)) = self.ports.get(place) {
+            self.due = sooner(self.due, port.due(self.now));
         }
     }
 
@@ -247,9 +275,10 @@ impl<'a, R: Wait + Net + Clock, N: Named> PortWorker<'a, R, N> {
             return;
         };
         port.is_ready = false;
-        let mut is_more = port.serve(&mut self.gate, self.journal, self.now);
-        if port.is_asked {
+        let mut is_more = port.serve(self.rt, &mut self.gate, self.journal, self.now);
+        if port.is_asked && port.retry.is_none() {
             is_more |= port.accept(
+                self.rt,
                 self.alloc,
                 self.waiting.poll(),
                 place,
@@ -281,7 +310,7 @@ impl<'a, R: Wait + Net + Clock, N: Named> PortWorker<'a, R, N> {
             if port.is_ready {
                 continue;
             }
-            let is_more = port.hand_out(&mut self.gate, self.journal, self.now);
+            let is_more = port.hand_out(self.rt, &mut self.gate, self.journal, self.now);
             self.after(place, is_more);
         }
     }
@@ -314,20 +343,37 @@ fn host_of(address: SocketAddr) -> Ipv4Addr {
 }
 
 impl Port {
+    /// When something is to be done for it though its sockets stay silent.
+    fn due(&self, now: Instant) -> Option<Instant> {
+        let waited = match self.door.left(now) {
+            Some(left) => now.checked_add(left),
+            None => None,
+        };
+        sooner(waited, self.retry)
+    }
+
     /// Serves who has connected, and tells whether more is to be done.
-    fn serve<G: Gate>(&mut self, gate: &mut Watched<G>, journal: &Journal, now: Instant) -> bool {
+    fn serve<R: Wait, G: Gate>(
+        &mut self,
+        rt: &R,
+        gate: &mut Watched<G>,
+        journal: &Journal,
+        now: Instant,
+    ) -> bool {
         let Some(stream) = &self.stream else {
             return false;
         };
         let mut reader = Budget::new(Counted::new(stream), READS);
         let mut writer = Counted::new(stream);
         let stay = self.door.serve(&mut reader, &mut writer, gate, now);
-        self.leave(stay, journal)
+        self.tell_seen(rt, gate, journal);
+        self.leave(rt, stay, journal)
     }
 
     /// Hands out what waits for who has connected, and tells whether more is to be done.
-    fn hand_out<G: Gate>(
+    fn hand_out<R: Wait, G: Gate>(
         &mut self,
+        rt: &R,
         gate: &mut Watched<G>,
         journal: &Journal,
         now: Instant,
@@ -337,25 +383,54 @@ impl Port {
         };
         let mut writer = Counted::new(stream);
         let stay = self.door.hand_out(&mut writer, gate, now);
-        self.leave(stay, journal)
+        self.tell_seen(rt, gate, journal);
+        self.leave(rt, stay, journal)
+    }
+
+    /// What is told of it.
+    fn entry(&self, notice: Notice, detail: Detail) -> Entry {
+        Entry::new(notice, Whom::Subscriber(self.door.sub()), detail)
+    }
+
+    /// Tells what was met while who has connected was served.
+    fn tell_seen<R: Wait, G: Gate>(&self, rt: &R, gate: &mut Watched<G>, journal: &Journal) {
+        let seen = gate.take_seen();
+        if seen.gap > 0 {
+            let mut entry = self.entry(Notice::Gap, Detail::Nothing);
+            entry.times = seen.gap;
+            journal.tell(rt, entry);
+        }
+        if let Some(command) = seen.switched {
+            let notice = match Word::of(command.word) {
+                Some(Word::StartData) => Notice::Started,
+                Some(Word::StopData) => Notice::Stopped,
+                _ => return,
+            };
+            journal.tell(rt, self.entry(notice, Detail::Stream(command.stream)));
+        }
     }
 
     /// Closes the connection where it ended, and tells whether more is to be done.
-    fn leave(&mut self, stay: Stay, journal: &Journal) -> bool {
+    fn leave<R: Wait>(&mut self, rt: &R, stay: Stay, journal: &Journal) -> bool {
         match stay {
             Stay::Waits => false,
             Stay::More => true,
             Stay::Gone(gone) => {
                 self.stream = None;
-                journal.note(notice_of(gone));
+                let detail = match gone {
+                    Gone::Ended(end) => Detail::Ended(end),
+                    Gone::Overdue(_) => Detail::Nothing,
+                };
+                journal.tell(rt, self.entry(notice_of(gone), detail));
                 false
             }
         }
     }
 
     /// Accepts who wants to connect, and tells whether more may want to.
-    fn accept<G: Gate>(
+    fn accept<R: Wait, G: Gate>(
         &mut self,
+        rt: &R,
         alloc: Global,
         poll: &Poll,
         place: usize,
@@ -366,14 +441,16 @@ impl Port {
         for _ in 0..ACCEPTED {
             match self.listener.accept() {
                 Ok((stream, address)) => {
-                    let host = host_of(address);
-                    self.admit(alloc, poll, place, gate, journal, now, stream, host);
+                    self.admit(rt, alloc, poll, place, gate, journal, now, stream, address);
+                }
+                Err(error) if error.kind() == ErrorKind::WouldBlock => {
+                    self.is_asked = false;
+                    return false;
                 }
                 Err(error) => {
-                    self.is_asked = false;
-                    if error.kind() != ErrorKind::WouldBlock {
-                        journal.note(Notice::NotAccepted);
-                    }
+                    self.retry = now.checked_add(Duration::from_millis(RETRY_MS));
+                    let detail = Detail::System(error.kind());
+                    journal.tell(rt, self.entry(Notice::NotAccepted, detail));
                     return false;
                 }
             }
@@ -382,8 +459,9 @@ impl Port {
     }
 
     /// Lets a connection in, or closes it.
-    fn admit<G: Gate>(
+    fn admit<R: Wait, G: Gate>(
         &mut self,
+        rt: &R,
         alloc: Global,
         poll: &Poll,
         place: usize,
@@ -391,30 +469,32 @@ impl Port {
         journal: &Journal,
         now: Instant,
         mut stream: TcpStream,
-        host: Ipv4Addr,
+        address: SocketAddr,
     ) {
-        match self.door.knock(alloc, gate, host, now) {
+        match self.door.knock(alloc, gate, host_of(address), now) {
             Knock::Welcome { .. } => {
                 self.stream = None;
                 let both = Interest::READABLE | Interest::WRITABLE;
                 let token = connected(place);
                 if poll.registry().register(&mut stream, token, both).is_err() {
                     self.door.hang_up(gate);
-                    journal.note(Notice::SocketFault);
+                    journal.tell(rt, self.entry(Notice::SocketFault, Detail::Nothing));
                     return;
                 }
                 if stream.set_nodelay(true).is_err() {
-                    journal.note(Notice::SocketFault);
+                    journal.tell(rt, self.entry(Notice::SocketFault, Detail::Nothing));
                 }
                 self.stream = Some(stream);
-                journal.note(Notice::Connected);
+                journal.tell(rt, self.entry(Notice::Connected, Detail::At(address)));
             }
-            Knock::Foreign => journal.note(Notice::Foreign),
-            Knock::Refused { replaced, .. } => {
+            Knock::Foreign => {
+                journal.tell(rt, self.entry(Notice::Foreign, Detail::At(address)));
+            }
+            Knock::Refused { refusal, replaced } => {
                 if replaced {
                     self.stream = None;
                 }
-                journal.note(Notice::Refused);
+                journal.tell(rt, self.entry(Notice::Refused, Detail::Because(refusal)));
             }
         }
     }

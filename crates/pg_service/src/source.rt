@@ -5,8 +5,11 @@ ghost use Rattle.std.specs.Duration.{as_nanos};
 ghost use Rattle.std.specs.Time.{instant_nanos};
 ghost use Rattle.pg_audit.specs.Counting.{no_pmu_stats};
 ghost use Rattle.pg_ingest.specs.Linking.{unfed};
-ghost use Rattle.pg_service.specs.Lines.{unlinked, with_plan};
+ghost use Rattle.pg_ingest.specs.Runs.{wires};
+ghost use Rattle.pg_ingest.specs.Served.{IsCall};
+ghost use Rattle.pg_service.specs.Lines.{Turned, hearing, settled, turn_after, unguarded, unlinked, with_plan};
 ghost use Rattle.pg_service.specs.Plans.{begun, called, due_by, ended, made, renewed, rested};
+ghost use Rattle.pg_service.specs.Posts.{through};
 
 use crate::plan::{CallPlan, Due};
 use crate::watched::{Guarding, Seen, Watched};
@@ -150,28 +153,30 @@ impl SourceLine {
         now: Instant,
         clock: u64,
     ) -> (Turn, Seen)
-        ensures guard { self.new.guard ≡ self.old.guard }
+        // It posts what its bytes tell and nothing else, where its measurements are not guarded.
+        ensures turned { Turned (instant_nanos now) reader.new.left result.0 result.1 self.old self.new
+            (wires (R.remaining reader.old.reader) (W.contents writer.old) (unguarded self.old.guard (through gate.old.guarding (G.posts gate.old.gate))))
+            (wires (R.remaining reader.new.reader) (W.contents writer.new) (unguarded self.old.guard (through gate.new.guarding (G.posts gate.new.gate)))) }
     {
-        let end = match self.guard {
-            None => run_link(&mut self.link, reader, writer, gate, TURNS),
-            Some(guard) => {
-                gate.guard(Some(Guarding { guard, clock }));
-                let end = run_link(&mut self.link, reader, writer, gate, TURNS);
-                gate.guard(None);
-                end
-            }
-        };
+        let end = run_guarded(&mut self.link, self.guard, reader, writer, gate, clock);
         let seen = gate.take_seen();
+        self.hear(&seen, now);
+        (self.settle(end, reader.is_used_up(), now), seen)
+    }
+
+    /// The next event is waited for, where one came.
+    fn hear(&mut self, seen: &Seen, now: Instant)
+        ensures { self.new ≡ record self.old { plan = hearing seen.now.events (instant_nanos now) seen.now.rate self.old.plan } }
+    {
         if seen.events > 0 {
             self.plan.heard(now, seen.rate);
         }
-        (self.settle(end, reader.is_used_up(), now), seen)
     }
 
     /// What is left to do after its loop ended so. Where the connection ended or failed, the link starts anew.
     fn settle(&mut self, end: End, is_used_up: bool, now: Instant) -> Turn
-        ensures source { self.new.link.source ≡ self.old.link.source }
-        ensures guard { self.new.guard ≡ self.old.guard }
+        ensures line { self.new ≡ settled end (instant_nanos now) self.old }
+        ensures turn { result ≡ turn_after end is_used_up }
     {
         match end {
             End::Quiet if is_used_up => Turn::More,
@@ -180,6 +185,30 @@ impl SourceLine {
                 self.ended(now);
                 Turn::Ended(end)
             }
+        }
+    }
+}
+
+/// One call of a link's loop, with its measurements guarded if they are.
+fn run_guarded<R: Read, W: Write, G: Gate>(
+    link: &mut Link,
+    guard: Option<ClockGuard>,
+    reader: &mut Budget<R>,
+    writer: &mut W,
+    gate: &mut Watched<G>,
+    clock: u64,
+) -> End
+    ensures call { IsCall result 10000 link.old link.new
+        (wires (R.remaining reader.old.reader) (W.contents writer.old) (unguarded guard (through gate.old.guarding (G.posts gate.old.gate))))
+        (wires (R.remaining reader.new.reader) (W.contents writer.new) (unguarded guard (through gate.new.guarding (G.posts gate.new.gate)))) }
+{
+    match guard {
+        None => run_link(link, reader, writer, gate, TURNS),
+        Some(guard) => {
+            gate.guard(Some(Guarding { guard, clock }));
+            let end = run_link(link, reader, writer, gate, TURNS);
+            gate.guard(None);
+            end
         }
     }
 }

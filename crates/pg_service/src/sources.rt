@@ -1,14 +1,15 @@
 //! Workers that call sources.
 
 use crate::finder::Lookup;
-use crate::journal::{Journal, Notice};
+use crate::journal::{Detail, Entry, Journal, Notice, Whom};
 use crate::mail::{Mailbox, PortOrder, SourceOrder};
 use crate::plan::{Due, Phase};
 use crate::source::{SourceLine, Turn};
-use crate::waiting::{PATIENCE_MS, Waiting};
+use crate::waiting::{PATIENCE_MS, Waiting, sooner};
 use crate::watched::{Seen, Watched};
 use mio::net::TcpStream;
 use mio::{Interest, Poll, Token};
+use pg_audit::PmuStats;
 use pg_gateway::Gate;
 use pg_limits::{Budget, ClockGuard};
 use pg_serve::{Named, SharedGate, Work};
@@ -22,6 +23,50 @@ use std::time::{Duration, Instant, SystemTime};
 
 /// The reads of one turn of a source.
 pub(crate) const READS: u32 = 16;
+
+/// Each reason for which a frame can be ignored.
+const REASONS: [Refusal; 40] = [
+    Refusal::NoMemory,
+    Refusal::BadFirst,
+    Refusal::BadSecond,
+    Refusal::ShortSize,
+    Refusal::BadCheck,
+    Refusal::BadVersion,
+    Refusal::WrongType,
+    Refusal::BadLength,
+    Refusal::NoSuchStream,
+    Refusal::UnknownCommand,
+    Refusal::Unsupported,
+    Refusal::ReplyFull,
+    Refusal::FloatFormat,
+    Refusal::BadCounts,
+    Refusal::ConfigTooLarge,
+    Refusal::DuplicatePmu,
+    Refusal::WrongId,
+    Refusal::NoConfig,
+    Refusal::BadFraction,
+    Refusal::TimeEnd,
+    Refusal::FarClock,
+    Refusal::StaleConfig,
+    Refusal::NoSuchPmu,
+    Refusal::PmuExists,
+    Refusal::PmusFull,
+    Refusal::NoSuchSub,
+    Refusal::SubExists,
+    Refusal::SubsFull,
+    Refusal::GrantsFull,
+    Refusal::StreamExists,
+    Refusal::StreamsFull,
+    Refusal::BadDefinition,
+    Refusal::NotConnected,
+    Refusal::Busy,
+    Refusal::NotGranted,
+    Refusal::BadLine,
+    Refusal::BadSetup,
+    Refusal::BadTimeBase,
+    Refusal::ReadFault,
+    Refusal::WriteFault,
+];
 
 /// Where a source is.
 #[derive(Drop)]
@@ -52,6 +97,10 @@ struct Source {
     address: Option<Address>,
     stream: Option<TcpStream>,
     is_ready: bool,
+    // Whether it has announced a configuration since it was called.
+    has_announced: bool,
+    // What its link had counted when the log was told of it last.
+    told: PmuStats,
 }
 
 /// Whom a worker tells what: the subscribers' workers, whom it wakes where frames were made, and who looks up names.
@@ -153,6 +202,7 @@ impl<'a, R: Wait + Net + Clock, N: Named> SourceWorker<'a, R, N> {
             old.line = line;
             old.address = Some(address);
             old.stream = None;
+            old.told = PmuStats::new();
             return Ok(());
         }
         self.sources.push(Source {
@@ -160,6 +210,8 @@ impl<'a, R: Wait + Net + Clock, N: Named> SourceWorker<'a, R, N> {
             address: Some(address),
             stream: None,
             is_ready: false,
+            has_announced: false,
+            told: PmuStats::new(),
         })?;
         Ok(())
     }
@@ -253,7 +305,7 @@ impl<'a, R: Wait + Net + Clock, N: Named> SourceWorker<'a, R, N> {
                 return;
             };
             if source.line.source() == id && source.awaits_address() {
-                let notice = match address {
+                let entry = match address {
                     Some(address) => source.connect(
                         self.rt,
                         self.waiting.poll(),
@@ -263,18 +315,18 @@ impl<'a, R: Wait + Net + Clock, N: Named> SourceWorker<'a, R, N> {
                     ),
                     None => {
                         source.line.ended(self.now);
-                        Notice::NoAddress
+                        source.entry(Notice::NoAddress, Detail::Nothing)
                     }
                 };
                 self.due = Some(self.now);
-                self.note(notice);
+                self.neighbours.journal.tell(self.rt, entry);
             }
         }
     }
 
     /// Does what is due by now, and finds out when something is due next.
     fn do_due(&mut self) {
-        let mut next: Option<Duration> = None;
+        let mut next = None;
         for place in 0..self.sources.len() {
             let Some(source) = self.sources.get_mut(place) else {
                 break;
@@ -282,7 +334,7 @@ impl<'a, R: Wait + Net + Clock, N: Named> SourceWorker<'a, R, N> {
             match source.line.due(self.now) {
                 Due::Nothing => {}
                 Due::Call => {
-                    if let Some(notice) = source.call(
+                    if let Some(entry) = source.call(
                         self.rt,
                         self.alloc,
                         self.waiting.poll(),
@@ -291,28 +343,27 @@ impl<'a, R: Wait + Net + Clock, N: Named> SourceWorker<'a, R, N> {
                         self.neighbours,
                         self.now,
                     ) {
-                        self.neighbours.journal.note(notice);
+                        self.neighbours.journal.tell(self.rt, entry);
                     }
                 }
                 Due::GiveUp => {
                     source.end(self.now);
-                    self.neighbours.journal.note(Notice::GivenUp);
+                    let entry = source.entry(Notice::GivenUp, Detail::Nothing);
+                    self.neighbours.journal.tell(self.rt, entry);
                 }
                 Due::Silent => {
                     source.end(self.now);
-                    self.neighbours.journal.note(Notice::Silent);
+                    let entry = source.entry(Notice::Silent, Detail::Nothing);
+                    self.neighbours.journal.tell(self.rt, entry);
                 }
             }
-            next = match (next, source.line.plan().left(self.now)) {
-                (Some(next), Some(left)) => Some(next.min(left)),
-                (Some(next), None) => Some(next),
-                (None, left) => left,
+            let due = match source.line.plan().left(self.now) {
+                Some(left) => self.now.checked_add(left),
+                None => None,
             };
+            next = sooner(next, due);
         }
-        self.due = match next {
-            Some(next) => self.now.checked_add(next),
-            None => None,
-        };
+        self.due = next;
     }
 
     /// Serves the source at this place, whose socket is ready or whose reads were used up.
@@ -322,8 +373,8 @@ impl<'a, R: Wait + Net + Clock, N: Named> SourceWorker<'a, R, N> {
         };
         source.is_ready = false;
         if let Phase::Calling = source.line.plan().phase() {
-            if let Some(notice) = source.finish_call(self.now) {
-                self.neighbours.journal.note(notice);
+            if let Some(entry) = source.finish_call(self.now) {
+                self.neighbours.journal.tell(self.rt, entry);
             }
             self.due = Some(self.now);
         }
@@ -333,15 +384,14 @@ impl<'a, R: Wait + Net + Clock, N: Named> SourceWorker<'a, R, N> {
         if seen.made > 0 {
             self.neighbours.wake_ports();
         }
-        self.neighbours
-            .journal
-            .add(Notice::FarMeasurement, seen.far);
+        source.tell_seen(self.rt, self.neighbours.journal, &seen);
         match turn {
             Turn::Waits => {}
             Turn::More => self.mark(place),
-            Turn::Ended(_) => {
+            Turn::Ended(end) => {
+                let entry = source.entry(Notice::SourceEnded, Detail::Ended(end));
                 self.due = Some(self.now);
-                self.note(Notice::SourceEnded);
+                self.neighbours.journal.tell(self.rt, entry);
             }
         }
     }
@@ -359,6 +409,48 @@ impl<'a, R: Wait + Net + Clock, N: Named> SourceWorker<'a, R, N> {
 }
 
 impl Source {
+    /// What is told of it.
+    fn entry(&self, notice: Notice, detail: Detail) -> Entry {
+        Entry::new(notice, Whom::Source(self.line.source()), detail)
+    }
+
+    /// Tells what was met while it was served.
+    fn tell_seen<R: Wait>(&mut self, rt: &R, journal: &Journal, seen: &Seen) {
+        if let Some(rate) = seen.rate {
+            if !self.has_announced {
+                self.has_announced = true;
+                journal.tell(rt, self.entry(Notice::Announced, Detail::Rate(rate)));
+            }
+        }
+        if seen.far > 0 {
+            let mut entry = self.entry(Notice::FarMeasurement, Detail::Nothing);
+            entry.times = seen.far;
+            journal.tell(rt, entry);
+        }
+        if self.line.link().stats().by_reason != self.told.by_reason {
+            self.tell_ignored(rt, journal);
+        }
+    }
+
+    /// Tells for which reasons its frames were ignored since that was told last.
+    fn tell_ignored<R: Wait>(&mut self, rt: &R, journal: &Journal) {
+        let counted = *self.line.link().stats();
+        for reason in REASONS {
+            let at = usize::from(reason.number());
+            let (Some(new), Some(old)) = (counted.by_reason.get(at), self.told.by_reason.get(at))
+            else {
+                continue;
+            };
+            let times = new.saturating_sub(*old);
+            if times > 0 {
+                let mut entry = self.entry(Notice::Ignored, Detail::Because(reason));
+                entry.times = times;
+                journal.tell(rt, entry);
+            }
+        }
+        self.told = counted;
+    }
+
     /// Serves its connection, if it stands.
     fn serve<G: Gate>(
         &mut self,
@@ -394,7 +486,7 @@ impl Source {
         place: usize,
         neighbours: Neighbours<'_>,
         now: Instant,
-    ) -> Option<Notice> {
+    ) -> Option<Entry> {
         match self.next_address(alloc) {
             Ok(Some(Address::Known(address))) => {
                 Some(self.connect(rt, poll, place, address, now))
@@ -418,7 +510,7 @@ impl Source {
             }
             Err(_) => {
                 self.line.ended(now);
-                Some(Notice::MailFault)
+                Some(self.entry(Notice::MailFault, Detail::Nothing))
             }
         }
     }
@@ -443,11 +535,15 @@ impl Source {
         place: usize,
         address: SocketAddr,
         now: Instant,
-    ) -> Notice {
+    ) -> Entry {
         let both = Interest::READABLE | Interest::WRITABLE;
-        let Ok(mut stream) = TcpStream::connect(rt, address) else {
-            self.line.ended(now);
-            return Notice::NotMade;
+        self.has_announced = false;
+        let mut stream = match TcpStream::connect(rt, address) {
+            Ok(stream) => stream,
+            Err(error) => {
+                self.line.ended(now);
+                return self.entry(Notice::NotMade, Detail::System(error.kind()));
+            }
         };
         if poll
             .registry()
@@ -455,35 +551,37 @@ impl Source {
             .is_err()
         {
             self.line.ended(now);
-            return Notice::SocketFault;
+            return self.entry(Notice::SocketFault, Detail::Nothing);
         }
         self.stream = Some(stream);
         self.line.called(now);
-        Notice::Called
+        self.entry(Notice::Called, Detail::At(address))
     }
 
     /// Finds out whether the connection that was begun is made by now, or has failed.
-    fn finish_call(&mut self, now: Instant) -> Option<Notice> {
+    fn finish_call(&mut self, now: Instant) -> Option<Entry> {
         let Some(stream) = &self.stream else {
             return None;
         };
-        match stream.take_error() {
-            Ok(None) => {}
-            _ => {
-                self.end(now);
-                return Some(Notice::NotMade);
-            }
+        let failed = match stream.take_error() {
+            Ok(None) => None,
+            Ok(Some(error)) | Err(error) => Some(error.kind()),
+        };
+        if let Some(kind) = failed {
+            self.end(now);
+            return Some(self.entry(Notice::NotMade, Detail::System(kind)));
         }
         if stream.peer_addr().is_err() {
             return None;
         }
         let is_set = stream.set_nodelay(true).is_ok();
         self.line.made(now);
-        if is_set {
-            Some(Notice::Made)
+        let notice = if is_set {
+            Notice::Made
         } else {
-            Some(Notice::SocketFault)
-        }
+            Notice::SocketFault
+        };
+        Some(self.entry(notice, Detail::Nothing))
     }
 
     /// Ends the connection, or the call.

@@ -7,7 +7,7 @@ use std::alloc::Global;
 use std::io::ErrorKind;
 use std::net::Net;
 use std::rt::Clock;
-use std::time::Duration;
+use std::time::{Duration, Instant};
 use std::{io, thread};
 
 /// How many sockets one wait tells of. The others come at the next one.
@@ -81,5 +81,14 @@ impl Waiting {
     /// The sockets that the last wait named.
     pub(crate) fn named(&self) -> &[usize] {
         &self.named
+    }
+}
+
+/// The sooner of two times; None is never.
+pub(crate) fn sooner(one: Option<Instant>, other: Option<Instant>) -> Option<Instant> {
+    match (one, other) {
+        (Some(one), Some(other)) => Some(one.min(other)),
+        (one, None) => one,
+        (None, other) => other,
     }
 }

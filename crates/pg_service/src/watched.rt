@@ -4,6 +4,7 @@ ghost use Rattle.std.specs.Prelude.{◌≡◌, None, true, false};
 ghost use Rattle.pg_gateway.specs.Posting.{Answers};
 ghost use Rattle.pg_service.specs.Posts.{through};
 
+use pg_command::{Command, Word};
 use pg_data::DataFrame;
 use pg_gateway::{Event, Gate, Reply};
 use pg_limits::ClockGuard;
@@ -23,6 +24,10 @@ pub struct Seen {
     pub far: u64,
     /// The bytes that the last drain handed out.
     pub handed: usize,
+    /// The frames that were dropped before those that were handed out.
+    pub gap: u64,
+    /// The last command that started or stopped a stream, if there was one.
+    pub switched: Option<Command>,
 }
 
 impl Seen {
@@ -34,6 +39,8 @@ impl Seen {
             rate: None,
             far: 0,
             handed: 0,
+            gap: 0,
+            switched: None,
         }
     }
 }
@@ -162,17 +169,33 @@ impl<G: Gate> Gate for Watched<G> {
         if self.refuses(&event) {
             return Reply::Refused(Refusal::FarClock);
         }
+        let switch = switch_in(&event);
         let reply = self.gate.post(event);
         match &reply {
-            Reply::Done { made, .. } => self.seen.made = self.seen.made.saturating_add(*made),
+            Reply::Done { made, .. } => {
+                self.seen.made = self.seen.made.saturating_add(*made);
+                self.seen.switched = switch.or(self.seen.switched);
+            }
             Reply::Drained { out, .. } => {
-                self.seen.handed = match out {
-                    Ok(drained) => drained.len,
-                    Err(_) => 0,
-                };
+                self.seen.handed = 0;
+                if let Ok(drained) = out {
+                    self.seen.handed = drained.len;
+                    self.seen.gap = self.seen.gap.saturating_add(drained.gap);
+                }
             }
             _ => {}
         }
         reply
+    }
+}
+
+/// The command that an event is, if it is one to start or to stop a stream.
+fn switch_in(event: &Event) -> Option<Command> {
+    match event {
+        Event::Command(_, command) => match Word::of(command.word) {
+            Some(Word::StartData | Word::StopData) => Some(*command),
+            _ => None,
+        },
+        _ => None,
     }
 }

@@ -1,6 +1,7 @@
 //! Subscribers over memory: who may connect, who is served what, and who is hung up when.
 use crate::frames::{
-    COMMANDS_101, CONFIG_7, DATA_7, HANDED_101, after, done, gateway, source, subscriber,
+    COMMANDS_101, CONFIG_7, DATA_7, HANDED_101, add_ring, after, data_of, done, gateway, source,
+    subscriber,
 };
 use pg_gateway::{Event, Gate, Gateway};
 use pg_ingest::fakes::{FakeReader, FakeWriter};
@@ -222,4 +223,26 @@ fn idle_subscriber(rt: HostRuntime) {
     assert!(rt; door.expire(&mut gate, after(&rt, start, 8_999)).is_none());
     let gone = door.expire(&mut gate, after(&rt, start, 9_000));
     assert_eq!(rt; gone, Some(Overdue::Idle));
+}
+
+/// What waits is handed out in one turn, though a drain holds no more than 16,384 bytes: 700 frames of 26 bytes.
+#[test]
+fn drained_until_empty(rt: HostRuntime) {
+    let alloc = rt.alloc();
+    let now = Instant::now(&rt).expect(&rt, "a clock");
+    let mut gate = Watched::new(gateway(&rt, alloc));
+    add_ring(&rt, alloc, &mut gate, 30, 101, 1024);
+    let mut link = Link::new(alloc, source(&rt, 7)).expect(&rt, "memory");
+    let mut to = writer(alloc, 0);
+    run_link(&mut link, &mut reader(CONFIG_7, 1), &mut to, &mut gate, 10);
+    let mut door = Door::new(subscriber(&rt, 30), rules(false));
+    enter(&rt, alloc, &mut door, &mut gate, now);
+    let mut out = writer(alloc, 0);
+    door.serve(&mut reader(COMMANDS_101, 1), &mut out, &mut gate, now);
+    for second in 101..801 {
+        let frame = data_of(&rt, alloc, second);
+        run_link(&mut link, &mut reader(&frame, 1), &mut to, &mut gate, 10);
+    }
+    assert_eq!(rt; door.hand_out(&mut out, &mut gate, now), Stay::Waits);
+    assert_eq!(rt; out.inner.taken.len(), 74 + 700 * 26);
 }

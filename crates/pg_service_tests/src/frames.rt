@@ -53,8 +53,20 @@ pub(crate) fn add_sub(
     number: u16,
     stream: u16,
 ) {
+    add_ring(rt, alloc, gate, number, stream, 4);
+}
+
+/// The same, whose ring holds so many frames.
+pub(crate) fn add_ring(
+    rt: &impl Abort,
+    alloc: Global,
+    gate: &mut impl Gate,
+    number: u16,
+    stream: u16,
+    ring: u16,
+) {
     let sub = subscriber(rt, number);
-    let ring = RingSize::new(4).expect(rt, "a size");
+    let ring = RingSize::new(ring).expect(rt, "a size");
     let bytes = RingBytes::new(16_777_216).expect(rt, "a size");
     let mut keys = Vec::new(alloc);
     keys.push(key(rt, 7)).expect(rt, "memory");
@@ -86,4 +98,18 @@ pub(crate) fn after(rt: &impl Abort, start: Instant, millis: u64) -> Instant {
     start
         .checked_add(Duration::from_millis(millis))
         .expect(rt, "a time")
+}
+
+/// PMU 7's data frame of this second.
+pub(crate) fn data_of(rt: &impl Abort, alloc: Global, second: u32) -> Vec<u8> {
+    let mut frame = Vec::new(alloc);
+    frame.extend_from_slice(&DATA_7[..6]).expect(rt, "memory");
+    let soc = second.to_be_bytes();
+    frame.extend_from_slice(&soc).expect(rt, "memory");
+    frame
+        .extend_from_slice(&DATA_7[10..24])
+        .expect(rt, "memory");
+    let check = pg_wire::check(&frame).to_be_bytes();
+    frame.extend_from_slice(&check).expect(rt, "memory");
+    frame
 }

@@ -9,10 +9,20 @@ mod doors;
 #[cfg(test)]
 mod frames;
 #[cfg(test)]
+mod logging;
+#[cfg(test)]
 mod loopback;
 #[cfg(test)]
 mod plans;
 #[cfg(test)]
 mod registering;
 #[cfg(test)]
+mod setups;
+#[cfg(test)]
 mod sources;
+#[cfg(test)]
+mod ticking;
+#[cfg(test)]
+mod turns;
+#[cfg(test)]
+mod watching;

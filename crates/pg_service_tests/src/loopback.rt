@@ -9,8 +9,8 @@ use pg_limits::Allow;
 use pg_ring::{RingBytes, RingSize};
 use pg_serve::{Named, Seat, Shared, SharedGate, Work, run_workers};
 use pg_service::{
-    Address, Dial, DoorRules, Journal, Lookup, Mailbox, Neighbours, Notice, Port, PortOrder,
-    PortWorker, SourceOrder, SourceWorker, Waiting,
+    Address, Dial, DoorRules, Entry, Journal, Lookup, Mailbox, Neighbours, Notice, Port, PortOrder,
+    PortWorker, SourceOrder, SourceWorker, Waiting, Whom,
 };
 use pg_stream::{Definition, HeaderText, Members};
 use pg_wire::{PmuKey, StreamId};
@@ -71,6 +71,7 @@ struct Told {
     first: Vec<u8>,
     second: Vec<u8>,
     is_over: bool,
+    met: Vec<Entry>,
 }
 
 /// The mailboxes of the workers.
@@ -180,7 +181,7 @@ impl<R: Wait + Net<Listener = TcpListener, Stream = TcpStream> + Clock, N: Named
 }
 
 /// Posts an event.
-fn post<R: Wait>(rt: &R, shared: &Shared, seat: Seat, event: Event) -> Seat
+pub(crate) fn post<R: Wait>(rt: &R, shared: &Shared, seat: Seat, event: Event) -> Seat
     requires { seat.table ≡ shared.now }
     ensures { result.table ≡ shared.now }
 {
@@ -205,7 +206,7 @@ fn definition(rt: &impl Abort, alloc: Global, stream: u16, member: PmuKey) -> De
 }
 
 /// Posts PMUs 7 and 9, subscriber 1 with stream 101 of 7, and subscriber 20 with stream 2000 of 9.
-fn set_up<R: Wait + Abort>(rt: &R, alloc: Global, shared: &Shared, seat: Seat) -> Seat
+pub(crate) fn set_up<R: Wait + Abort>(rt: &R, alloc: Global, shared: &Shared, seat: Seat) -> Seat
     requires { seat.table ≡ shared.now }
     ensures { result.table ≡ shared.now }
 {
@@ -329,6 +330,7 @@ fn talked<
         first: Vec::new(alloc),
         second: Vec::new(alloc),
         is_over: false,
+        met: Vec::new(alloc),
     };
     let stop = AtomicBool::new(false);
     let peers = Peers {
@@ -348,7 +350,9 @@ fn talked<
     let back = run_workers(rt, alloc, workers, u64::MAX, &stop).expect(rt, "threads");
     for worker in back {
         if let Worker::Peers(peers) = worker {
-            return Some(peers.told);
+            let mut told = peers.told;
+            told.met = boxes.journal.take(rt, alloc);
+            return Some(told);
         }
     }
     None
@@ -369,4 +373,27 @@ fn loopback(rt: HostRuntime) {
     assert!(rt; told.nine.as_slice() == ASKED_9);
     assert!(rt; told.first.as_slice() == HANDED_101);
     assert!(rt; told.second.as_slice() == HANDED_2000);
+    let times = |notice, whom| met(&told.met, notice, whom);
+    let (seven, nine) = (source(&rt, 7), source(&rt, 9));
+    assert_eq!(rt; times(Notice::Called, Whom::Source(seven)), 2);
+    assert_eq!(rt; times(Notice::Called, Whom::Source(nine)), 1);
+    assert_eq!(rt; times(Notice::Announced, Whom::Source(seven)), 1);
+    assert_eq!(rt; times(Notice::Announced, Whom::Source(nine)), 1);
+    let (first, second) = (subscriber(&rt, 1), subscriber(&rt, 20));
+    assert_eq!(rt; times(Notice::Connected, Whom::Subscriber(first)), 1);
+    assert_eq!(rt; times(Notice::Connected, Whom::Subscriber(second)), 1);
+    assert_eq!(rt; times(Notice::Started, Whom::Subscriber(first)), 1);
+    assert_eq!(rt; times(Notice::HungUp, Whom::Subscriber(second)), 1);
+    assert_eq!(rt; times(Notice::HungUp, Whom::Subscriber(first)), 0);
+}
+
+/// How often the log was told this of this one.
+fn met(entries: &[Entry], notice: Notice, whom: Whom) -> u64 {
+    let mut times = 0u64;
+    for entry in entries {
+        if entry.notice == notice && entry.whom == whom {
+            times = times.saturating_add(entry.times);
+        }
+    }
+    times
 }

@@ -33,9 +33,10 @@ pub fn quantity_of(phasor: u8) -> Quantity {
     }
 }
 
-/// Whether PMU i tells magnitude and angle, which each second one does; the others tell rectangular parts.
-pub fn is_polar(pmu: u8) -> bool {
-    pmu % 2 == 1
+/// Whether the PMU at a place of the grid tells magnitude and angle, which each second one does; the others tell rectangular
+/// parts.
+pub fn is_polar(place: u8) -> bool {
+    place % 2 == 1
 }
 
 /// The configuration blocks of all PMUs.
@@ -58,7 +59,7 @@ fn add_block(
     let channels = settings.channels;
     add_name(out, &format!(in alloc; "SIMULATED {id}")?)?;
     add_word(out, id)?;
-    add_word(out, u16::from(is_polar(pmu)))?;
+    add_word(out, u16::from(is_polar(settings.place.wrapping_add(pmu))))?;
     add_word(out, u16::from(channels.phasors))?;
     add_word(out, u16::from(channels.analogs))?;
     add_word(out, u16::from(channels.digitals))?;

@@ -26,10 +26,7 @@ pub use settings::{
     Channels, Faults, Misword, Nominal, Numbers, Settings, SimulateWords, address, number,
     read_settings,
 };
-pub use showing::{Style, WatchWords, Watched, read_watched, watch, watch_until};
+pub use showing::{Audience, Style, WatchWords, Watched, read_watched, watch, watch_before};
 pub use simulator::{Happening, Simulator};
 pub use source::{Heard, Source, SourceCounts};
 pub use watcher::{Seen, Stamp, Tally, Trouble, Watcher};
-
-#[cfg(test)]
-mod tests;

@@ -47,11 +47,12 @@ pub fn add_measured(
     at: Moment,
     pmu: u8,
 ) -> Result<(), AllocError> {
-    let grid = grid_at(at, pmu % 2 == 1);
+    let place = settings.place.wrapping_add(pmu);
+    let grid = grid_at(at, place % 2 == 1);
     add_word(out, 0)?;
     for k in 0..settings.channels.phasors {
-        let phasor = phasor_at(at, &grid, settings.nominal, pmu, k);
-        if is_polar(pmu) {
+        let phasor = phasor_at(at, &grid, settings.nominal, place, k);
+        if is_polar(place) {
             add_polar(out, phasor)?;
         } else {
             add_rectangular(out, phasor)?;
@@ -60,10 +61,10 @@ pub fn add_measured(
     add_count(out, grid.deviation / 1_000)?;
     add_count(out, grid.change / 10_000)?;
     for k in 0..settings.channels.analogs {
-        add_count(out, analog_at(at, &grid, pmu, k))?;
+        add_count(out, analog_at(at, &grid, place, k))?;
     }
     for k in 0..settings.channels.digitals {
-        add_word(out, digital_at(at, pmu, k))?;
+        add_word(out, digital_at(at, place, k))?;
     }
     Ok(())
 }

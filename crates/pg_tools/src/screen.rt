@@ -122,6 +122,17 @@ pub struct View<'a> {
     pub delay: Option<i64>,
     /// What was wrong last.
     pub trouble: Option<Trouble>,
+    /// What stands below it all.
+    pub notes: &'a str,
+}
+
+/// What stands on the terminal before a screen is drawn.
+#[derive(Clone, Copy)]
+pub struct Before {
+    /// The lines of the last screen.
+    pub lines: usize,
+    /// How many lines were typed below it; `None` where no lines are read.
+    pub typed: Option<usize>,
 }
 
 /// The lines of a screen, as they are made.
@@ -147,21 +158,14 @@ impl Page {
     }
 }
 
-/// The text that draws a screen over the last one, which had so many lines, and how many lines it has. The cursor stands in the
-/// line below it, so that whatever ends the program leaves the terminal as it was.
-pub fn draw(
-    alloc: Global,
-    view: &View<'_>,
-    lines_before: usize,
-) -> Result<(String, usize), AllocError> {
+/// The text that draws a screen over the last one, and how many lines it has. The cursor stands in the line below it, so that
+/// whatever ends the program leaves the terminal as it was. Where lines are read, that one is left as it is while it is typed.
+pub fn draw(alloc: Global, view: &View<'_>, before: Before) -> Result<(String, usize), AllocError> {
     let mut page = Page {
         text: String::new(alloc),
         line: String::new(alloc),
         lines: 0,
     };
-    if lines_before > 0 {
-        write!(page.text, "\x1b[{lines_before}A\r")?;
-    }
     draw_head(&mut page, view)?;
     if let Some(frame) = view.frame {
         let count = frame.count();
@@ -172,10 +176,34 @@ pub fn draw(
             }
         }
     }
-    // What is left of a longer screen.
-    page.text.push_str("\x1b[J")?;
+    for note in view.notes.lines() {
+        page.line.push_str(note)?;
+        page.end_line()?;
+    }
     let Page { text, lines, .. } = page;
-    Ok((text, lines))
+    Ok((over(alloc, &text, lines, before)?, lines))
+}
+
+/// The text that draws these lines over what stands there.
+fn over(
+    alloc: Global,
+    lines_text: &String,
+    lines: usize,
+    before: Before,
+) -> Result<String, AllocError> {
+    let keeps_input = before.typed == Some(0) && before.lines == lines;
+    let mut text = String::new(alloc);
+    if keeps_input {
+        text.push_str("\x1b7")?;
+    }
+    let up = before.lines.saturating_add(before.typed.unwrap_or(0));
+    if up > 0 {
+        write!(text, "\x1b[{up}A\r")?;
+    }
+    text.push_str(lines_text)?;
+    // What is left of a longer screen, or was typed.
+    text.push_str(if keeps_input { "\x1b8" } else { "\x1b[J" })?;
+    Ok(text)
 }
 
 /// The head: who, when, what was counted.

@@ -117,6 +117,9 @@ pub struct Settings {
     pub channels: Channels,
     /// The grid's frequency.
     pub nominal: Nominal,
+    /// The place of its first PMU in the grid; the others follow. PMUs at odd places swing against the others, and tell polar
+    /// phasors.
+    pub place: u8,
     /// What is done wrong.
     pub faults: Faults,
 }
@@ -208,6 +211,7 @@ pub fn read_settings(words: &SimulateWords<'_>) -> Result<(SocketAddr, Settings)
         rate: read_rate(words.rate)?,
         channels: read_channels(words)?,
         nominal: read_nominal(words.nominal)?,
+        place: 0,
         faults: read_faults(words.faults)?,
     };
     Ok((listen, settings))

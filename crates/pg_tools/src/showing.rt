@@ -4,7 +4,7 @@ use crate::fault::Fault;
 use crate::lines::{Instant, write_heading, write_second, write_values};
 use crate::moment::Moment;
 use crate::playing::written;
-use crate::screen::{History, View, draw};
+use crate::screen::{Before, History, View, draw};
 use crate::settings::{Misword, address, number};
 use crate::watcher::{Seen, Trouble, Watcher};
 use mio::net::TcpStream;
@@ -17,7 +17,6 @@ use std::io::{ErrorKind, Read, Write};
 use std::net::{Net, Shutdown, SocketAddr};
 use std::rt::{Clock, Files};
 use std::sync::Arc;
-use std::sync::atomic::{AtomicBool, Ordering};
 use std::time::Duration;
 use std::{fs, io};
 
@@ -54,6 +53,43 @@ pub enum Style {
     Plain,
     /// A line for each data frame, of values with commas between.
     Csv,
+    /// Nothing, but for what is wrong.
+    Quiet,
+}
+
+/// Who looks on while a stream is watched.
+pub trait Audience {
+    /// A data frame was taken.
+    fn frame(&mut self, frame: &DataFrame);
+
+    /// A turn begins, of which there are ten a second or more, with what has come so far. Answers whether to go on.
+    fn turn(&mut self, watcher: &Watcher) -> bool;
+
+    /// The lines that stand below the screen.
+    fn notes(&self) -> &str;
+
+    /// How many lines were typed below the screen since the last call. None where no lines are read.
+    fn take_typed(&mut self) -> Option<usize>;
+}
+
+/// Nobody looks on.
+#[derive(Clone, Copy)]
+struct Nobody;
+
+impl Audience for Nobody {
+    fn frame(&mut self, frame: &DataFrame) {}
+
+    fn turn(&mut self, watcher: &Watcher) -> bool {
+        true
+    }
+
+    fn notes(&self) -> &str {
+        ""
+    }
+
+    fn take_typed(&mut self) -> Option<usize> {
+        None
+    }
 }
 
 /// What is watched, and how.
@@ -167,19 +203,6 @@ pub fn watch<R>(rt: &R, watched: &Watched<'_>) -> Result<bool, Fault>
 where
     R: Net + Clock + Files + Print + Eprint + Alloc<A = Global>,
 {
-    watch_until(rt, watched, &AtomicBool::new(false))
-}
-
-/// As `watch`, and it ends soon after `stop` is set too.
-///
-/// # Errors
-///
-/// As `watch`.
-pub fn watch_until<R>(rt: &R, watched: &Watched<'_>, stop: &AtomicBool) -> Result<bool, Fault>
-where
-    R: Net + Clock + Files + Print + Eprint + Alloc<A = Global>,
-{
-    let alloc = rt.alloc();
     let mut raw = match watched.raw {
         None => None,
         Some(path) => match fs::create(rt, path) {
@@ -187,6 +210,24 @@ where
             Err(error) => return Err(Fault::File(error)),
         },
     };
+    watch_before(rt, rt.alloc(), watched, &mut raw, &mut Nobody)
+}
+
+/// As `watch`, before an audience, which ends it too. The bytes that come are kept by `raw`; no file is opened.
+///
+/// # Errors
+///
+/// As `watch`; `File`, where `raw` can't be written.
+pub fn watch_before<R, W: Write, A: Audience>(
+    rt: &R,
+    alloc: Global,
+    watched: &Watched<'_>,
+    raw: &mut Option<W>,
+    audience: &mut A,
+) -> Result<bool, Fault>
+where
+    R: Net + Clock + Print + Eprint,
+{
     let mut poll = Poll::new(rt)?;
     let mut events = Events::with_capacity(alloc, 4).map_err(io::Error::from)?;
     let stream = connect(rt, watched.address, &mut poll, &mut events)?;
@@ -196,7 +237,7 @@ where
     for _ in 0..u64::MAX {
         send_owed(rt, &stream, &mut show)?;
         poll.poll(&mut events, Some(Duration::from_millis(TURN)))?;
-        read_all(rt, &stream, &mut show, watched, &mut raw)?;
+        read_all(rt, &stream, &mut show, watched, raw, audience)?;
         let at = now(rt)?;
         if at.micros.saturating_sub(second.micros) >= SECOND {
             second = Moment {
@@ -204,11 +245,12 @@ where
             };
             show.end_second(rt, watched, at.micros.saturating_sub(start.micros))?;
         }
+        let goes_on = audience.turn(&show.watcher);
         if watched.style == Style::Screen {
-            show.draw(rt, watched)?;
+            show.draw(rt, watched, audience)?;
         }
         let micros = at.micros.saturating_sub(start.micros);
-        if show.is_over || stop.load(Ordering::SeqCst) || has_all(&show, watched, micros) {
+        if show.is_over || !goes_on || has_all(&show, watched, micros) {
             break;
         }
     }
@@ -268,12 +310,13 @@ fn send_owed<R: Clock>(rt: &R, stream: &TcpStream, show: &mut Show) -> Result<()
 }
 
 /// Reads what is there, keeps it and shows it.
-fn read_all<R: Files + Clock + Print + Eprint>(
+fn read_all<R: Clock + Print + Eprint, W: Write, A: Audience>(
     rt: &R,
     stream: &TcpStream,
     show: &mut Show,
     watched: &Watched<'_>,
-    raw: &mut Option<R::File>,
+    raw: &mut Option<W>,
+    audience: &mut A,
 ) -> Result<(), Fault> {
     let mut piece = [0; PIECE];
     for _ in 0..READS {
@@ -290,7 +333,7 @@ fn read_all<R: Files + Clock + Print + Eprint>(
                         return Err(Fault::File(error));
                     }
                 }
-                show.take(rt, watched, bytes)?;
+                show.take(rt, watched, bytes, audience)?;
                 show.delay = delay_of(show.latest.as_ref(), now(rt)?);
             }
             Err(error) if error.kind() == ErrorKind::WouldBlock => return Ok(()),
@@ -354,11 +397,12 @@ impl Show {
     }
 
     /// Takes the bytes that came.
-    fn take<R: Print + Eprint>(
+    fn take<R: Print + Eprint, A: Audience>(
         &mut self,
         rt: &R,
         watched: &Watched<'_>,
         bytes: &[u8],
+        audience: &mut A,
     ) -> Result<(), Fault> {
         let mut at = 0;
         for _ in 0..=bytes.len() {
@@ -369,7 +413,10 @@ impl Show {
                 Seen::More if at >= bytes.len() => return Ok(()),
                 Seen::More | Seen::Header => {}
                 Seen::Config(config) => self.begin(rt, watched, &config)?,
-                Seen::Frame(frame) => self.show_frame(rt, watched, frame)?,
+                Seen::Frame(frame) => {
+                    audience.frame(&frame);
+                    self.show_frame(rt, watched, frame)?;
+                }
                 Seen::Trouble(trouble) => self.tell(rt, watched, trouble)?,
                 Seen::Ended => {
                     self.is_over = true;
@@ -501,7 +548,16 @@ impl Show {
     }
 
     /// Draws the screen.
-    fn draw<R: Print>(&mut self, rt: &R, watched: &Watched<'_>) -> Result<(), Fault> {
+    fn draw<R: Print, A: Audience>(
+        &mut self,
+        rt: &R,
+        watched: &Watched<'_>,
+        audience: &mut A,
+    ) -> Result<(), Fault> {
+        let before = Before {
+            lines: self.lines,
+            typed: audience.take_typed(),
+        };
         let view = View {
             address: watched.address,
             stream: self.watcher.stream().get(),
@@ -513,8 +569,9 @@ impl Show {
             histories: &self.histories,
             delay: self.delay,
             trouble: self.trouble,
+            notes: audience.notes(),
         };
-        let (text, lines) = made(draw(self.alloc, &view, self.lines))?;
+        let (text, lines) = made(draw(self.alloc, &view, before))?;
         self.lines = lines;
         written(print!(rt; "{text}"))
     }
@@ -529,7 +586,7 @@ impl Show {
         let wrong = tally.wrong_checks;
         let order = tally.not_rising;
         let misfits = tally.misfits;
-        if watched.style == Style::Csv {
+        if let Style::Csv | Style::Quiet = watched.style {
             return Ok(());
         }
         written(println!(rt;

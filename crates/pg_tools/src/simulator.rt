@@ -122,15 +122,78 @@ impl Simulator {
             None => longest,
         };
         self.poll.poll(&mut self.events, Some(wait))?;
+        self.attend(now(rt)?, happened)?;
+        self.play(now(rt)?, happened)?;
+        self.send(&[], happened)
+    }
+
+    /// Takes a connection where there is none, and obeys the commands that have come. It waits for nothing. What happened is
+    /// added to `happened`.
+    ///
+    /// # Errors
+    ///
+    /// `OutOfMemory`, and that of the system, where a connection can't be waited for.
+    pub fn attend(&mut self, at: Moment, happened: &mut Vec<Happening>) -> io::Result<()> {
         self.accept(happened)?;
-        let Some(connection) = self.connection.take() else {
+        let Some(mut connection) = self.connection.take() else {
             return Ok(());
         };
-        self.connection = self.serve(rt, connection, happened)?;
-        if self.connection.is_none() {
-            self.source.reset();
-            happened.push(Happening::Closed)?;
+        if self.read(at, &mut connection, happened)? {
+            self.connection = Some(connection);
+            return Ok(());
         }
+        self.close(happened)
+    }
+
+    /// Adds the data frames that are due at an instant to `frames`; they are passed to `send`.
+    ///
+    /// # Errors
+    ///
+    /// `OutOfMemory`.
+    pub fn due(&mut self, at: Moment, frames: &mut Vec<u8>) -> io::Result<()> {
+        told(self.source.due(at, frames))
+    }
+
+    /// Passes the data frames that are due at an instant over.
+    pub fn pass(&mut self, at: Moment) {
+        self.source.pass(at);
+    }
+
+    /// Sends these bytes behind those that wait, as far as the peer takes them; the rest waits. Where nobody is connected they
+    /// are dropped. What happened is added to `happened`.
+    ///
+    /// # Errors
+    ///
+    /// `OutOfMemory`.
+    pub fn send(&mut self, bytes: &[u8], happened: &mut Vec<Happening>) -> io::Result<()> {
+        let Some(mut connection) = self.connection.take() else {
+            return Ok(());
+        };
+        connection.out.extend_from_slice(bytes)?;
+        if write_waiting(&mut connection) {
+            self.connection = Some(connection);
+            return Ok(());
+        }
+        self.close(happened)
+    }
+
+    /// The connection has ended.
+    fn close(&mut self, happened: &mut Vec<Happening>) -> io::Result<()> {
+        self.source.reset();
+        happened.push(Happening::Closed)?;
+        Ok(())
+    }
+
+    /// Adds the data frames that are due to what waits for the peer. Where too much waits they are left out.
+    fn play(&mut self, at: Moment, happened: &mut Vec<Happening>) -> io::Result<()> {
+        let Some(connection) = &mut self.connection else {
+            return Ok(());
+        };
+        if connection.out.len() <= WAITING {
+            return told(self.source.due(at, &mut connection.out));
+        }
+        self.source.pass(at);
+        happened.push(Happening::Stalled)?;
         Ok(())
     }
 
@@ -155,46 +218,34 @@ impl Simulator {
         Ok(())
     }
 
-    /// Serves the connection, and gives it back unless it has ended.
-    fn serve<R: Clock>(
+    /// Reads the peer's bytes and obeys them, and tells whether the connection stays open.
+    fn read(
         &mut self,
-        rt: &R,
-        mut connection: Connection,
+        at: Moment,
+        connection: &mut Connection,
         happened: &mut Vec<Happening>,
-    ) -> io::Result<Option<Connection>> {
-        let mut is_open = true;
+    ) -> io::Result<bool> {
         for _ in 0..READS {
             let mut piece = [0; PIECE];
             match (&connection.stream).read(&mut piece) {
-                Ok(0) => is_open = false,
+                Ok(0) => return Ok(false),
                 Ok(read) => {
-                    is_open = self.hear(rt, &piece[..read], &mut connection.out, happened)?;
+                    if !self.hear(at, &piece[..read], &mut connection.out, happened)? {
+                        return Ok(false);
+                    }
                 }
                 Err(error) if error.kind() == ErrorKind::WouldBlock => break,
                 Err(error) if error.kind() == ErrorKind::Interrupted => {}
-                Err(_) => is_open = false,
-            }
-            if !is_open {
-                return Ok(None);
+                Err(_) => return Ok(false),
             }
         }
-        if connection.out.len() <= WAITING {
-            told(self.source.due(now(rt)?, &mut connection.out))?;
-        } else {
-            self.source.pass(now(rt)?);
-            happened.push(Happening::Stalled)?;
-        }
-        if send(&mut connection) {
-            Ok(Some(connection))
-        } else {
-            Ok(None)
-        }
+        Ok(true)
     }
 
     /// Obeys what stands in these bytes, and tells whether the connection stays open.
-    fn hear<R: Clock>(
+    fn hear(
         &mut self,
-        rt: &R,
+        now: Moment,
         bytes: &[u8],
         out: &mut Vec<u8>,
         happened: &mut Vec<Happening>,
@@ -204,7 +255,7 @@ impl Simulator {
             if at < bytes.len() {
                 at += self.source.feed(&bytes[at..]);
             }
-            let heard = told(self.source.next(now(rt)?, out))?;
+            let heard = told(self.source.next(now, out))?;
             match heard {
                 Heard::More if at >= bytes.len() => return Ok(true),
                 Heard::More => {}
@@ -220,7 +271,7 @@ impl Simulator {
 }
 
 /// Sends what waits, as far as the peer takes it, and tells whether the connection stays open.
-fn send(connection: &mut Connection) -> bool {
+fn write_waiting(connection: &mut Connection) -> bool {
     for _ in 0..READS {
         let rest = connection.out.get(connection.begun..).unwrap_or(&[]);
         if rest.is_empty() {

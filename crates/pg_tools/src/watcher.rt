@@ -169,7 +169,7 @@ enum Told {
 }
 
 /// A subscriber of one stream, or of a source (own rule). It asks for CFG-2 and the header, starts the stream once it knows the
-/// configuration, and checks each frame.
+/// configuration, asks for the header again, and checks each frame.
 #[derive(Drop)]
 pub struct Watcher {
     alloc: Global,
@@ -183,6 +183,7 @@ pub struct Watcher {
     owes_start: bool,
     is_asked: bool,
     is_started: bool,
+    headers: u32,
     is_changing: bool,
     is_ended: bool,
     tally: Tally,
@@ -207,6 +208,7 @@ impl Watcher {
             owes_start: false,
             is_asked: false,
             is_started: false,
+            headers: 0,
             is_changing: false,
             is_ended: false,
             tally: Tally::NONE,
@@ -247,8 +249,14 @@ impl Watcher {
         taken
     }
 
-    /// The next command that the peer is owed: 5 and 3 at first, 2 once the configuration is known, and 5 again where it may
-    /// have changed.
+    /// Whether the peer has certainly obeyed the start: it has answered command 3 that went behind it. Each data frame of a slot
+    /// from now on is to come.
+    pub fn is_on(&self) -> bool {
+        self.is_started && self.headers >= 2
+    }
+
+    /// The next command that the peer is owed: 5 and 3 at first, 2 and 3 once the configuration is known, and 5 again where it
+    /// may have changed.
     pub fn next_out(&mut self, soc: u32) -> Option<[u8; 18]> {
         let word = if self.owes_config {
             self.owes_config = false;
@@ -260,6 +268,8 @@ impl Watcher {
         } else if self.owes_start {
             self.owes_start = false;
             self.is_started = true;
+            // A peer obeys in order, so that the answer to this tells that the start was obeyed.
+            self.owes_header = true;
             Word::StartData
         } else {
             return None;
@@ -301,6 +311,7 @@ impl Watcher {
             Told::Frame(frame) => self.take_frame(frame),
             Told::Header(text) => {
                 self.header = text;
+                self.headers = self.headers.saturating_add(1);
                 Seen::Header
             }
             Told::Trouble(trouble) => {

@@ -16,6 +16,7 @@ pub(crate) fn settings(rt: &impl Abort, pmus: u8, faults: Faults) -> Settings {
         rate: Rate::new(30).expect(rt, "a rate"),
         channels: Channels::new(3, 1, 1).expect(rt, "channels"),
         nominal: Nominal::Sixty,
+        place: 0,
         faults,
     }
 }

@@ -11,4 +11,6 @@ mod hostile;
 #[cfg(test)]
 mod playing;
 #[cfg(test)]
+mod signals;
+#[cfg(test)]
 mod watching;

@@ -4,4 +4,4 @@ use Rattle.pg_service.proofs.Own.{own_one}
 use Rattle.pg_service.proofs.door.post_connect.Goals as goal
 
 pub returns : goal.returns
-returns g c = record { own = own_one _ _ _ _ c.post.ensures.posted (connect, refl) }
+returns g c = record { own = own_one _ _ _ _ c.post.ensures.posted (connect, refl); asked = c.post.ensures.posted }

@@ -1,10 +1,13 @@
 use Rattle.std.proofs.Common.{sym, ap, subst, ◌∙◌}
 use Rattle.std.specs.Arc.{arc_value}
+use Rattle.std.specs.Map.{keys_of}
 use Rattle.pg_session.specs.Events.{samples_at}
 use Rattle.pg_gateway.specs.Sharing.{measures}
 use Rattle.pg_gateway.specs.Judging.{samples_in}
 use Rattle.pg_gateway.specs.Placing.{placed_counted, placed_refusal, placed_memory}
-use Rattle.pg_gateway.specs.Taking.{Fits, FansOut}
+use Rattle.pg_gateway.specs.Taking.{Fits, FansOut, measured}
+use Rattle.pg_gateway.specs.Routes.{WhereBit, IsPassed}
+use Rattle.pg_gateway.proofs.RouteKept.{masks_length, keys_within, marks_within, measured_passes}
 use Rattle.pg_gateway.specs.Frugal.{AllSeats}
 use Rattle.pg_gateway.proofs.Places.{samples-some}
 use Rattle.pg_gateway.proofs.Counted.{placed_within, counted_placed, memory_placed, refusal_placed}
@@ -19,17 +22,44 @@ pub count_memory-requires : goal.count_memory-requires
 count_memory-requires c = record { within = rw c.deref-in-Err.ensures.value (placed_within _ _ _ c.judge_shared-some.ensures.blocks) }
 
 pub count_blocks-requires-2 : goal.count_blocks-requires-2
-count_blocks-requires-2 c = record { within = rw c.deref-3.ensures.value (placed_within _ _ _ c.judge_shared-some.ensures.blocks) }
+count_blocks-requires-2 c = record { within = rw c.deref-4.ensures.value (placed_within _ _ _ c.judge_shared-some.ensures.blocks) }
 
-pub lay_copies-requires-clause-fits : goal.lay_copies-requires-clause-fits
-lay_copies-requires-clause-fits c =
+pub union_of-marks-requires : goal.union_of-marks-requires
+union_of-marks-requires c =
+    record {
+      within = rw c.deref-2.ensures.value (rw (masks_length c.self.inside.subs.entries (keys_of c.self.inside.registry) c.refresh.new.self.masks c.refresh.ensures.masks) (keys_within c.self.inside.registry _ (placed_within _ _ _ c.judge_shared-some.ensures.blocks)));
+    }
+
+pub lay_copies_marked-requires-clause-bits : goal.lay_copies_marked-requires-clause-bits
+lay_copies_marked-requires-clause-bits c =
+    marks_within c.self.inside.subs.entries (keys_of c.self.inside.registry) c.refresh.new.self.masks c.deref-2.result.now c.union_of-marks.result c.refresh.ensures.masks c.union_of-marks.ensures.none
+
+pub lay_copies_marked-requires-clause-passed : goal.lay_copies_marked-requires-clause-passed
+lay_copies_marked-requires-clause-passed c =
+    let m = arc_value c.args.frame.now in
+    let xs = c.self.inside.subs.entries in
+    let pmus = c.self.inside.registry in
+    let last = c.self.inside.last_tick in
+    subst (λ o. WhereBit 0 c.union_of-marks.result (IsPassed o) xs)
+    (sym (c.requires.event c.deref-3.result.now ∙ ap (measured m) c.deref-3.ensures.value))
+    (measured_passes m pmus last xs c.refresh.new.self.masks c.judge_shared-some.new.taken.items c.judge_shared-some.new.blocks.items c.union_of-marks.result
+    c.refresh.ensures.masks c.judge_shared-some.ensures.taken c.judge_shared-some.ensures.blocks
+    (rw (← c.deref-2.ensures.value) c.union_of-marks.ensures.covers))
+
+pub fan_out_marked-made-requires-clause-bits : goal.fan_out_marked-made-requires-clause-bits
+fan_out_marked-made-requires-clause-bits c =
+    rw c.lay_copies_marked.ensures.len
+    (marks_within c.self.inside.subs.entries (keys_of c.self.inside.registry) c.refresh.new.self.masks c.deref-2.result.now c.union_of-marks.result c.refresh.ensures.masks c.union_of-marks.ensures.none)
+
+pub lay_copies_marked-requires-clause-fits : goal.lay_copies_marked-requires-clause-fits
+lay_copies_marked-requires-clause-fits c =
     let m = arc_value c.args.frame.now in
     let reached = c.requires.reached in
     let S = reached.state in
     let shown = rw (← c.self.view_is) at reached.shows in
     let taken = taken_shown m S _ c.judge_shared-some.new.taken.items shown c.judge_shared-some.ensures.taken in
     subst (λ o. AllSeats (Fits o) c.self.inside.subs.entries)
-    (sym (c.requires.event c.deref-2.result.now ∙ ap (λ l. measures m.soc m.quality m.frac l) (ap (samples_at m) c.deref-2.ensures.value ∙ taken)))
+    (sym (c.requires.event c.deref-3.result.now ∙ ap (λ l. measures m.soc m.quality m.frac l) (ap (samples_at m) c.deref-3.ensures.value ∙ taken)))
     (all_fit_measured S.pmus S.last_tick m.soc m.quality m.frac (samples_in m) c.self.inside.subs.entries S.subs shown.subs reached.consistent.agree)
 
 pub returns-then-not-some-clause-goes : goal.returns-then-not-some-clause-goes
@@ -52,7 +82,7 @@ returns-in-Err-clause-goes c = λ S h.
     let there = samples-some m 0 c.judge_shared-some.new.taken.items c.judge_shared-some.ensures.rising (c.judge_shared-some.ensures.some c.if-not-some.false) in
     let some = sym (taken_shown m S _ c.judge_shared-some.new.taken.items shown c.judge_shared-some.ensures.taken) ∙ there.2 in
     let counted = c.count_memory.ensures ∙ ap (placed_memory c.self.inside.registry) c.deref-in-Err.ensures.value ∙ ap (λ pmus. placed_memory pmus items) shown.pmus ∙ memory_placed S.pmus items _ placed in
-    rw c.in-Err.ensures.memory (measured_memory m S _ c.count_memory.new.registry c.lay_copies.new.subs.entries there.0 there.1 shown some (c.lay_copies.ensures.shows S.subs shown.subs) counted)
+    rw c.in-Err.ensures.memory (measured_memory m S _ c.count_memory.new.registry c.lay_copies_marked.new.subs.entries there.0 there.1 shown some (c.lay_copies_marked.ensures.shows S.subs shown.subs) counted)
 
 pub returns-clause-goes : goal.returns-clause-goes
 returns-clause-goes c = λ S h.
@@ -63,7 +93,7 @@ returns-clause-goes c = λ S h.
     let taken = taken_shown m S _ c.judge_shared-some.new.taken.items shown c.judge_shared-some.ensures.taken in
     let there = samples-some m 0 c.judge_shared-some.new.taken.items c.judge_shared-some.ensures.rising (c.judge_shared-some.ensures.some c.if-not-some.false) in
     let some = sym taken ∙ there.2 in
-    let counted = c.count_blocks-2.ensures ∙ ap (placed_counted c.self.inside.registry) c.deref-3.ensures.value ∙ ap (λ pmus. placed_counted pmus items) shown.pmus ∙ counted_placed S.pmus items _ placed in
-    let offer = c.requires.event c.deref-4.result.now ∙ ap (λ l. measures m.soc m.quality m.frac l) (ap (samples_at m) c.deref-4.ensures.value ∙ taken) in
-    let fans = subst (λ o. FansOut o c.fan_out-made.result.0 c.fan_out-made.result.1 S.subs c.fan_out-made.new.subs.entries) offer (c.fan_out-made.ensures.fans_out S.subs (c.lay_copies.ensures.shows S.subs shown.subs)) in
-    measured_goes m S _ c.count_blocks-2.new.registry c.fan_out-made.new.subs.entries c.fan_out-made.result.0 c.fan_out-made.result.1 there.0 there.1 shown some fans c.fan_out-made.ensures.kept counted
+    let counted = c.count_blocks-2.ensures ∙ ap (placed_counted c.self.inside.registry) c.deref-4.ensures.value ∙ ap (λ pmus. placed_counted pmus items) shown.pmus ∙ counted_placed S.pmus items _ placed in
+    let offer = c.requires.event c.deref-5.result.now ∙ ap (λ l. measures m.soc m.quality m.frac l) (ap (samples_at m) c.deref-5.ensures.value ∙ taken) in
+    let fans = subst (λ o. FansOut o c.fan_out_marked-made.result.0 c.fan_out_marked-made.result.1 S.subs c.fan_out_marked-made.new.subs.entries) offer (c.fan_out_marked-made.ensures.fans_out S.subs (c.lay_copies_marked.ensures.shows S.subs shown.subs)) in
+    measured_goes m S _ c.count_blocks-2.new.registry c.fan_out_marked-made.new.subs.entries c.fan_out_marked-made.result.0 c.fan_out_marked-made.result.1 there.0 there.1 shown some fans c.fan_out_marked-made.ensures.kept counted

@@ -1,0 +1,176 @@
+//! The words of a report.
+
+use pg_gateway::Edit;
+use pg_operator::{PortRules, Setup, SourceRules};
+use pg_stream::Definition;
+use pg_wire::{PmuId, PmuKey, Refusal, SubId};
+use std::alloc::{AllocError, Global};
+
+/// A PMU's key as a person writes it: the source and the PMU.
+fn key_text(alloc: Global, key: &PmuKey) -> Result<String, AllocError> {
+    format!(in alloc; "{}/{}", key.source.get(), key.pmu.get())
+}
+
+/// Which edit it is: whom it concerns, and what of it.
+pub(crate) fn edit_name(alloc: Global, edit: &Edit) -> Result<String, AllocError> {
+    match edit {
+        Edit::AddPmu(key) | Edit::DropPmu(key) | Edit::PmuStats(key) => {
+            let key = key_text(alloc, key)?;
+            format!(in alloc; "PMU {}", key.as_str())
+        }
+        Edit::Grant(sub, key) | Edit::Revoke(sub, key) => {
+            let key = key_text(alloc, key)?;
+            format!(in alloc; "subscriber {}: grant of PMU {}", sub.get(), key.as_str())
+        }
+        Edit::Define(sub, definition) => {
+            let stream = definition.stream.get();
+            format!(in alloc; "subscriber {}: stream {stream}", sub.get())
+        }
+        Edit::Remove(sub, stream) => {
+            format!(in alloc; "subscriber {}: stream {}", sub.get(), stream.get())
+        }
+        Edit::AddSub(sub, ..) | Edit::DropSub(sub) | Edit::Stats(sub) | Edit::Audit(sub, _) => {
+            format!(in alloc; "subscriber {}", sub.get())
+        }
+    }
+}
+
+/// Why a setup's edit is refused, and what would be right.
+pub(crate) fn reason(refusal: Refusal) -> &'static str {
+    match refusal {
+        Refusal::PmuExists => "a table before it has this source and number; each PMU has one",
+        Refusal::PmusFull => "there are 256 PMUs already, and no more may be",
+        Refusal::NoSuchPmu => "no table [[pmu]] has it; one has to",
+        Refusal::SubExists => "a table before it has this number; each subscriber has its own",
+        Refusal::SubsFull => "there are 64 subscribers already, and no more may be",
+        Refusal::NoSuchSub => "its table is refused",
+        Refusal::GrantsFull => "it has 32 grants already, and no more may be",
+        Refusal::StreamExists => "another stream of it has this number; each has its own",
+        Refusal::StreamsFull => "it has 8 streams already, and no more may be",
+        Refusal::BadDefinition => {
+            "a stream has rate 1 to 120, base from its rate to 16777215, wait up to 60000, window 1 to 64, a header of ASCII up to \
+             1024 bytes, and no member twice"
+        }
+        Refusal::NoMemory => "there is no memory for it",
+        _ => "the gateway refuses it",
+    }
+}
+
+/// What would run, a line for each source, subscriber and stream.
+pub(crate) fn report_of(alloc: Global, setup: &Setup) -> Result<String, AllocError> {
+    let mut report = format!(in alloc;
+        "{} sources, {} ports; a tick each {} ms; threads: {} for sources, {} for subscribers\n",
+        setup.sources.len(),
+        setup.ports.len(),
+        setup.tick_ms,
+        setup.ingest,
+        setup.serve
+    )?;
+    for rules in &setup.sources {
+        let line = source_line(alloc, setup, rules)?;
+        report.push_str(line.as_str())?;
+    }
+    for edit in &setup.edits {
+        match edit {
+            Edit::AddSub(sub, ring, bytes) => {
+                let line = subscriber_line(alloc, setup, *sub)?;
+                report.push_str(line.as_str())?;
+                let line = format!(in alloc;
+                    "; ring of {} frames, {} bytes\n",
+                    ring.get(),
+                    bytes.get()
+                )?;
+                report.push_str(line.as_str())?;
+            }
+            Edit::Define(sub, definition) => {
+                let line = stream_line(alloc, *sub, definition)?;
+                report.push_str(line.as_str())?;
+            }
+            _ => {}
+        }
+    }
+    Ok(report)
+}
+
+/// How many PMUs a source has.
+fn pmu_count(setup: &Setup, source: PmuId) -> usize {
+    let mut count = 0usize;
+    for edit in &setup.edits {
+        if let Edit::AddPmu(key) = edit {
+            if key.source == source {
+                count = count.saturating_add(1);
+            }
+        }
+    }
+    count
+}
+
+/// A source: its PMUs, and where and how it is called.
+fn source_line(alloc: Global, setup: &Setup, rules: &SourceRules) -> Result<String, AllocError> {
+    let mut line = format!(in alloc;
+        "source {}: PMUs: {}; ",
+        rules.source.get(),
+        pmu_count(setup, rules.source)
+    )?;
+    match setup.links.iter().find(|link| link.0 == rules.source) {
+        Some((_, address)) => {
+            line.push_str("called at ")?;
+            line.push_str(address.as_str())?;
+            let after = match rules.silence {
+                0 => String::new(alloc),
+                seconds => format!(in alloc; ", again after {seconds} s of silence")?,
+            };
+            line.push_str(after.as_str())?;
+        }
+        None => line.push_str("not called")?,
+    }
+    if let Some(limit) = rules.clock_ms {
+        let guard = format!(in alloc; ", within {limit} ms of this clock")?;
+        line.push_str(guard.as_str())?;
+    }
+    line.push_str("\n")?;
+    Ok(line)
+}
+
+/// A subscriber: where it connects, and from where.
+fn subscriber_line(alloc: Global, setup: &Setup, sub: SubId) -> Result<String, AllocError> {
+    let door = setup.doors.iter().find(|door| door.sub == sub);
+    let port = setup.ports.iter().find(|port| port.0 == sub);
+    match (door, port) {
+        (Some(door), Some((_, port))) => {
+            let hosts = hosts_text(door);
+            format!(in alloc;
+                "subscriber {}: port {port} on {}, {hosts}",
+                sub.get(),
+                door.address
+            )
+        }
+        _ => format!(in alloc; "subscriber {}: no port", sub.get()),
+    }
+}
+
+/// Who may connect.
+fn hosts_text(door: &PortRules) -> &'static str {
+    match &door.allow.networks {
+        None => "from any host",
+        Some(networks) if networks.is_empty() => "from no host",
+        Some(_) => "from the hosts that it allows",
+    }
+}
+
+/// A stream: its rate and its members.
+fn stream_line(alloc: Global, sub: SubId, definition: &Definition) -> Result<String, AllocError> {
+    let mut line = format!(in alloc;
+        "subscriber {}: stream {}: {} frames/s of",
+        sub.get(),
+        definition.stream.get(),
+        definition.rate
+    )?;
+    for key in definition.members.as_slice() {
+        let key = key_text(alloc, key)?;
+        line.push_str(" ")?;
+        line.push_str(key.as_str())?;
+    }
+    line.push_str("\n")?;
+    Ok(line)
+}

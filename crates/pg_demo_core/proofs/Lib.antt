@@ -1,0 +1,2 @@
+-- Lemmas of the demo.
+pub mod Owing

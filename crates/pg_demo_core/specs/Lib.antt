@@ -1,0 +1,2 @@
+-- Definitions that the contracts of the demo cite.
+pub mod Owing

@@ -1,0 +1,10 @@
+//! Tests of pg_demo_core, as its callers see it. They stand in a crate of their own, so that the gate proves that crate
+//! once.
+#![tactic(auto)]
+
+#[cfg(test)]
+mod courses;
+#[cfg(test)]
+mod owing;
+#[cfg(test)]
+mod slots;

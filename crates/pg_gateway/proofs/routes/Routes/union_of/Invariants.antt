@@ -1,0 +1,9 @@
+use Rattle.std.proofs.Common.{◌≡◌, ℕ, All, None, get_or, take}
+use Rattle.std.specs.Int.{bit_at}
+use Rattle.pg_gateway.proofs.routes.Routes.union_of.Given as goal
+
+abbrev pub invariant-loop-block : goal.invariant-loop-block
+invariant-loop-block l = record {
+  covers : (j : ℕ) → bit_at l.marks j ≡ 0 → All (λ b. b.1 ≡ None → bit_at (get_or l.self.masks b.0 0) j ≡ 0) (take l.block-index l.blocks);
+  none : (j : ℕ) → All (λ b. bit_at (get_or l.self.masks b.0 0) j ≡ 0) l.blocks → bit_at l.marks j ≡ 0;
+}

@@ -1,0 +1,80 @@
+-- Which subscribers hold a PMU, as the bits of a number: subscriber j's is bit j.
+use Rattle.std.specs.Prelude.{◌≡◌, ◌≤◌, ℕ, Bool, true, if◌then◌else◌, List, [], ◌∷◌, slice_get, Option, Some, None}
+use Rattle.std.specs.Int.{bit_at}
+use Rattle.std.specs.Map.{keys_of, values_of}
+use Rattle.pg_wire.specs.declared.ids.PmuKey.{PmuKey}
+use Rattle.pg_entitle.specs.Grants.{has_key}
+use Rattle.pg_registry.specs.Registered.{Pmus}
+use Rattle.pg_session.specs.Events as own
+use Rattle.pg_session.specs.Events.{Happening}
+use Rattle.pg_gateway.specs.Occurrences.{Occurrence, add_pmu, drop_pmu, add_sub, drop_sub, grant, asks, announce, measure, tick, stats, pmu_stats, audit}
+use Rattle.pg_gateway.specs.Sharing.{Offer, share}
+use Rattle.pg_gateway.specs.Shown.{SeatValue, GatewayValue}
+
+-- This holds of each subscriber whose bit in n is b.
+abbrev pub WhereBit : ℕ → ℕ → (SeatValue → Type 0) → List (ℕ × SeatValue) → Type 0
+WhereBit b n P entries = (j : ℕ) (v : SeatValue) → slice_get (values_of entries) j ≡ Some v → bit_at n j ≡ b → P v
+
+-- only the first of these many bits may be set
+abbrev pub HasBits : ℕ → ℕ → Type 0
+HasBits len n = (j : ℕ) → len ≤ j → bit_at n j ≡ 0
+
+-- the event is nothing to it
+abbrev pub IsPassed : Offer → SeatValue → Type 0
+IsPassed o v = share o v.subscriber.own.grants ≡ None
+
+-- the bit of a subscriber in the mask of a PMU
+abbrev pub bit_of : PmuKey → Option SeatValue → ℕ
+bit_of key None = 0
+bit_of key (Some v) = if has_key v.subscriber.own.grants key then 1 else 0
+
+-- The mask has just those bits set whose subscribers hold the PMU.
+abbrev pub IsMask : List (ℕ × SeatValue) → PmuKey → ℕ → Type 0
+IsMask entries key n = (j : ℕ) → bit_at n j ≡ bit_of key (slice_get (values_of entries) j)
+
+-- each PMU's mask, in the order of the PMUs
+abbrev pub AreMasks : List (ℕ × SeatValue) → List PmuKey → List ℕ → Type 0
+AreMasks entries [] [] = Unit {0}
+AreMasks entries (k ∷ keys) (n ∷ masks) = IsMask entries k n × AreMasks entries keys masks
+AreMasks entries [] (n ∷ masks) = ⊥
+AreMasks entries (k ∷ keys) [] = ⊥
+
+-- the masks that are kept, and whether nothing happened since that may have changed who holds what
+pub record RoutesValue : Type 0 where
+  pub fresh : Bool
+  pub masks : List ℕ
+
+-- What is kept is what would be computed afresh: while it is fresh, it has each registered PMU's mask.
+abbrev pub AreRoutes : List (ℕ × SeatValue) → Pmus → RoutesValue → Type 0
+AreRoutes entries pmus routes = routes.fresh ≡ true → AreMasks entries (keys_of pmus) routes.masks
+
+abbrev pub IsRouted : GatewayValue → RoutesValue → Type 0
+IsRouted v routes = AreRoutes v.subs v.pmus routes
+
+-- Events that change no grant, no subscriber's place and no PMU's place.
+abbrev pub KeepsOwn : Happening → Type 0
+KeepsOwn (own.grant key config) = ⊥
+KeepsOwn (own.announce list) = ⊥
+KeepsOwn (own.measure soc quality frac samples) = ⊥
+KeepsOwn (own.tick soc) = ⊥
+KeepsOwn (own.revoke key) = ⊥
+KeepsOwn (own.define definition) = Unit {0}
+KeepsOwn (own.remove number) = Unit {0}
+KeepsOwn own.connect = Unit {0}
+KeepsOwn own.hangup = Unit {0}
+KeepsOwn (own.command number word) = Unit {0}
+KeepsOwn (own.drain n) = Unit {0}
+
+abbrev pub KeepsRoutes : Occurrence → Type 0
+KeepsRoutes (add_pmu key) = ⊥
+KeepsRoutes (drop_pmu key) = ⊥
+KeepsRoutes (add_sub u size bytes) = ⊥
+KeepsRoutes (drop_sub u) = ⊥
+KeepsRoutes (grant u key) = ⊥
+KeepsRoutes (asks u x) = KeepsOwn x
+KeepsRoutes (announce config) = Unit {0}
+KeepsRoutes (measure m) = Unit {0}
+KeepsRoutes (tick soc) = Unit {0}
+KeepsRoutes (stats u) = Unit {0}
+KeepsRoutes (pmu_stats key) = Unit {0}
+KeepsRoutes (audit u index) = Unit {0}

@@ -1,0 +1,124 @@
+//! An event taken by marked subscribers alone.
+
+ghost use Rattle.std.specs.Prelude.{◌≡◌, ◌≤◌, ℕ, List, vec_capacity, IfOk, IfErr, IsOk};
+ghost use Rattle.indexmap.specs.IndexMap.{index_map_len};
+ghost use Rattle.pg_gateway.specs.Related.{Related};
+ghost use Rattle.pg_gateway.specs.Sharing.{Seats};
+ghost use Rattle.pg_gateway.specs.Shown.{SeatShows};
+ghost use Rattle.pg_gateway.specs.Taking.{offered, IsRising, Awaits, HasNone, Fits, FansOut};
+ghost use Rattle.pg_gateway.specs.Frugal.{AllSeats, Spares};
+ghost use Rattle.pg_gateway.specs.Routes.{WhereBit, HasBits, IsPassed};
+
+use crate::event::Event;
+use crate::fan::forget_all;
+use crate::seat::Seat;
+use indexmap::IndexMap;
+use pg_wire::{Refusal, SubId};
+
+/// Each marked subscriber takes its share, in their order. The event is nothing to the others.
+pub(crate) fn fan_out_marked(
+    subs: &mut IndexMap<SubId, Seat>,
+    marks: u64,
+    event: &Event,
+    places: &[usize],
+    held: &mut Vec<usize>,
+) -> (u64, u64)
+    requires few { index_map_len subs.old ≤ 64 }
+    requires bits { HasBits (index_map_len subs.old) marks }
+    requires rising { IsRising event.now places.now }
+    requires room { 16 ≤ vec_capacity held.old }
+    requires awaits { WhereBit 1 marks (Awaits (offered event.now places.now)) subs.old.entries }
+    requires passed { WhereBit 0 marks (IsPassed (offered event.now places.now)) subs.old.entries }
+    requires none { WhereBit 0 marks HasNone subs.old.entries }
+    ensures fans_out { (seats : Seats) → Related SeatShows subs.old.entries seats
+        → FansOut (offered event.now places.now) result.0 result.1 seats subs.new.entries }
+    ensures none { AllSeats HasNone subs.new.entries }
+    ensures kept { result.1 ≤ result.0 }
+    ensures len { index_map_len subs.new ≡ index_map_len subs.old }
+    ensures room { 16 ≤ vec_capacity held.new }
+{
+    let mut made = 0;
+    let mut kept = 0;
+    let mut lost = false;
+    let mut left = marks;
+    'marked: while left != 0 {
+        let bit = left.trailing_zeros();
+        left &= !(1u64 << bit);
+        let (more, more_kept) = subs[bit as usize].take_share(event, places, held, lost);
+        made += more;
+        kept += more_kept;
+        if more_kept < more {
+            lost = true;
+        }
+    }
+    (made, kept)
+}
+
+/// Each marked subscriber lays the copies that its share needs. Nothing that it shows changes.
+///
+/// # Errors
+///
+/// `NoMemory`, and then no copies lie ready.
+pub(crate) fn lay_copies_marked(
+    subs: &mut IndexMap<SubId, Seat>,
+    marks: u64,
+    event: &Event,
+    places: &[usize],
+    held: &mut Vec<usize>,
+) -> Result<(), Refusal>
+    requires bits { HasBits (index_map_len subs.old) marks }
+    requires rising { IsRising event.now places.now }
+    requires room { 16 ≤ vec_capacity held.old }
+    requires none { AllSeats HasNone subs.old.entries }
+    requires fits { AllSeats (Fits (offered event.now places.now)) subs.old.entries }
+    requires passed { WhereBit 0 marks (IsPassed (offered event.now places.now)) subs.old.entries }
+    ensures laid { IfOk result (λ u. WhereBit 1 marks (Awaits (offered event.now places.now)) subs.new.entries) }
+    ensures passed { IfOk result (λ u. WhereBit 0 marks (IsPassed (offered event.now places.now)) subs.new.entries) }
+    ensures passed_none { IfOk result (λ u. WhereBit 0 marks HasNone subs.new.entries) }
+    ensures none { IfErr result (λ refusal. AllSeats HasNone subs.new.entries) }
+    ensures memory { IfErr result (λ refusal. refusal ≡ Refusal.NoMemory) }
+    ensures needless { AllSeats (Spares (offered event.now places.now)) subs.old.entries → IsOk result }
+    ensures shows { (seats : Seats) → Related SeatShows subs.old.entries seats → Related SeatShows subs.new.entries seats }
+    ensures len { index_map_len subs.new ≡ index_map_len subs.old }
+    ensures room { 16 ≤ vec_capacity held.new }
+{
+    match lay_marked(subs, marks, event, places, held) {
+        Ok(_) => Ok(()),
+        Err(refusal) => {
+            forget_all(subs);
+            Err(refusal)
+        }
+    }
+}
+
+/// Each marked subscriber lays the copies that its share needs, as far as memory goes.
+fn lay_marked(
+    subs: &mut IndexMap<SubId, Seat>,
+    marks: u64,
+    event: &Event,
+    places: &[usize],
+    held: &mut Vec<usize>,
+) -> Result<(), Refusal>
+    requires bits { HasBits (index_map_len subs.old) marks }
+    requires rising { IsRising event.now places.now }
+    requires room { 16 ≤ vec_capacity held.old }
+    requires none { AllSeats HasNone subs.old.entries }
+    requires fits { AllSeats (Fits (offered event.now places.now)) subs.old.entries }
+    requires passed { WhereBit 0 marks (IsPassed (offered event.now places.now)) subs.old.entries }
+    ensures laid { IfOk result (λ u. WhereBit 1 marks (Awaits (offered event.now places.now)) subs.new.entries) }
+    ensures passed { IfOk result (λ u. WhereBit 0 marks (IsPassed (offered event.now places.now)) subs.new.entries) }
+    ensures passed_none { IfOk result (λ u. WhereBit 0 marks HasNone subs.new.entries) }
+    ensures memory { IfErr result (λ refusal. refusal ≡ Refusal.NoMemory) }
+    ensures needless { AllSeats (Spares (offered event.now places.now)) subs.old.entries → IsOk result }
+    ensures shows { (seats : Seats) → Related SeatShows subs.old.entries seats → Related SeatShows subs.new.entries seats }
+    ensures len { index_map_len subs.new ≡ index_map_len subs.old }
+    ensures room { 16 ≤ vec_capacity held.new }
+{
+    let mut left = marks;
+    'marked: while left != 0 {
+        let bit = left.trailing_zeros();
+        left &= !(1u64 << bit);
+        subs[bit as usize].lay(event, places, held)?;
+    }
+    Ok(())
+}

@@ -1,0 +1,48 @@
+-- Ports that are open by one setup and not, or otherwise, by another.
+use Rattle.std.specs.Prelude.{ℕ, ◌==◌, ◌&&◌, Bool, true, false, List, find, Option, Some, None, option_map}
+use Rattle.std.specs.Cmp.Lexicographic.{pointwise}
+use Rattle.std.specs.List.{list_any, filter_map}
+use Rattle.pg_limits.specs.Hosts.{Net}
+use Rattle.pg_operator.specs.Setups.{Door, door_of}
+use Rattle.pg_reload.specs.declared.ports.Port.{Port}
+
+-- a subscriber's port, and its rules
+pub record Opened : Type 0 where
+  pub port : ℕ
+  pub door : Door
+
+-- the same, of a port of the code
+abbrev pub opened_of : Port → Opened
+opened_of p = record { port = p.port; door = door_of p.rules }
+
+-- a port with the rules that the setup has for its subscriber
+abbrev pub opened_by : List Door → ℕ × ℕ → Option Opened
+opened_by doors port = option_map (λ d. record { port = port.1; door = d }) (find (λ d. d.sub == port.0) doors)
+
+abbrev pub ports_by : List (ℕ × ℕ) → List Door → List Opened
+ports_by ports doors = filter_map (opened_by doors) ports
+
+-- every field is the same
+abbrev pub net_eq : Net → Net → Bool
+net_eq a b = a.address == b.address && a.bits == b.bits
+
+abbrev pub allow_eq : Option (List Net) → Option (List Net) → Bool
+allow_eq None None = true
+allow_eq (Some a) (Some b) = pointwise net_eq a b
+allow_eq a b = false
+
+abbrev pub is_same_bool : Bool → Bool → Bool
+is_same_bool true b = b
+is_same_bool false true = false
+is_same_bool false false = true
+
+abbrev pub door_eq : Door → Door → Bool
+door_eq c d =
+    ((((c.sub == d.sub && c.address == d.address) && allow_eq c.allow d.allow) && is_same_bool c.takeover d.takeover) && c.stall == d.stall) && c.idle == d.idle
+
+abbrev pub opened_eq : Opened → Opened → Bool
+opened_eq p q = p.port == q.port && door_eq p.door q.door
+
+-- one of the ports is this one
+abbrev pub is_open : List Opened → Opened → Bool
+is_open ports p = list_any (λ q. opened_eq q p) ports

@@ -1,0 +1,85 @@
+//! What is to be done so that a gateway that runs by one setup runs by another.
+ghost use Rattle.std.specs.Prelude.{◌≡◌, ◌==◌, ◌++◌, ℕ, false, true, [], IfOk, IfErr, map, string_bytes};
+ghost use Rattle.std.specs.List.{list_any};
+ghost use Rattle.pg_reload.specs.Apart.{Agree, AgreeOn, touches};
+ghost use Rattle.pg_reload.specs.Edits.{edits_between};
+ghost use Rattle.pg_reload.specs.Leading.{IsSound, LeadsFrom};
+ghost use Rattle.pg_reload.specs.Orders.{SameCalls, SamePorts, calls_by, is_about, is_of, orders_between, port_orders_between, told};
+ghost use Rattle.pg_reload.specs.Ports.{ports_by};
+ghost use Rattle.pg_operator.specs.Setups.{door_of};
+ghost use Rattle.pg_reload.specs.Restarts.{restarts_between};
+
+use crate::orders::{self, Order};
+use crate::restarts::{self, Restart};
+use crate::{ports, steps};
+use pg_gateway::Edit;
+use pg_operator::Setup;
+use pg_wire::Refusal;
+use std::alloc::Global;
+
+/// What is to be done so that a gateway that runs by one setup runs by another (own rule).
+#[derive(Debug, Drop)]
+pub struct Changes {
+    /// The edits, in the order in which they are posted.
+    pub edits: Vec<Edit>,
+    /// What is done about sources and ports, in order, after the edits.
+    pub orders: Vec<Order>,
+    /// The keys that differ and need a new start.
+    pub restarts: Vec<Restart>,
+}
+
+/// What is to be done so that a gateway that runs by the old setup runs by the new one (own rule).
+///
+/// The edits are, in this order:
+///
+/// 1. subscribers that are gone, or whose ring or bytes changed, are dropped;
+/// 2. PMUs that are gone are dropped, which revokes them from each subscriber that holds them;
+/// 3. new PMUs are registered;
+/// 4. subscribers that are new, or whose ring or bytes changed, are added, with all their grants and streams;
+/// 5. of the other subscribers, grants that are gone are revoked, 6. new ones granted, 7. streams that are gone or changed removed,
+///    and 8. new and changed ones defined.
+///
+/// It does not matter in which order a setup has its PMUs, subscribers, grants and streams; a stream's members have theirs. A source
+/// is called anew where its address, `silence` or `clock_ms` changed; a port is closed and opened anew where its number or a rule of it
+/// changed, and stays where its subscriber is dropped and added again.
+///
+/// # Errors
+///
+/// `NoMemory` alone.
+pub fn changes_between(alloc: Global, old: &Setup, new: &Setup) -> Result<Changes, Refusal>
+    ensures edits { IfOk result (λ c. c.edits.items ≡ edits_between old.now.edits.items new.now.edits.items) }
+    ensures neighbours { IfOk result (λ c. (u : ℕ) → AgreeOn (touches old.now.edits.items u) old.now.edits.items new.now.edits.items
+        → list_any (touches old.now.edits.items u) c.edits.items ≡ false) }
+    ensures nothing { IfOk result (λ c. Agree old.now.edits.items new.now.edits.items → c.edits.items ≡ []) }
+    ensures leads { IfOk result (λ c. IsSound old.now.edits.items → IsSound new.now.edits.items
+        → LeadsFrom old.now.edits.items new.now.edits.items c.edits.items) }
+    ensures orders { IfOk result (λ c. map told c.orders.items ≡ orders_between
+        (calls_by (map (λ l. (l.0, string_bytes l.1)) old.now.links.items) old.now.sources.items)
+        (calls_by (map (λ l. (l.0, string_bytes l.1)) new.now.links.items) new.now.sources.items)
+        ++ port_orders_between (ports_by old.now.ports.items (map door_of old.now.doors.items)) (ports_by new.now.ports.items (map door_of new.now.doors.items))) }
+    ensures sources { IfOk result (λ c. let before = calls_by (map (λ l. (l.0, string_bytes l.1)) old.now.links.items) old.now.sources.items in
+        let after = calls_by (map (λ l. (l.0, string_bytes l.1)) new.now.links.items) new.now.sources.items in
+        (s : ℕ) → SameCalls (λ call. call.source == s) before after → list_any (is_about s) (map told c.orders.items) ≡ false) }
+    ensures ports { IfOk result (λ c. let before = ports_by old.now.ports.items (map door_of old.now.doors.items) in
+        let after = ports_by new.now.ports.items (map door_of new.now.doors.items) in
+        (u : ℕ) → SamePorts (λ port. port.door.sub == u) before after → list_any (is_of u) (map told c.orders.items) ≡ false) }
+    ensures quiet { IfOk result (λ c. SameCalls (λ call. true)
+        (calls_by (map (λ l. (l.0, string_bytes l.1)) old.now.links.items) old.now.sources.items)
+        (calls_by (map (λ l. (l.0, string_bytes l.1)) new.now.links.items) new.now.sources.items)
+        → SamePorts (λ port. true) (ports_by old.now.ports.items (map door_of old.now.doors.items)) (ports_by new.now.ports.items (map door_of new.now.doors.items))
+        → map told c.orders.items ≡ []) }
+    ensures restarts { IfOk result (λ c. c.restarts.items ≡ restarts_between
+        (record { tick_ms = old.now.tick_ms; ingest = old.now.ingest; serve = old.now.serve })
+        (record { tick_ms = new.now.tick_ms; ingest = new.now.ingest; serve = new.now.serve })) }
+    ensures refused { IfErr result (λ r. r ≡ Refusal.NoMemory) }
+{
+    let edits = steps::edits_between(alloc, old.edits.as_slice(), new.edits.as_slice())?;
+    let mut orders = orders::orders_between(alloc, old, new)?;
+    ports::add_orders(alloc, &mut orders, old, new)?;
+    let restarts = restarts::restarts_between(alloc, old, new)?;
+    Ok(Changes {
+        edits,
+        orders,
+        restarts,
+    })
+}

@@ -1,0 +1,15 @@
+//! What is to be done so that a gateway that runs by one setup runs by another (own rule).
+#![tactic(auto)]
+
+mod alike;
+mod changes;
+mod copying;
+mod orders;
+mod ports;
+mod restarts;
+mod steps;
+
+pub use changes::{Changes, changes_between};
+pub use orders::{Call, Order};
+pub use ports::Port;
+pub use restarts::Restart;

@@ -1,0 +1,2 @@
+-- Definitions that the contracts of the running program cite.
+pub mod Limits

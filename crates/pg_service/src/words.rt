@@ -1,0 +1,138 @@
+//! What the log says.
+
+use crate::journal::{Detail, Entry, Notice, Whom};
+use pg_ingest::End;
+use pg_wire::Refusal;
+use std::fmt;
+use std::io::ErrorKind;
+
+impl fmt::Display for Entry {
+    fn fmt<W: fmt::Write>(&self, f: &mut fmt::Formatter<W>) -> fmt::Result {
+        match self.whom {
+            Whom::Nobody => {}
+            Whom::Source(source) => {
+                let number = source.get();
+                write!(f, "source {number}: ")?;
+            }
+            Whom::Subscriber(sub) => {
+                let number = sub.get();
+                write!(f, "subscriber {number}: ")?;
+            }
+        }
+        let said = said(self.notice);
+        write!(f, "{said}")?;
+        write_detail(self.notice, &self.detail, f)?;
+        if self.times > 1 {
+            let times = self.times;
+            match self.notice {
+                Notice::Gap => write!(f, ": {times} frames")?,
+                Notice::Ignored | Notice::FarMeasurement => write!(f, " ({times} frames)")?,
+                _ => write!(f, " ({times} times)")?,
+            }
+        }
+        Ok(())
+    }
+}
+
+/// What a notice says, apart from what is known beside.
+fn said(notice: Notice) -> &'static str {
+    match notice {
+        Notice::Called => "called",
+        Notice::Made => "connected",
+        Notice::NotMade => "the call failed; it is called again",
+        Notice::GivenUp => "did not answer the call within 10 seconds; it is called again",
+        Notice::NoAddress => "its name has no address; it is looked up again",
+        Notice::SourceEnded => "the connection ended; it is called again",
+        Notice::Silent =>
+            "sent nothing that counts for as long as `silence` says; it is called again",
+        Notice::FarMeasurement =>
+            "its time is further from this machine's clock than `clock_ms` says",
+        Notice::Connected => "connected",
+        Notice::Foreign => "turned away, since `allow` does not name the host",
+        Notice::Refused => "a connection was refused",
+        Notice::GuestEnded => "the connection ended",
+        Notice::Stalled => "hung up, since its socket took nothing for as long as `stall` says",
+        Notice::Idle => "hung up, since nothing went either way for as long as `idle` says",
+        Notice::HungUp => "hung up by an order",
+        Notice::NotAccepted => "who wants to connect can't be accepted; tried again in a second",
+        Notice::SocketFault => "a socket can't be waited for, or an option of it not be set",
+        Notice::PollFault => "the system does not tell which sockets are ready",
+        Notice::ClockFault => "a clock can't be read",
+        Notice::MailFault => "a worker can't be woken, or there is no memory for what it is told",
+        Notice::ConsoleFault => "answers can't be written, or lines not be read",
+        Notice::Announced => "announced its configuration",
+        Notice::Ignored => "frames are ignored",
+        Notice::Gap => "frames were dropped before those that are handed out",
+        Notice::Started => "started stream",
+        Notice::Stopped => "stopped stream",
+        Notice::Listening => "may connect",
+        Notice::Untold => "more was met than the log keeps",
+    }
+}
+
+/// What is known beside.
+fn write_detail<W: fmt::Write>(
+    notice: Notice,
+    detail: &Detail,
+    f: &mut fmt::Formatter<W>,
+) -> fmt::Result {
+    match detail {
+        Detail::Nothing => Ok(()),
+        Detail::At(address) => {
+            let joined = match notice {
+                Notice::Called | Notice::Listening => " at ",
+                Notice::Connected => " from ",
+                _ => ": ",
+            };
+            write!(f, "{joined}{address}")
+        }
+        Detail::Because(refusal) => write_refusal(*refusal, f),
+        Detail::Ended(end) => write_end(*end, f),
+        Detail::System(kind) => {
+            let told = system_said(*kind);
+            write!(f, ": {told}")
+        }
+        Detail::Rate(rate) => write!(f, ", DATA_RATE {rate}"),
+        Detail::Stream(stream) => write!(f, " {stream}"),
+    }
+}
+
+/// A reason, by its number and name.
+fn write_refusal<W: fmt::Write>(refusal: Refusal, f: &mut fmt::Formatter<W>) -> fmt::Result {
+    let number = refusal.number();
+    let name = refusal.name();
+    write!(f, ": {number} {name}")
+}
+
+/// How a connection ended.
+fn write_end<W: fmt::Write>(end: End, f: &mut fmt::Formatter<W>) -> fmt::Result {
+    match end {
+        End::Closed => f.write_str(": closed by the other side"),
+        End::Quiet | End::Stalled => Ok(()),
+        End::Fault(number) => {
+            let told = match number {
+                2 => "its bytes begin no frame (2 BadFirst)",
+                3 => "its bytes begin no frame (3 BadSecond)",
+                4 => "its bytes tell a frame of no possible length (4 ShortSize)",
+                39 => "it can't be read",
+                40 => "it can't be written",
+                _ => "a fault",
+            };
+            write!(f, ": {told}")
+        }
+    }
+}
+
+/// What the system said.
+fn system_said(kind: ErrorKind) -> &'static str {
+    match kind {
+        ErrorKind::ConnectionRefused => "connection refused",
+        ErrorKind::ConnectionReset => "connection reset",
+        ErrorKind::HostUnreachable => "host unreachable",
+        ErrorKind::NetworkUnreachable => "network unreachable",
+        ErrorKind::TimedOut => "timed out",
+        ErrorKind::PermissionDenied => "not permitted",
+        ErrorKind::OutOfMemory => "no memory",
+        _ => "the system refuses it",
+    }
+}

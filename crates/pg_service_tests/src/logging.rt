@@ -1,0 +1,195 @@
+//! What the log says, and how often.
+use crate::frames::{source, subscriber};
+use pg_ingest::End;
+use pg_service::{Detail, Digest, Entry, Journal, Notice, Whom};
+use pg_wire::Refusal;
+use std::alloc::Global;
+use std::io::ErrorKind;
+use std::net::{Ipv4Addr, SocketAddr};
+use std::process::Abort;
+use std::test::*;
+
+/// An entry of a source, and of a subscriber.
+fn of_source(rt: &impl Abort, notice: Notice, detail: Detail) -> Entry {
+    Entry::new(notice, Whom::Source(source(rt, 7)), detail)
+}
+
+fn of_subscriber(rt: &impl Abort, number: u16, notice: Notice, detail: Detail) -> Entry {
+    Entry::new(notice, Whom::Subscriber(subscriber(rt, number)), detail)
+}
+
+/// How often an entry that is told says that it was met; 0 where none is.
+fn times(told: Option<Entry>) -> u64 {
+    match told {
+        Some(entry) => entry.times,
+        None => 0,
+    }
+}
+
+/// The line of an entry.
+fn line(rt: &impl Abort, alloc: Global, entry: &Entry) -> String {
+    format!(in alloc; "{entry}").expect(rt, "memory")
+}
+
+/// The first of a kind is told at once, and then a line a second at most counts the others.
+#[test]
+fn one_line_a_second(rt: HostRuntime) {
+    let mut digest = Digest::new(rt.alloc());
+    let turned = |at: u16| {
+        let host = SocketAddr::from((Ipv4Addr::LOCALHOST, at));
+        of_subscriber(&rt, 2, Notice::Foreign, Detail::At(host))
+    };
+    assert!(rt; times(digest.met(turned(1), 5_000)) == 1);
+    assert!(rt; digest.met(turned(2), 5_100).is_none());
+    assert!(rt; digest.met(turned(3), 5_999).is_none());
+    assert!(rt; digest.due(5_999).is_none());
+    assert!(rt; times(digest.due(6_000)) == 2);
+    assert!(rt; digest.due(6_000).is_none());
+    assert!(rt; digest.met(turned(4), 6_500).is_none());
+    assert!(rt; digest.due(6_999).is_none());
+    assert!(rt; times(digest.due(7_000)) == 1);
+    assert!(rt; digest.due(9_000).is_none());
+    assert!(rt; times(digest.met(turned(5), 9_001)) == 1);
+}
+
+/// What one does holds back nothing of another, nor of another kind.
+#[test]
+fn others_are_told(rt: HostRuntime) {
+    let mut digest = Digest::new(rt.alloc());
+    let started = |number: u16| of_subscriber(&rt, number, Notice::Started, Detail::Stream(101));
+    assert!(rt; times(digest.met(started(2), 0)) == 1);
+    for at in 1..500 {
+        assert!(rt; digest.met(started(2), at).is_none());
+    }
+    assert!(rt; times(digest.met(started(1), 500)) == 1);
+    let stopped = of_subscriber(&rt, 2, Notice::Stopped, Detail::Stream(101));
+    assert!(rt; times(digest.met(stopped, 500)) == 1);
+    assert!(rt; times(digest.met(of_source(&rt, Notice::Made, Detail::Nothing), 501)) == 1);
+    assert!(rt; times(digest.due(1_000)) == 499);
+}
+
+/// Of frames that are ignored a line a minute counts.
+#[test]
+fn a_line_a_minute(rt: HostRuntime) {
+    let mut digest = Digest::new(rt.alloc());
+    let ignored = || of_source(&rt, Notice::Ignored, Detail::Because(Refusal::BadCheck));
+    assert!(rt; times(digest.met(ignored(), 0)) == 1);
+    assert!(rt; digest.met(ignored(), 1_000).is_none());
+    assert!(rt; digest.met(ignored(), 59_999).is_none());
+    assert!(rt; digest.due(59_999).is_none());
+    assert!(rt; times(digest.due(60_000)) == 2);
+}
+
+/// More kinds than are told apart are counted, and told as such.
+#[test]
+fn too_many_kinds(rt: HostRuntime) {
+    let mut digest = Digest::new(rt.alloc());
+    for number in 1..1_025 {
+        let entry = of_subscriber(&rt, number, Notice::Connected, Detail::Nothing);
+        assert!(rt; times(digest.met(entry, 0)) == 1);
+    }
+    let more = || of_subscriber(&rt, 2_000, Notice::Connected, Detail::Nothing);
+    assert!(rt; digest.met(more(), 0).is_none());
+    assert!(rt; digest.met(more(), 500).is_none());
+    let told = digest.due(600).expect(&rt, "what was not told");
+    assert!(rt; told.notice == Notice::Untold && told.times == 2);
+    assert!(rt; times(digest.met(more(), 1_000)) == 1);
+}
+
+/// Lines that could not be written are counted, and told once one can.
+#[test]
+fn missed_lines(rt: HostRuntime) {
+    let mut digest = Digest::new(rt.alloc());
+    digest.missed(2);
+    digest.missed(3);
+    let told = digest.due(0).expect(&rt, "what was not told");
+    assert!(rt; told.notice == Notice::Untold && told.whom == Whom::Nobody && told.times == 5);
+    assert!(rt; digest.due(0).is_none());
+}
+
+/// What is met waits in its order, and what is just as the last is counted with it.
+#[test]
+fn entries_wait(rt: HostRuntime) {
+    let alloc = rt.alloc();
+    let journal = Journal::new(alloc).expect(&rt, "memory");
+    journal.tell(&rt, of_source(&rt, Notice::Called, Detail::Nothing));
+    journal.tell(&rt, of_source(&rt, Notice::Made, Detail::Nothing));
+    journal.tell(&rt, of_source(&rt, Notice::Made, Detail::Nothing));
+    journal.tell(&rt, of_source(&rt, Notice::Called, Detail::Nothing));
+    let taken = journal.take(&rt, alloc);
+    let mut told = taken.iter();
+    let mut next = || match told.next() {
+        Some(entry) => (entry.notice, entry.times),
+        None => (Notice::Untold, 0),
+    };
+    assert!(rt; next() == (Notice::Called, 1));
+    assert!(rt; next() == (Notice::Made, 2));
+    assert!(rt; next() == (Notice::Called, 1));
+    assert!(rt; next() == (Notice::Untold, 0));
+    assert!(rt; journal.take(&rt, alloc).is_empty());
+    assert!(rt; journal.count(Notice::Called) == 2 && journal.count(Notice::Made) == 2);
+}
+
+/// At most 1,024 wait; what is met then is counted as not told.
+#[test]
+fn entries_are_bounded(rt: HostRuntime) {
+    let alloc = rt.alloc();
+    let journal = Journal::new(alloc).expect(&rt, "memory");
+    for number in 1..1_031 {
+        let entry = of_subscriber(&rt, number, Notice::Connected, Detail::Nothing);
+        journal.tell(&rt, entry);
+    }
+    assert!(rt; journal.take(&rt, alloc).len() == 1_024);
+    assert!(rt; journal.count(Notice::Connected) == 1_030 && journal.count(Notice::Untold) == 6);
+}
+
+/// What is said of each.
+#[test]
+fn lines_of_the_log(rt: HostRuntime) {
+    let alloc = rt.alloc();
+    let host = SocketAddr::from((Ipv4Addr::new(10, 1, 2, 3), 4_712));
+    let says = |entry: Entry, expected: &str| line(&rt, alloc, &entry).as_str() == expected;
+    let called = of_source(&rt, Notice::Called, Detail::At(host));
+    assert!(rt; says(called, "source 7: called at 10.1.2.3:4712"));
+    let failed = Detail::System(ErrorKind::ConnectionRefused);
+    let failed = of_source(&rt, Notice::NotMade, failed);
+    assert!(rt;
+        says(
+            failed,
+            "source 7: the call failed; it is called again: connection refused"
+        )
+    );
+    let announced = of_source(&rt, Notice::Announced, Detail::Rate(-2));
+    assert!(rt;
+        says(
+            announced,
+            "source 7: announced its configuration, DATA_RATE -2"
+        )
+    );
+    let ended = of_source(&rt, Notice::SourceEnded, Detail::Ended(End::Closed));
+    let expected = "source 7: the connection ended; it is called again: closed by the other side";
+    assert!(rt; says(ended, expected));
+    let mut ignored = of_source(&rt, Notice::Ignored, Detail::Because(Refusal::BadCheck));
+    ignored.times = 3;
+    assert!(rt;
+        says(
+            ignored,
+            "source 7: frames are ignored: 5 BadCheck (3 frames)"
+        )
+    );
+    let connected = of_subscriber(&rt, 20, Notice::Connected, Detail::At(host));
+    assert!(rt; says(connected, "subscriber 20: connected from 10.1.2.3:4712"));
+    let refused = of_subscriber(&rt, 20, Notice::Refused, Detail::Because(Refusal::Busy));
+    assert!(rt; says(refused, "subscriber 20: a connection was refused: 34 Busy"));
+    let ended = of_subscriber(&rt, 20, Notice::GuestEnded, Detail::Ended(End::Fault(3)));
+    let expected = "subscriber 20: the connection ended: its bytes begin no frame (3 BadSecond)";
+    assert!(rt; says(ended, expected));
+    let started = of_subscriber(&rt, 20, Notice::Started, Detail::Stream(101));
+    assert!(rt; says(started, "subscriber 20: started stream 101"));
+    let mut gap = of_subscriber(&rt, 20, Notice::Gap, Detail::Nothing);
+    gap.times = 12;
+    let expected = "subscriber 20: frames were dropped before those that are handed out: 12 frames";
+    assert!(rt; says(gap, expected));
+    let nobody = Entry::new(Notice::PollFault, Whom::Nobody, Detail::Nothing);
+    assert!(rt; says(nobody, "the system does not tell which sockets are ready"));
+}

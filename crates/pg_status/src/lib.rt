@@ -1,0 +1,32 @@
+//! What an operator sees of the running service: lines of status, metrics, a page with its state and history, and the connections
+//! that ask for them. It knows neither sockets nor clocks. All of it is a rule of this project.
+#![tactic(auto)]
+
+mod contents;
+mod dialogue;
+mod exchange;
+mod histogram;
+mod history;
+mod json;
+mod lines;
+mod metrics;
+mod outbox;
+mod page;
+mod request;
+mod snapshot;
+mod status;
+
+pub use contents::contents_of;
+pub use dialogue::{Answer, Dialogue, OWED_BYTES, Turned};
+pub use exchange::{Exchange, Step};
+pub use histogram::{BOUNDS, BUCKETS, Histogram, SharedHistogram};
+pub use history::{Frames, History, Past, SECONDS, Total};
+pub use json::state_json;
+pub use lines::{LINE_BYTES, Lines};
+pub use metrics::print_metrics;
+pub use page::page_text;
+pub use request::{Denial, HEAD_BYTES, Request, Shown, read_request};
+pub use snapshot::{
+    Call, Ignored, Presence, Queue, Snapshot, SourceState, StreamState, SubscriberState,
+};
+pub use status::print_status;

@@ -1,0 +1,79 @@
+//! Lines of bounded length.
+
+ghost use Rattle.std.specs.Prelude.{◌≡◌, ◌≤◌, ◌↔◌, if◌then◌else◌, is_ok, IsTrue, length, true};
+ghost use Rattle.pg_status.specs.Lines.{fresh, lengthened};
+
+use std::alloc::{AllocError, Global};
+use std::marker::Model;
+
+/// The bytes of a line at most, without its LF.
+pub const LINE_BYTES: usize = 4096;
+
+/// A line that comes byte by byte (own rule). It keeps 4,096 bytes at most; of a longer one it knows that it is too long.
+#[derive(Drop)]
+pub struct Lines {
+    bytes: Vec<u8>,
+    is_long: bool,
+}
+
+impl Model for Lines {
+    ghost use Rattle.std.specs.Prelude.{◌≤◌, length};
+    ghost use Rattle.pg_status.specs.Lines.{Begun};
+
+    ghost Value = { Begun };
+
+    ghost view = { λ l. record { bytes = l.bytes.items; is_long = l.is_long } };
+
+    ghost invariant = { λ l. length l.bytes.items ≤ 4096 };
+}
+
+impl Lines {
+    /// No byte has come.
+    pub fn new(alloc: Global) -> Lines
+        ensures { result ≡ fresh }
+    {
+        Lines {
+            bytes: Vec::new(alloc),
+            is_long: false,
+        }
+    }
+
+    /// A byte has come that ends no line.
+    ///
+    /// # Errors
+    ///
+    /// There is no memory, and nothing changes.
+    pub fn push(&mut self, byte: u8) -> Result<(), AllocError>
+        ensures { self.new ≡ (if is_ok result then lengthened byte self.old else self.old) }
+    {
+        if self.bytes.len() < LINE_BYTES {
+            self.bytes.push(byte)?;
+        } else {
+            self.is_long = true;
+        }
+        Ok(())
+    }
+
+    /// The line so far.
+    pub fn bytes(&self) -> &[u8]
+        ensures value { result.now ≡ self.now.bytes }
+        ensures most { length result.now ≤ 4096 }
+    {
+        self.bytes.as_slice()
+    }
+
+    /// Whether it is longer than it may be.
+    pub fn is_long(&self) -> bool
+        ensures { result ≡ self.now.is_long }
+    {
+        self.is_long
+    }
+
+    /// The next line begins.
+    pub fn clear(&mut self)
+        ensures { self.new ≡ fresh }
+    {
+        self.bytes.clear();
+        self.is_long = false;
+    }
+}

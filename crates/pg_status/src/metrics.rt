@@ -1,0 +1,326 @@
+//! Metrics in Prometheus' text format, version 0.0.4.
+
+use crate::histogram::{BOUNDS, Histogram};
+use crate::snapshot::{Call, Presence, Snapshot, SourceState, StreamState, SubscriberState};
+use std::io;
+use std::io::Write;
+
+/// A number that is told of each source.
+#[derive(Clone, Copy)]
+enum SourceFigure {
+    Up,
+    Pause,
+    Frames,
+    Events,
+}
+
+impl SourceFigure {
+    fn name(self) -> &'static str {
+        match self {
+            SourceFigure::Up => "pdcgw_source_up",
+            SourceFigure::Pause => "pdcgw_source_pause_seconds",
+            SourceFigure::Frames => "pdcgw_source_frames_total",
+            SourceFigure::Events => "pdcgw_source_events_total",
+        }
+    }
+
+    fn kind(self) -> &'static str {
+        match self {
+            SourceFigure::Up | SourceFigure::Pause => "gauge",
+            SourceFigure::Frames | SourceFigure::Events => "counter",
+        }
+    }
+
+    fn help(self) -> &'static str {
+        match self {
+            SourceFigure::Up => "Whether the source is connected.",
+            SourceFigure::Pause => "Time until the source is called again, 0 where no pause runs.",
+            SourceFigure::Frames => "Whole frames that came from the source.",
+            SourceFigure::Events => "Announcements and measurements that came from the source.",
+        }
+    }
+
+    fn of(self, source: &SourceState) -> u64 {
+        match self {
+            SourceFigure::Up => u64::from(source.call == Call::Up),
+            SourceFigure::Pause => match source.call {
+                Call::Pause(seconds) => u64::from(seconds),
+                _ => 0,
+            },
+            SourceFigure::Frames => source.frames,
+            SourceFigure::Events => source.events,
+        }
+    }
+}
+
+/// A number that is told of each subscriber.
+#[derive(Clone, Copy)]
+enum SubscriberFigure {
+    Connected,
+    Waiting,
+    Made,
+    Dropped,
+    Lost,
+    Late,
+    Twice,
+    Handed,
+    Gaps,
+    QueueFrames,
+    QueueBytes,
+}
+
+impl SubscriberFigure {
+    fn name(self) -> &'static str {
+        match self {
+            SubscriberFigure::Connected => "pdcgw_subscriber_connected",
+            SubscriberFigure::Waiting => "pdcgw_subscriber_waiting_seconds",
+            SubscriberFigure::Made => "pdcgw_subscriber_made_frames_total",
+            SubscriberFigure::Dropped => "pdcgw_subscriber_dropped_frames_total",
+            SubscriberFigure::Lost => "pdcgw_subscriber_lost_frames_total",
+            SubscriberFigure::Late => "pdcgw_subscriber_late_blocks_total",
+            SubscriberFigure::Twice => "pdcgw_subscriber_twice_blocks_total",
+            SubscriberFigure::Handed => "pdcgw_subscriber_handed_bytes_total",
+            SubscriberFigure::Gaps => "pdcgw_subscriber_gap_frames_total",
+            SubscriberFigure::QueueFrames => "pdcgw_subscriber_queue_frames",
+            SubscriberFigure::QueueBytes => "pdcgw_subscriber_queue_bytes",
+        }
+    }
+
+    fn kind(self) -> &'static str {
+        match self {
+            SubscriberFigure::Connected
+            | SubscriberFigure::Waiting
+            | SubscriberFigure::QueueFrames
+            | SubscriberFigure::QueueBytes => "gauge",
+            _ => "counter",
+        }
+    }
+
+    fn help(self) -> &'static str {
+        match self {
+            SubscriberFigure::Connected => "Whether the subscriber is connected.",
+            SubscriberFigure::Waiting => {
+                "Time since the subscriber was connected last, 0 while it is."
+            }
+            SubscriberFigure::Made => "Data frames made for the subscriber.",
+            SubscriberFigure::Dropped => "Data frames dropped, for the subscriber's ring was full.",
+            SubscriberFigure::Lost => "Data frames not made, for want of memory.",
+            SubscriberFigure::Late => "Blocks that came for a slot that had left.",
+            SubscriberFigure::Twice => "Blocks that came a second time.",
+            SubscriberFigure::Handed => "Bytes handed out to the subscriber.",
+            SubscriberFigure::Gaps => {
+                "Data frames that are missing before one that was handed out to the subscriber."
+            }
+            SubscriberFigure::QueueFrames => "Frames that wait for the subscriber.",
+            SubscriberFigure::QueueBytes => "Bytes that wait for the subscriber.",
+        }
+    }
+
+    fn of(self, subscriber: &SubscriberState) -> u64 {
+        match self {
+            SubscriberFigure::Connected => match &subscriber.presence {
+                Presence::Connected(_) => 1,
+                Presence::Waiting(_) => 0,
+            },
+            SubscriberFigure::Waiting => match &subscriber.presence {
+                Presence::Connected(_) => 0,
+                Presence::Waiting(seconds) => *seconds,
+            },
+            SubscriberFigure::Made => subscriber.made,
+            SubscriberFigure::Dropped => subscriber.dropped,
+            SubscriberFigure::Lost => subscriber.lost,
+            SubscriberFigure::Late => subscriber.late,
+            SubscriberFigure::Twice => subscriber.twice,
+            SubscriberFigure::Handed => subscriber.handed,
+            SubscriberFigure::Gaps => subscriber.gaps,
+            SubscriberFigure::QueueFrames => subscriber.queue.frames,
+            SubscriberFigure::QueueBytes => subscriber.queue.bytes,
+        }
+    }
+}
+
+/// A number that is told of each stream.
+#[derive(Clone, Copy)]
+enum StreamFigure {
+    On,
+    Effective,
+    Members,
+}
+
+impl StreamFigure {
+    fn name(self) -> &'static str {
+        match self {
+            StreamFigure::On => "pdcgw_stream_on",
+            StreamFigure::Effective => "pdcgw_stream_effective_members",
+            StreamFigure::Members => "pdcgw_stream_members",
+        }
+    }
+
+    fn help(self) -> &'static str {
+        match self {
+            StreamFigure::On => "Whether the subscriber has started the stream.",
+            StreamFigure::Effective => "Members of the stream that its frames carry.",
+            StreamFigure::Members => "Members of the stream.",
+        }
+    }
+
+    fn of(self, stream: &StreamState) -> u64 {
+        match self {
+            StreamFigure::On => u64::from(stream.on),
+            StreamFigure::Effective => u64::from(stream.effective),
+            StreamFigure::Members => u64::from(stream.members),
+        }
+    }
+}
+
+/// Writes all metrics (own rule): what stands in a snapshot, and the ages of data frames as they were written.
+///
+/// # Errors
+///
+/// The writer's.
+pub fn print_metrics<W: Write>(
+    out: &mut W,
+    snapshot: &Snapshot,
+    ages: &Histogram,
+) -> io::Result<()> {
+    print_sources(out, snapshot.sources.as_slice())?;
+    print_subscribers(out, snapshot.subscribers.as_slice())?;
+    print_streams(out, snapshot.streams.as_slice())?;
+    print_ages(out, ages)
+}
+
+/// Writes what stands above the samples of a metric.
+fn print_head<W: Write>(out: &mut W, name: &str, kind: &str, help: &str) -> io::Result<()> {
+    writeln!(out, "# HELP {name} {help}")?;
+    writeln!(out, "# TYPE {name} {kind}")
+}
+
+/// Writes the metrics of sources.
+fn print_sources<W: Write>(out: &mut W, sources: &[SourceState]) -> io::Result<()> {
+    for figure in [
+        SourceFigure::Up,
+        SourceFigure::Pause,
+        SourceFigure::Frames,
+        SourceFigure::Events,
+    ] {
+        let name = figure.name();
+        print_head(out, name, figure.kind(), figure.help())?;
+        for source in sources {
+            let number = source.source.get();
+            writeln!(out, "{name}{{source=\"{number}\"}} {}", figure.of(source))?;
+        }
+    }
+    print_silences(out, sources)?;
+    print_ignored(out, sources)
+}
+
+/// Writes how long ago the last events were. A source that gave none has no sample.
+fn print_silences<W: Write>(out: &mut W, sources: &[SourceState]) -> io::Result<()> {
+    let name = "pdcgw_source_since_event_seconds";
+    print_head(
+        out,
+        name,
+        "gauge",
+        "Time since the last event of the source.",
+    )?;
+    for source in sources {
+        if let Some(seconds) = source.last {
+            let number = source.source.get();
+            writeln!(out, "{name}{{source=\"{number}\"}} {seconds}")?;
+        }
+    }
+    Ok(())
+}
+
+/// Writes what was ignored of sources, and why.
+fn print_ignored<W: Write>(out: &mut W, sources: &[SourceState]) -> io::Result<()> {
+    let name = "pdcgw_source_ignored_total";
+    print_head(
+        out,
+        name,
+        "counter",
+        "Frames and breaks of the source that were ignored, by reason.",
+    )?;
+    for source in sources {
+        let number = source.source.get();
+        for ignored in &source.ignored {
+            let reason = ignored.reason.name();
+            write!(out, "{name}{{source=\"{number}\",reason=\"{reason}\"}}")?;
+            writeln!(out, " {}", ignored.count)?;
+        }
+    }
+    Ok(())
+}
+
+/// Writes the metrics of subscribers.
+fn print_subscribers<W: Write>(out: &mut W, subscribers: &[SubscriberState]) -> io::Result<()> {
+    for figure in [
+        SubscriberFigure::Connected,
+        SubscriberFigure::Waiting,
+        SubscriberFigure::Made,
+        SubscriberFigure::Dropped,
+        SubscriberFigure::Lost,
+        SubscriberFigure::Late,
+        SubscriberFigure::Twice,
+        SubscriberFigure::Handed,
+        SubscriberFigure::Gaps,
+        SubscriberFigure::QueueFrames,
+        SubscriberFigure::QueueBytes,
+    ] {
+        let name = figure.name();
+        print_head(out, name, figure.kind(), figure.help())?;
+        for subscriber in subscribers {
+            let number = subscriber.sub.get();
+            let value = figure.of(subscriber);
+            writeln!(out, "{name}{{subscriber=\"{number}\"}} {value}")?;
+        }
+    }
+    Ok(())
+}
+
+/// Writes the metrics of streams.
+fn print_streams<W: Write>(out: &mut W, streams: &[StreamState]) -> io::Result<()> {
+    for figure in [
+        StreamFigure::On,
+        StreamFigure::Effective,
+        StreamFigure::Members,
+    ] {
+        let name = figure.name();
+        print_head(out, name, "gauge", figure.help())?;
+        for stream in streams {
+            let sub = stream.sub.get();
+            let number = stream.stream.get();
+            write!(out, "{name}{{subscriber=\"{sub}\",stream=\"{number}\"}}")?;
+            writeln!(out, " {}", figure.of(stream))?;
+        }
+    }
+    Ok(())
+}
+
+/// Writes microseconds as seconds.
+fn print_seconds<W: Write>(out: &mut W, micros: u64) -> io::Result<()> {
+    write!(out, "{}.{:06}", micros / 1_000_000, micros % 1_000_000)
+}
+
+/// Writes the histogram of ages. A bucket counts all ages up to its bound.
+fn print_ages<W: Write>(out: &mut W, ages: &Histogram) -> io::Result<()> {
+    let name = "pdcgw_frame_age_seconds";
+    print_head(
+        out,
+        name,
+        "histogram",
+        "Age of data frames as they are written: this machine's clock less the frame's time.",
+    )?;
+    let mut total = 0u64;
+    for (bound, count) in BOUNDS.iter().zip(ages.counts.iter()) {
+        total = total.saturating_add(*count);
+        write!(out, "{name}_bucket{{le=\"")?;
+        print_seconds(out, *bound)?;
+        writeln!(out, "\"}} {total}")?;
+    }
+    let count = total.saturating_add(ages.beyond);
+    writeln!(out, "{name}_bucket{{le=\"+Inf\"}} {count}")?;
+    write!(out, "{name}_sum ")?;
+    print_seconds(out, ages.micros)?;
+    writeln!(out, "\n{name}_count {count}")
+}

@@ -1,0 +1,115 @@
+//! What the service shows of itself.
+
+use pg_wire::{PmuId, Refusal, StreamId, SubId};
+
+/// How the connection to a source stands (own rule).
+#[derive(Clone, Copy, Debug, PartialEq, Eq)]
+pub enum Call {
+    /// It is connected.
+    Up,
+    /// A connection is being made.
+    Calling,
+    /// It is called again in so many seconds.
+    Pause(u32),
+    /// It is not called: it has no address, or none of its PMUs is registered.
+    Rests,
+}
+
+/// How often a source's bytes were ignored for a reason (own rule).
+#[derive(Clone, Copy, Debug, PartialEq, Eq)]
+pub struct Ignored {
+    /// The reason.
+    pub reason: Refusal,
+    /// How often. A count of 0 is not shown in a line of status.
+    pub count: u64,
+}
+
+/// A source (own rule).
+#[derive(Debug, Drop)]
+pub struct SourceState {
+    /// The source.
+    pub source: PmuId,
+    /// Where it is called, as its setup tells it, if it is called.
+    pub address: Option<String>,
+    /// How its connection stands.
+    pub call: Call,
+    /// The whole frames that came.
+    pub frames: u64,
+    /// The announcements and measurements among them.
+    pub events: u64,
+    /// What was ignored, each reason once.
+    pub ignored: Vec<Ignored>,
+    /// Whole seconds since its last event, if there was one.
+    pub last: Option<u64>,
+}
+
+/// Whether a subscriber is connected (own rule).
+#[derive(Debug, Drop)]
+pub enum Presence {
+    /// It is, from this address.
+    Connected(String),
+    /// It has not been for so many whole seconds.
+    Waiting(u64),
+}
+
+/// What waits for a subscriber (own rule).
+#[derive(Clone, Copy, Debug, PartialEq, Eq)]
+pub struct Queue {
+    /// Frames.
+    pub frames: u64,
+    /// Their bytes.
+    pub bytes: u64,
+}
+
+/// A subscriber (own rule).
+#[derive(Debug, Drop)]
+pub struct SubscriberState {
+    /// The subscriber.
+    pub sub: SubId,
+    /// Where it connects, if a port is open for it.
+    pub port: Option<u16>,
+    /// Whether it is connected.
+    pub presence: Presence,
+    /// Data frames made.
+    pub made: u64,
+    /// Data frames dropped, for its ring was full.
+    pub dropped: u64,
+    /// Data frames not made, for want of memory.
+    pub lost: u64,
+    /// Blocks that came for a slot that had left.
+    pub late: u64,
+    /// Blocks that came a second time.
+    pub twice: u64,
+    /// Bytes handed out.
+    pub handed: u64,
+    /// The sum of the gaps that were handed out: data frames that are missing before one that was handed out.
+    pub gaps: u64,
+    /// What waits for it.
+    pub queue: Queue,
+}
+
+/// A stream of a subscriber (own rule).
+#[derive(Clone, Copy, Debug, PartialEq, Eq)]
+pub struct StreamState {
+    /// The subscriber.
+    pub sub: SubId,
+    /// The stream.
+    pub stream: StreamId,
+    /// Whether the subscriber has started it.
+    pub on: bool,
+    /// How many of its members are granted and announced, so that its frames carry them.
+    pub effective: u32,
+    /// How many members it has.
+    pub members: u32,
+}
+
+/// What the service shows of itself at one moment (own rule): each list in the order in which it is shown.
+#[derive(Debug, Drop)]
+pub struct Snapshot {
+    /// The sources.
+    pub sources: Vec<SourceState>,
+    /// The subscribers.
+    pub subscribers: Vec<SubscriberState>,
+    /// The streams of all subscribers.
+    pub streams: Vec<StreamState>,
+}

@@ -1,0 +1,102 @@
+//! The lines of `status`.
+
+use crate::snapshot::{
+    Call, Ignored, Presence, Snapshot, SourceState, StreamState, SubscriberState,
+};
+use std::io;
+use std::io::Write;
+
+/// Writes a line for each source, subscriber and stream (own rule). `-` stands for what is not there: an address, a port, an event
+/// to count from, a reason, the seconds of a pause that does not end by itself.
+///
+/// ```text
+/// source 7 10.0.0.1:4712 up frames 120 events 118 ignored BadCheck=2 last 0
+/// subscriber 1 4800 connected 10.0.0.9:50312 made 90 dropped 0 lost 0 late 1 twice 0 handed 9360 queue 2 208
+/// stream 1 101 on members 2/3
+/// ```
+///
+/// # Errors
+///
+/// The writer's.
+pub fn print_status<W: Write>(out: &mut W, snapshot: &Snapshot) -> io::Result<()> {
+    for source in &snapshot.sources {
+        print_source(out, source)?;
+    }
+    for subscriber in &snapshot.subscribers {
+        print_subscriber(out, subscriber)?;
+    }
+    for stream in &snapshot.streams {
+        print_stream(out, stream)?;
+    }
+    Ok(())
+}
+
+/// Writes the line of a source.
+fn print_source<W: Write>(out: &mut W, source: &SourceState) -> io::Result<()> {
+    write!(out, "source {}", source.source.get())?;
+    match &source.address {
+        Some(address) => write!(out, " {}", address.as_str())?,
+        None => write!(out, " -")?,
+    }
+    match source.call {
+        Call::Up => write!(out, " up")?,
+        Call::Calling => write!(out, " calling")?,
+        Call::Pause(seconds) => write!(out, " pause {seconds}")?,
+        Call::Rests => write!(out, " pause -")?,
+    }
+    write!(out, " frames {} events {}", source.frames, source.events)?;
+    print_ignored(out, source.ignored.as_slice())?;
+    match source.last {
+        Some(seconds) => writeln!(out, " last {seconds}"),
+        None => writeln!(out, " last -"),
+    }
+}
+
+/// Writes what was ignored.
+fn print_ignored<W: Write>(out: &mut W, ignored: &[Ignored]) -> io::Result<()> {
+    write!(out, " ignored")?;
+    let mut is_none = true;
+    for Ignored { reason, count } in ignored {
+        if *count > 0 {
+            write!(out, " {}={}", reason.name(), count)?;
+            is_none = false;
+        }
+    }
+    if is_none {
+        write!(out, " -")?;
+    }
+    Ok(())
+}
+
+/// Writes the line of a subscriber.
+fn print_subscriber<W: Write>(out: &mut W, subscriber: &SubscriberState) -> io::Result<()> {
+    write!(out, "subscriber {}", subscriber.sub.get())?;
+    match subscriber.port {
+        Some(port) => write!(out, " {port}")?,
+        None => write!(out, " -")?,
+    }
+    match &subscriber.presence {
+        Presence::Connected(address) => write!(out, " connected {}", address.as_str())?,
+        Presence::Waiting(seconds) => write!(out, " waiting {seconds}")?,
+    }
+    write!(out, " made {}", subscriber.made)?;
+    write!(out, " dropped {}", subscriber.dropped)?;
+    write!(out, " lost {}", subscriber.lost)?;
+    write!(out, " late {}", subscriber.late)?;
+    write!(out, " twice {}", subscriber.twice)?;
+    write!(out, " handed {}", subscriber.handed)?;
+    let queue = subscriber.queue;
+    writeln!(out, " queue {} {}", queue.frames, queue.bytes)
+}
+
+/// Writes the line of a stream.
+fn print_stream<W: Write>(out: &mut W, stream: &StreamState) -> io::Result<()> {
+    let state = if stream.on { "on" } else { "off" };
+    write!(
+        out,
+        "stream {} {} {state}",
+        stream.sub.get(),
+        stream.stream.get()
+    )?;
+    writeln!(out, " members {}/{}", stream.effective, stream.members)
+}
