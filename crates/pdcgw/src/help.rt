@@ -81,7 +81,16 @@ The edits of the setup are done, the ports of the subscribers are bound, and the
 served, in C37.118.2 over TCP. Lines of an operator, as in `pdcgw replay --help`, are read from standard input, and the answers
 to them are written to standard output. The line `quit` ends the program with status 0; it goes on where standard input ends.
 What sources and subscribers do is logged on standard error, a line an event: TIME LEVEL WHAT.
-A PMU or subscriber that a line adds has no socket until the next start.
+
+Besides these lines there are:
+  reload                   reads the setup file again and does what changed. Who is not named by a change keeps his connection and
+                           his frames. Answered by what was refused, and then by: reloaded: N edits, N orders. A file with a
+                           fault changes nothing, and its faults are the answer
+  dial S A.B.C.D:PORT      calls source S at this address from now on; one of its PMUs has to be registered
+  undial S                 calls it no longer
+  listen U PORT [A.B.C.D]  opens a port for subscriber U, on this address or on all, and closes the one that it had
+  unlisten U               closes its port, and hangs up who is connected
+  disconnect U             hangs up who is connected
 
 A setup file is TOML:
   tick_ms                  milliseconds from tick to tick, 1 to 1000; 10 where not given

@@ -86,7 +86,7 @@ enum Outcome {
 }
 
 /// Does what the words ask for.
-fn do_words<R>(rt: &R, matches: &ArgMatches<'_>, is_terminal: bool) -> Outcome
+fn do_words<R>(rt: &R, files: &HostRuntime, matches: &ArgMatches<'_>, is_terminal: bool) -> Outcome
 where
     R: Files
         + Input<Reader = StdinLock<'static>>
@@ -109,7 +109,7 @@ where
         _ => {}
     }
     match (work, words.get_str("setup")) {
-        ("run", Some(file)) => match pg_run::run(rt, file) {
+        ("run", Some(file)) => match pg_run::run(rt, files, file) {
             Ok(()) => Outcome::Done,
             Err(refusal) => Outcome::Unfit(Trouble {
                 refusal,
@@ -138,7 +138,7 @@ fn replay_input<R: Input + Print + Alloc<A = Global>>(rt: &R) -> Result<(), Faul
 }
 
 /// What the words come to, where standard output is a terminal or is not.
-fn outcome_of<R>(rt: &R, is_terminal: bool) -> Outcome
+fn outcome_of<R>(rt: &R, files: &HostRuntime, is_terminal: bool) -> Outcome
 where
     R: Files
         + Input<Reader = StdinLock<'static>>
@@ -168,7 +168,7 @@ where
         Err(_) => return Outcome::Failed(Refusal::NoMemory),
     };
     match command.try_get_matches_from(words.as_slice()) {
-        Ok(matches) => do_words(rt, &matches, is_terminal),
+        Ok(matches) => do_words(rt, files, &matches, is_terminal),
         Err(error) => match error.kind() {
             ErrorKind::OutOfMemory => Outcome::Failed(Refusal::NoMemory),
             ErrorKind::DisplayHelp | ErrorKind::DisplayVersion => Outcome::Asked(error),
@@ -187,7 +187,7 @@ fn told(printed: io::Result<()>) -> ExitCode {
 
 fn main(rt: HostRuntime) -> ExitCode {
     let is_terminal = rt.stdout().is_terminal();
-    match outcome_of(&rt, is_terminal) {
+    match outcome_of(&rt, &rt, is_terminal) {
         Outcome::Done => ExitCode::SUCCESS,
         Outcome::Checked(report) => told(print!(rt; "{}", report.as_str())),
         Outcome::Asked(text) => told(print!(rt; "{text}")),

@@ -5,3 +5,4 @@ mod checking;
 mod report;
 
 pub use checking::{Trouble, check_setup};
+pub use report::{edit_name, reason};

@@ -11,8 +11,12 @@ fn key_text(alloc: Global, key: &PmuKey) -> Result<String, AllocError> {
     format!(in alloc; "{}/{}", key.source.get(), key.pmu.get())
 }
 
-/// Which edit it is: whom it concerns, and what of it.
-pub(crate) fn edit_name(alloc: Global, edit: &Edit) -> Result<String, AllocError> {
+/// Which edit it is, for a person: whom it concerns, and what of it.
+///
+/// # Errors
+///
+/// `AllocError` where there is no memory for it.
+pub fn edit_name(alloc: Global, edit: &Edit) -> Result<String, AllocError> {
     match edit {
         Edit::AddPmu(key) | Edit::DropPmu(key) | Edit::PmuStats(key) => {
             let key = key_text(alloc, key)?;
@@ -35,8 +39,8 @@ pub(crate) fn edit_name(alloc: Global, edit: &Edit) -> Result<String, AllocError
     }
 }
 
-/// Why a setup's edit is refused, and what would be right.
-pub(crate) fn reason(refusal: Refusal) -> &'static str {
+/// Why a setup's edit is refused, and what would be right, for a person.
+pub fn reason(refusal: Refusal) -> &'static str {
     match refusal {
         Refusal::PmuExists => "a table before it has this source and number; each PMU has one",
         Refusal::PmusFull => "there are 256 PMUs already, and no more may be",

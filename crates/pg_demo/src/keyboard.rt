@@ -2,7 +2,7 @@
 
 use mio::unix::SourceFd;
 use mio::{Events, Interest, Poll, Token};
-use pg_run::{Console, answer_lines};
+use pg_run::{Console, EditsAlone, answer_lines};
 use pg_serve::{Named, SharedGate};
 use pg_service::Watched;
 use std::alloc::{AllocError, Global};
@@ -117,7 +117,13 @@ impl<'a, R: Wait + Net + Input<Reader = StdinLock<'static>>, N: Named> Keyboard<
             self.has_changed = true;
         }
         let mut reader = line;
-        answer_lines(self.rt, &mut self.console, &mut self.gate, &mut reader);
+        answer_lines(
+            self.rt,
+            &mut self.console,
+            &mut self.gate,
+            &mut reader,
+            &mut EditsAlone,
+        );
         self.answer.clear();
         for byte in line {
             self.answer.push(shown(*byte))?;

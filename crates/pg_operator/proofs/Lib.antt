@@ -10,3 +10,4 @@ pub mod Plans
 pub mod Labels
 pub mod Digits
 pub mod Sources
+pub mod Counts

@@ -3,7 +3,10 @@ use Rattle.std.specs.Prelude.{ℕ, ◌-◌, ◌==◌, ◌&&◌, ◌||◌, Bool, 
 use Rattle.std.specs.Char.{is_ascii_alphanumeric, is_ascii_digit}
 use Rattle.std.specs.Int.{w32, from_be_bytes}
 use Rattle.std.specs.List.{list_all, slice_split}
+use Rattle.std.specs.Net.Addr.{ipv4_bits}
+use Rattle.std.specs.Net.Socket.{v4_ip, v4_port}
 use Rattle.std.specs.Option.{option_map_or}
+use Rattle.std.specs.declared.net.socket_addr.SocketAddrV4.{SocketAddrV4}
 use Rattle.pg_limits.specs.Hosts.{Net}
 use Rattle.pg_operator.specs.Words.{Text, number_in, halves}
 
@@ -54,6 +57,21 @@ is_name w = nat_le (length w) 253 && (list_all is_label (labels_of w) && not (li
 
 abbrev pub is_address : Text → Bool
 is_address w = option_map_or (λ p. (is_some (host_in p.0) || is_name p.0) && is_some (number_in 1 65535 p.1)) (halves 58 w) false
+
+-- ---- `A.B.C.D:PORT` as its host, a number of 32 bits, and its port
+
+abbrev pub Endpoint : Type 0
+Endpoint = ℕ × ℕ
+
+abbrev pub port_in : Text → Option ℕ
+port_in = number_in 1 65535
+
+abbrev pub endpoint_in : Text → Option Endpoint
+endpoint_in w = option_and_then (λ p. option_and_then (λ host. option_map (λ port. (host, port)) (port_in p.1)) (host_in p.0)) (halves 58 w)
+
+-- the same, of an address that was read
+abbrev pub endpoint : SocketAddrV4 → Endpoint
+endpoint a = (ipv4_bits (v4_ip a), v4_port a)
 
 -- ---- `A.B.C.D/BITS`, or `A.B.C.D` alone, which is one host; the slash is 47
 

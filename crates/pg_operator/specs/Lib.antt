@@ -3,6 +3,7 @@ pub mod Words
 pub mod Verbs
 pub mod Lines
 pub mod Addresses
+pub mod Steers
 pub mod Setups
 -- Only private contracts and proofs use this: what `clap` is told, and what it gives.
 pub mod Clap

@@ -4,12 +4,12 @@ ghost use Rattle.std.specs.Char.{is_ascii_digit};
 ghost use Rattle.std.specs.List.{list_all};
 ghost use Rattle.std.specs.Net.Addr.{ipv4_bits};
 ghost use Rattle.toml.specs.View.{view};
-ghost use Rattle.pg_operator.specs.Addresses.{host_in, is_address, is_label, is_label_byte, is_name, labels_of, last_of, network_by, network_in, part_in, parts_in};
+ghost use Rattle.pg_operator.specs.Addresses.{endpoint, endpoint_in, host_in, is_address, is_label, is_label_byte, is_name, labels_of, last_of, network_by, network_in, part_in, parts_in, port_in};
 ghost use Rattle.pg_operator.specs.Setups.{address_in, host_text_in, network_text_in};
 
 use crate::words;
 use pg_limits::Network;
-use std::net::Ipv4Addr;
+use std::net::{Ipv4Addr, SocketAddrV4};
 use toml::Value;
 
 /// The most bytes of a host's name, and of a label in it.
@@ -39,7 +39,7 @@ fn of_parts(a: &str, b: &str, c: &str, d: &str) -> Option<Ipv4Addr>
 }
 
 /// `A.B.C.D`.
-fn host(word: &str) -> Option<Ipv4Addr>
+pub(crate) fn host(word: &str) -> Option<Ipv4Addr>
     ensures { option_map (λ h. ipv4_bits h) result ≡ host_in word.now }
 {
     let (a, rest) = words::halves(word, '.')?;
@@ -108,6 +108,26 @@ fn is_address(word: &str) -> bool
         return false;
     };
     (host(name).is_some() || is_name(name)) && words::number(port, 1, 65535).is_some()
+}
+
+/// A port.
+pub(crate) fn port(word: &str) -> Option<u16>
+    ensures { result ≡ port_in word.now }
+{
+    match words::number(word, 1, 65535) {
+        Some(number) => Some(number as u16),
+        None => None,
+    }
+}
+
+/// `A.B.C.D:PORT`.
+pub(crate) fn endpoint(word: &str) -> Option<SocketAddrV4>
+    ensures { option_map (λ a. endpoint a) result ≡ endpoint_in word.now }
+{
+    let (name, number) = words::halves(word, ':')?;
+    let host = host(name)?;
+    let port = port(number)?;
+    Some(SocketAddrV4::new(host, port))
 }
 
 /// The text of an address that is called.

@@ -242,7 +242,7 @@ fn pmu(args: &[&str]) -> Option<PmuKey>
 }
 
 /// The words `U`.
-fn subscriber(args: &[&str]) -> Option<SubId>
+pub(crate) fn subscriber(args: &[&str]) -> Option<SubId>
     ensures { result ≡ one subscriber_in (map (λ w. w.now) args.now) }
 {
     let [subscriber] = args else {

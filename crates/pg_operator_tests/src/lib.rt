@@ -6,4 +6,6 @@ mod checking;
 #[cfg(test)]
 mod faults;
 #[cfg(test)]
+mod steers;
+#[cfg(test)]
 mod tests;

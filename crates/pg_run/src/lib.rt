@@ -2,8 +2,10 @@
 #![tactic(auto)]
 
 mod operator;
+mod reloading;
 mod running;
+mod steering;
 mod workers;
 
-pub use operator::{Console, Told, answer_lines};
-pub use running::run;
+pub use operator::{Console, EditsAlone, Steering, Told, answer_lines};
+pub use running::{run, run_for};

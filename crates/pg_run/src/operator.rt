@@ -4,15 +4,21 @@ ghost use Rattle.std.specs.Prelude.{◌≡◌, IfOk, IfSome, IfNone, Some};
 ghost use Rattle.pg_serve.specs.Inputs.{edited, names};
 ghost use Rattle.pg_replay.specs.Lines.{asked_in, hands, nothing};
 
+use crate::reloading::InForce;
+use crate::running::door_rules;
+use mio::net::TcpListener as PortListener;
 use pg_gateway::{Edit, Gate, Reply};
+use pg_operator::{PortRules, Steer, parse_steer};
 use pg_replay::{Fault, Line, NotPrinted, print_refusal, print_reply, read_line, without_end};
 use pg_serve::{Input as Handed, Named, SharedGate, Work, event_of};
 use pg_service::{
-    After, Change, Mailbox, Neighbours, Notice, PortOrder, Registered, SourceOrder, Watched,
+    After, Change, Dial, Mailbox, Neighbours, Notice, PortOrder, Registered, SourceOrder, Watched,
 };
-use pg_wire::Refusal;
+use pg_wire::{PmuId, Refusal, SubId};
 use std::alloc::Global;
-use std::io::{BufRead, BufWriter, ErrorKind, Printer, StdinLock, Write};
+use std::io::{BufRead, BufReader, BufWriter, ErrorKind, Printer, StdinLock, Write};
+use std::net::{Net, TcpStream};
+use std::rt::Clock;
 use std::sync::Wait;
 use std::sync::atomic::{AtomicBool, Ordering};
 
@@ -46,35 +52,141 @@ impl Told<'_> {
 
     /// Tells workers what an edit asks of them.
     fn tell<R: Wait>(&self, rt: &R, after: After) {
-        let journal = self.neighbours.journal;
         match after {
             After::Nothing => {}
             After::Renew(source) => {
                 for mailbox in self.sources {
-                    mailbox.send(rt, journal, SourceOrder::Renew(source));
+                    mailbox.send(rt, self.neighbours.journal, SourceOrder::Renew(source));
                 }
             }
             After::Rest(source) => {
                 for mailbox in self.sources {
-                    mailbox.send(rt, journal, SourceOrder::Rest(source));
+                    mailbox.send(rt, self.neighbours.journal, SourceOrder::Rest(source));
                 }
             }
-            After::HangUp(sub) => {
-                for mailbox in self.neighbours.ports {
-                    mailbox.send(rt, journal, PortOrder::HangUp(sub));
-                }
-            }
+            After::HangUp(sub) => self.hang_up(rt, sub),
         }
     }
+
+    /// The source is called no longer.
+    pub(crate) fn undial<R: Wait>(&self, rt: &R, source: PmuId) {
+        for mailbox in self.sources {
+            mailbox.send(rt, self.neighbours.journal, SourceOrder::Undial(source));
+        }
+    }
+
+    /// The source is called from now on, by the worker of its number.
+    pub(crate) fn dial<R: Wait>(&self, rt: &R, dial: Dial) {
+        let place = usize::from(dial.source.get()) % self.sources.len().max(1);
+        if let Some(mailbox) = self.sources.get(place) {
+            mailbox.send(rt, self.neighbours.journal, SourceOrder::Dial(dial));
+        }
+    }
+
+    /// The subscriber's port is closed, and who has connected hung up.
+    pub(crate) fn close<R: Wait>(&self, rt: &R, sub: SubId) {
+        for mailbox in self.neighbours.ports {
+            mailbox.send(rt, self.neighbours.journal, PortOrder::Close(sub));
+        }
+    }
+
+    /// The subscriber's port is served from now on, by the worker of its number.
+    pub(crate) fn open<R: Wait>(&self, rt: &R, rules: PortRules, listener: PortListener) {
+        let sub = rules.sub;
+        let place = usize::from(sub.get()) % self.neighbours.ports.len().max(1);
+        if let Some(mailbox) = self.neighbours.ports.get(place) {
+            let order = PortOrder::Open {
+                sub,
+                rules: door_rules(rules),
+                listener,
+            };
+            mailbox.send(rt, self.neighbours.journal, order);
+        }
+    }
+
+    /// Who has connected is hung up.
+    pub(crate) fn hang_up<R: Wait>(&self, rt: &R, sub: SubId) {
+        for mailbox in self.neighbours.ports {
+            mailbox.send(rt, self.neighbours.journal, PortOrder::HangUp(sub));
+        }
+    }
+}
+
+/// What is done about lines that ask for more than an edit.
+pub trait Steering {
+    /// Reads the setup again and does what changed, and answers it.
+    ///
+    /// # Errors
+    ///
+    /// `Fault::Write` where an answer can't be written.
+    fn reload<W: Write, R: Wait, G: Gate>(
+        &mut self,
+        rt: &R,
+        console: &mut Console<'_, W>,
+        gate: &mut Watched<G>,
+    ) -> Result<(), Fault>;
+
+    /// Has workers do what is asked about a source or a port, and answers it.
+    ///
+    /// # Errors
+    ///
+    /// `Fault::Write` where an answer can't be written.
+    fn steer<W: Write, R: Wait, G: Gate>(
+        &mut self,
+        rt: &R,
+        console: &mut Console<'_, W>,
+        gate: &mut Watched<G>,
+        steer: Steer,
+    ) -> Result<(), Fault>;
+}
+
+/// Nothing but edits can be asked for: other lines are `BadLine`.
+#[derive(Drop)]
+pub struct EditsAlone;
+
+impl Steering for EditsAlone {
+    fn reload<W: Write, R: Wait, G: Gate>(
+        &mut self,
+        _rt: &R,
+        console: &mut Console<'_, W>,
+        _gate: &mut Watched<G>,
+    ) -> Result<(), Fault> {
+        print_refusal(&mut console.out, "refused", Refusal::BadLine)?;
+        Ok(())
+    }
+
+    fn steer<W: Write, R: Wait, G: Gate>(
+        &mut self,
+        _rt: &R,
+        console: &mut Console<'_, W>,
+        _gate: &mut Watched<G>,
+        _steer: Steer,
+    ) -> Result<(), Fault> {
+        print_refusal(&mut console.out, "refused", Refusal::BadLine)?;
+        Ok(())
+    }
+}
+
+/// What a line asks for.
+#[derive(Clone, Copy, Debug, PartialEq, Eq)]
+enum Asked {
+    /// An edit, or nothing.
+    Edit,
+    /// Something about a source or a port.
+    Steer(Steer),
+    /// The setup file is to be read again.
+    Reload,
+    /// All workers are to end.
+    Quit,
 }
 
 /// Where an operator's lines are answered.
 #[derive(Drop)]
 pub struct Console<'a, W: Write> {
-    alloc: Global,
-    out: W,
+    pub(crate) alloc: Global,
+    pub(crate) out: W,
     registered: Registered,
-    told: Told<'a>,
+    pub(crate) told: Told<'a>,
 }
 
 impl<'a, W: Write> Console<'a, W> {
@@ -93,21 +205,34 @@ impl<'a, W: Write> Console<'a, W> {
         &mut self.out
     }
 
-    /// Answers a line, and tells whether it is `quit`: an edit is posted, and its reply printed.
-    fn answer<R: Wait, G: Gate>(
+    /// Answers a line, and tells whether it is `quit`.
+    fn answer<R: Wait, G: Gate, S: Steering>(
         &mut self,
         rt: &R,
         gate: &mut Watched<G>,
         line: &[u8],
+        steering: &mut S,
     ) -> Result<bool, Fault> {
-        if is_quit(line) {
-            return Ok(true);
+        match asked_by(self.alloc, line) {
+            Ok(Asked::Edit) => self.edit(rt, gate, line)?,
+            Ok(Asked::Steer(steer)) => steering.steer(rt, self, gate, steer)?,
+            Ok(Asked::Reload) => steering.reload(rt, self, gate)?,
+            Ok(Asked::Quit) => return Ok(true),
+            Err(refusal) => print_refusal(&mut self.out, "refused", refusal)?,
         }
+        Ok(false)
+    }
+
+    /// Answers a line that asks for an edit or for nothing.
+    fn edit<R: Wait, G: Gate>(
+        &mut self,
+        rt: &R,
+        gate: &mut Watched<G>,
+        line: &[u8],
+    ) -> Result<(), Fault> {
         match edit_in(self.alloc, line) {
             Ok(Some(edit)) => {
-                let change = Change::of(&edit);
-                let reply = gate.post(event_of(edit));
-                self.follow(rt, gate, change, &reply);
+                let reply = self.post_edit(rt, gate, edit);
                 match print_reply(self.alloc, &mut self.out, &reply) {
                     Ok(()) | Err(NotPrinted::NoMemory) => {}
                     Err(NotPrinted::Write) => return Err(Fault::Write),
@@ -116,7 +241,25 @@ impl<'a, W: Write> Console<'a, W> {
             Ok(None) => {}
             Err(refusal) => print_refusal(&mut self.out, "refused", refusal)?,
         }
-        Ok(false)
+        Ok(())
+    }
+
+    /// Whether a PMU of this source is registered.
+    pub(crate) fn has_source(&self, source: PmuId) -> bool {
+        self.registered.has(source)
+    }
+
+    /// Posts an edit, and tells workers what it asks of them.
+    pub(crate) fn post_edit<R: Wait, G: Gate>(
+        &mut self,
+        rt: &R,
+        gate: &mut Watched<G>,
+        edit: Edit,
+    ) -> Reply {
+        let change = Change::of(&edit);
+        let reply = gate.post(event_of(edit));
+        self.follow(rt, gate, change, &reply);
+        reply
     }
 
     /// Tells workers what an edit that was answered so asks of them, and wakes those that have frames to hand out by it.
@@ -146,18 +289,19 @@ impl<'a, W: Write> Console<'a, W> {
     }
 
     /// Reads a line and answers it, and tells whether it was the last: `quit`, or the end of the lines.
-    fn take_line<B: BufRead, R: Wait, G: Gate>(
+    fn take_line<B: BufRead, R: Wait, G: Gate, S: Steering>(
         &mut self,
         rt: &R,
         gate: &mut Watched<G>,
         reader: &mut B,
         line: &mut Vec<u8>,
+        steering: &mut S,
     ) -> Result<bool, Fault> {
         line.clear();
         match reader.read_until(b'\n', line) {
             Ok(0) => return Ok(true),
             Ok(_) => {
-                if self.answer(rt, gate, without_end(line.as_slice()))? {
+                if self.answer(rt, gate, without_end(line.as_slice()), steering)? {
                     self.told.end();
                     return Ok(true);
                 }
@@ -173,17 +317,18 @@ impl<'a, W: Write> Console<'a, W> {
 }
 
 /// Answers an operator's lines until `quit` comes, which ends all workers, or they end, which ends nothing (own rule). Each
-/// edit is posted and its reply printed; a line that asks for none is `BadLine`. Where no answer can be written any more it
-/// goes on without; where lines can't be read it ends. Both are noted.
-pub fn answer_lines<B: BufRead, W: Write, R: Wait, G: Gate>(
+/// edit is posted and its reply printed; lines that ask for more are left to who does it; a line that asks for nothing of these is
+/// `BadLine`. Where no answer can be written any more it goes on without; where lines can't be read it ends. Both are noted.
+pub fn answer_lines<B: BufRead, W: Write, R: Wait, G: Gate, S: Steering>(
     rt: &R,
     console: &mut Console<'_, W>,
     gate: &mut Watched<G>,
     reader: &mut B,
+    steering: &mut S,
 ) {
     let mut line = Vec::new(console.alloc);
     for _ in 0..u64::MAX {
-        match console.take_line(rt, gate, reader, &mut line) {
+        match console.take_line(rt, gate, reader, &mut line, steering) {
             Ok(true) => return,
             Ok(false) => {}
             Err(fault) => {
@@ -196,25 +341,68 @@ pub fn answer_lines<B: BufRead, W: Write, R: Wait, G: Gate>(
     }
 }
 
-/// A worker that answers the lines of standard input. Its one turn takes all of them.
+/// Where an operator's lines come from and are answered.
 #[derive(Drop)]
-pub struct Operator<'a, R: Wait + Input<Reader = StdinLock<'static>> + Print, N: Named> {
-    rt: &'a R,
-    gate: Watched<SharedGate<'a, R, N>>,
-    console: Console<'a, BufWriter<Printer<'a, R>>>,
+pub(crate) enum Desk<'a, R: Print> {
+    /// Standard input and output.
+    Standard(BufWriter<Printer<'a, R>>),
+    /// A connection.
+    Peer(BufReader<TcpStream>, TcpStream),
 }
 
-impl<'a, R: Wait + Input<Reader = StdinLock<'static>> + Print, N: Named> Operator<'a, R, N> {
-    /// An operator who is answered by this console.
-    pub fn new(
+/// Where lines are answered.
+#[derive(Drop)]
+enum Answers<'a, R: Print> {
+    Standard(Console<'a, BufWriter<Printer<'a, R>>>),
+    Peer(Console<'a, TcpStream>),
+}
+
+/// A worker that answers an operator's lines. Its one turn takes all of them.
+#[derive(Drop)]
+pub struct Operator<
+    'a,
+    R: Wait + Input<Reader = StdinLock<'static>> + Print + Net + Clock,
+    N: Named,
+> {
+    rt: &'a R,
+    gate: Watched<SharedGate<'a, R, N>>,
+    answers: Answers<'a, R>,
+    // The connection that lines come from, where they don't come from standard input.
+    peer: Option<BufReader<TcpStream>>,
+    in_force: InForce<'a, R>,
+}
+
+impl<'a, R: Wait + Input<Reader = StdinLock<'static>> + Print + Net + Clock, N: Named> Operator<
+    'a,
+    R,
+    N,
+> {
+    /// An operator at this desk, of a gateway that has these PMUs and runs by this setup.
+    pub(crate) fn new(
         rt: &'a R,
+        alloc: Global,
         gate: SharedGate<'a, R, N>,
-        console: Console<'a, BufWriter<Printer<'a, R>>>,
+        desk: Desk<'a, R>,
+        registered: Registered,
+        told: Told<'a>,
+        in_force: InForce<'a, R>,
     ) -> Operator<'a, R, N> {
+        let (answers, peer) = match desk {
+            Desk::Standard(out) => {
+                let console = Console::new(alloc, out, registered, told);
+                (Answers::Standard(console), None)
+            }
+            Desk::Peer(reader, out) => {
+                let console = Console::new(alloc, out, registered, told);
+                (Answers::Peer(console), Some(reader))
+            }
+        };
         Operator {
             rt,
             gate: Watched::new(gate),
-            console,
+            answers,
+            peer,
+            in_force,
         }
     }
 
@@ -225,10 +413,26 @@ impl<'a, R: Wait + Input<Reader = StdinLock<'static>> + Print, N: Named> Operato
     }
 }
 
-impl<R: Wait + Input<Reader = StdinLock<'static>> + Print, N: Named> Work for Operator<'_, R, N> {
+impl<R: Wait + Input<Reader = StdinLock<'static>> + Print + Net + Clock, N: Named> Work
+    for Operator<'_, R, N> {
     fn turn(&mut self) -> bool {
-        let mut reader = self.rt.reader();
-        answer_lines(self.rt, &mut self.console, &mut self.gate, &mut reader);
+        match &mut self.answers {
+            Answers::Standard(console) => {
+                let mut reader = self.rt.reader();
+                answer_lines(
+                    self.rt,
+                    console,
+                    &mut self.gate,
+                    &mut reader,
+                    &mut self.in_force,
+                );
+            }
+            Answers::Peer(console) => {
+                if let Some(reader) = &mut self.peer {
+                    answer_lines(self.rt, console, &mut self.gate, reader, &mut self.in_force);
+                }
+            }
+        }
         false
     }
 }
@@ -248,10 +452,22 @@ fn edit_in(alloc: Global, line: &[u8]) -> Result<Option<Edit>, Refusal>
     }
 }
 
-/// Whether a line is the word `quit`, with spaces at either end or not.
-fn is_quit(line: &[u8]) -> bool {
-    match str::from_utf8(line) {
-        Ok(text) => text.trim_matches(' ') == "quit",
-        Err(_) => false,
+/// What a line asks for.
+///
+/// # Errors
+///
+/// `NoMemory`.
+fn asked_by(alloc: Global, line: &[u8]) -> Result<Asked, Refusal> {
+    let Ok(text) = str::from_utf8(line) else {
+        return Ok(Asked::Edit);
+    };
+    match text.trim_matches(' ') {
+        "quit" => return Ok(Asked::Quit),
+        "reload" => return Ok(Asked::Reload),
+        _ => {}
+    }
+    match parse_steer(alloc, text)? {
+        Some(steer) => Ok(Asked::Steer(steer)),
+        None => Ok(Asked::Edit),
     }
 }

@@ -4,7 +4,8 @@ ghost use Rattle.std.specs.Prelude.{◌≡◌, IfOk, map, option_map};
 ghost use Rattle.std.specs.Duration.{as_nanos};
 ghost use Rattle.pg_run.specs.Limits.{limit_of};
 
-use crate::operator::{Console, Operator, Told};
+use crate::operator::{Desk, Operator, Told};
+use crate::reloading::InForce;
 use crate::workers::{
     Worker, join_all, mailboxes, port_workers, share_ports, share_sources, source_workers, told_as,
 };
@@ -20,10 +21,10 @@ use pg_service::{
 };
 use pg_wire::{PmuId, Refusal, SubId};
 use std::alloc::Global;
-use std::io::{BufWriter, Printer, StdinLock};
+use std::io::{BufReader, BufWriter, StdinLock};
 use std::marker::Brand;
 use std::net::{Net, SocketAddr, SocketAddrV4, TcpListener, TcpStream};
-use std::rt::{Clock, Files};
+use std::rt::Clock;
 use std::sync::Wait;
 use std::sync::atomic::AtomicBool;
 use std::thread::Threads;
@@ -42,17 +43,72 @@ struct Plan {
     now: Instant,
 }
 
-/// The work of `pdcgw run`: reads the setup, posts its edits, listens on the subscribers' ports, and then serves until the
-/// line `quit` comes (own rule).
+/// The work of `pdcgw run`, with the lines of standard input, answered on standard output: reads the setup, posts its edits, listens
+/// on the subscribers' ports, and then serves until the line `quit` comes (own rule). The end of the lines ends nothing.
 ///
 /// # Errors
 ///
 /// `ReadFault` where the file can't be read; `BadSetup` where it is no setup; that of the first edit that is refused;
 /// `ReadFault` where a port can't be bound; `NoMemory` before the workers have started.
-pub fn run<R>(rt: &R, file: &str) -> Result<(), Refusal>
+pub fn run<'a, R>(rt: &'a R, files: &'a HostRuntime, file: &'a str) -> Result<(), Refusal>
 where
-    R: Files
-        + Input<Reader = StdinLock<'static>>
+    R: Input<Reader = StdinLock<'static>>
+        + Print
+        + Eprint
+        + Clock
+        + Net<Listener = TcpListener, Stream = TcpStream>
+        + Threads
+        + Wait
+        + Sync
+        + Alloc<A = Global>,
+{
+    let Ok(out) = BufWriter::new(rt.alloc(), io::writer(rt)) else {
+        return Err(Refusal::NoMemory);
+    };
+    run_at(rt, files, file, Desk::Standard(out))
+}
+
+/// The same, with the lines of this connection, which are answered there.
+///
+/// # Errors
+///
+/// Those of `run`, and `ReadFault` where the connection can't be read and written at once.
+pub fn run_for<'a, R>(
+    rt: &'a R,
+    files: &'a HostRuntime,
+    file: &'a str,
+    peer: TcpStream,
+) -> Result<(), Refusal>
+where
+    R: Input<Reader = StdinLock<'static>>
+        + Print
+        + Eprint
+        + Clock
+        + Net<Listener = TcpListener, Stream = TcpStream>
+        + Threads
+        + Wait
+        + Sync
+        + Alloc<A = Global>,
+{
+    let out = match peer.try_clone() {
+        Ok(out) => out,
+        Err(error) => return Err(told_as(error)),
+    };
+    match BufReader::new(rt.alloc(), peer) {
+        Ok(reader) => run_at(rt, files, file, Desk::Peer(reader, out)),
+        Err(error) => Err(told_as(error)),
+    }
+}
+
+/// Serves by the setup of this file, with the lines of this desk.
+fn run_at<'a, R>(
+    rt: &'a R,
+    files: &'a HostRuntime,
+    file: &'a str,
+    desk: Desk<'a, R>,
+) -> Result<(), Refusal>
+where
+    R: Input<Reader = StdinLock<'static>>
         + Print
         + Eprint
         + Clock
@@ -72,7 +128,8 @@ where
         tick_ms,
         ingest,
         serve,
-    } = setup_in(rt, file)?;
+    } = setup_in(files, alloc, file)?;
+    let in_force = InForce::new(rt, files, file, setup_in(files, alloc, file)?);
     let (shared, seat) = Shared::new(alloc, Gateway::new(alloc)?)?;
     let mut registered = Registered::new(alloc)?;
     let mut gate = SeatGate::new(rt, &shared, seat);
@@ -92,20 +149,17 @@ where
         serve: usize::from(serve),
         now,
     };
-    let Ok(out) = BufWriter::new(alloc, io::writer(rt)) else {
-        return Err(Refusal::NoMemory);
-    };
-    serve_all::<R, Brand>(rt, alloc, gateway, seat, plan, out)
+    serve_all::<R, Brand>(rt, alloc, gateway, seat, plan, desk, in_force)
 }
 
 /// The setup that a file has.
-fn setup_in<R: Files + Alloc<A = Global>>(rt: &R, file: &str) -> Result<Setup, Refusal> {
-    let bytes = match fs::read(rt, file) {
+fn setup_in(files: &HostRuntime, alloc: Global, file: &str) -> Result<Setup, Refusal> {
+    let bytes = match fs::read(files, file) {
         Ok(bytes) => bytes,
         Err(error) => return Err(told_as(error)),
     };
     match str::from_utf8(bytes.as_slice()) {
-        Ok(text) => read_setup(rt.alloc(), text),
+        Ok(text) => read_setup(alloc, text),
         Err(_) => Err(Refusal::BadSetup),
     }
 }
@@ -171,7 +225,7 @@ fn port_plan(port: (SubId, u16), rules: PortRules) -> Result<PortPlan, Refusal>
 }
 
 /// How a port is served by the rules of the setup.
-fn door_rules(rules: PortRules) -> DoorRules
+pub(crate) fn door_rules(rules: PortRules) -> DoorRules
     ensures allow { result.allow ≡ rules.allow }
     ensures takeover { result.takeover ≡ rules.takeover }
     ensures stall { option_map as_nanos result.stall ≡ limit_of rules.stall }
@@ -237,6 +291,29 @@ fn dials_of(
     Ok(dials)
 }
 
+/// A source that is called at this address, as the setup writes it, and by these rules.
+pub(crate) fn dial_by(source: PmuId, address: String, rules: &SourceRules) -> Dial {
+    let address = match address.as_str().parse::<SocketAddrV4>() {
+        Ok(address) => Address::Known(SocketAddr::V4(address)),
+        Err(_) => Address::Name(address),
+    };
+    dial_to(source, address, rules)
+}
+
+/// A source that is called at this address and by these rules.
+pub(crate) fn dial_to(source: PmuId, address: Address, rules: &SourceRules) -> Dial {
+    let guard = match rules.clock_ms {
+        Some(limit) => Some(ClockGuard { limit }),
+        None => None,
+    };
+    Dial {
+        source,
+        address,
+        silence: limit_of(rules.silence),
+        guard,
+    }
+}
+
 /// A source that is called, at its address and by its rules.
 fn dial_of(alloc: Global, link: &(PmuId, String), sources: &[SourceRules]) -> Result<Dial, Refusal>
     ensures { IfOk result (λ d. d.source ≡ link.now.0) }
@@ -289,7 +366,8 @@ fn serve_all<
     shared: &Shared,
     seat: Seat,
     plan: Plan,
-    out: BufWriter<Printer<'_, R>>,
+    desk: Desk<'_, R>,
+    in_force: InForce<'_, R>,
 ) -> Result<(), Refusal>
     requires shared { shared.now ≡ N.table }
     requires seat { seat.table ≡ N.table }
@@ -310,7 +388,7 @@ fn serve_all<
         journal: Journal::new(alloc)?,
     };
     let (seat, workers) = make_workers::<R, N>(
-        rt, alloc, shared, seat, plan, waits, &boxes, out, &stop,
+        rt, alloc, shared, seat, plan, waits, &boxes, desk, in_force, &stop,
     )?;
     let back = run_workers(rt, alloc, workers, u64::MAX, &stop)?;
     join_all(shared, seat, back);
@@ -335,7 +413,8 @@ fn make_workers<
     plan: Plan,
     waits: Waits,
     boxes: &'a Boxes,
-    out: BufWriter<Printer<'a, R>>,
+    desk: Desk<'a, R>,
+    in_force: InForce<'a, R>,
     stop: &'a AtomicBool,
 ) -> Result<(Seat, Vec<Worker<'a, R, N>>), Refusal>
     requires shared { shared.now ≡ N.table }
@@ -397,8 +476,15 @@ fn make_workers<
         neighbours,
         stop,
     };
-    let console = Console::new(alloc, out, plan.registered, told);
-    workers.push(Worker::Lines(Operator::new(rt, gate, console)))?;
+    workers.push(Worker::Lines(Operator::new(
+        rt,
+        alloc,
+        gate,
+        desk,
+        plan.registered,
+        told,
+        in_force,
+    )))?;
     Ok((seat, workers))
 }
 

@@ -1,7 +1,7 @@
 //! Lines are answered in order, edits posted, and `quit` ends all workers.
 use pg_gateway::{Event, Gate, Gateway, Reply};
 use pg_ingest::fakes::FakeWriter;
-use pg_run::{Console, Told, answer_lines};
+use pg_run::{Console, EditsAlone, Told, answer_lines};
 use pg_service::{
     Journal, Lookup, Mailbox, Neighbours, Notice, PortOrder, Registered, SourceOrder, Waiting,
     Watched,
@@ -75,7 +75,7 @@ fn answered<R: Net + Abort + Wait>(
     let mut gate = Watched::new(Gateway::new(alloc).expect(rt, "memory"));
     let mut reader = text.as_bytes();
     let mut console = Console::new(alloc, &mut out, registered, told);
-    answer_lines(rt, &mut console, &mut gate, &mut reader);
+    answer_lines(rt, &mut console, &mut gate, &mut reader, &mut EditsAlone);
     drop(console);
     let faults = boxes.journal.count(Notice::ConsoleFault);
     (

@@ -30,8 +30,8 @@ impl Recent {
     }
 }
 
-/// What the log tells at once, and what it holds back (own rule). Of what is alike, of one kind and of one source or subscriber,
-/// it tells the first at once and then at most a line a second, which counts those that were held back; where frames were ignored
+/// What the log tells at once, and what it holds back (own rule). Of what is alike, of one kind, source or subscriber and reason, it
+/// tells the first at once and then at most a line a second, which counts those that were held back; where frames were ignored
 /// a line a minute. So a flood of one fills no log, and hides nobody else. Times are milliseconds of any clock that rises.
 #[derive(Drop)]
 pub struct Digest {

@@ -69,17 +69,27 @@ pub enum Notice {
     Listening = 26,
     /// Of what was met more was not kept for the log.
     Untold = 27,
+    /// A source is called no longer.
+    Undialed = 28,
+    /// A port is listened on no longer.
+    Unlistened = 29,
+    /// The setup was read again, and what changed was done.
+    Reloaded = 30,
+    /// The setup was to be read again and could not be, or had a fault: nothing changed.
+    NotReloaded = 31,
 }
 
 /// How many kinds of notices there are.
-const KINDS: usize = 28;
+const KINDS: usize = 32;
 
 impl Notice {
     /// The kinds that are counted where nobody is named, so that the log tells how often they were met.
-    pub(crate) const UNNAMED: [Notice; 3] = [
+    pub(crate) const UNNAMED: [Notice; 5] = [
         Notice::PollFault,
         Notice::ClockFault,
         Notice::MailFault,
+        Notice::ConsoleFault,
+        Notice::Untold,
     ];
 
     /// How much it matters (own rule): an error is a fault of this machine, a warning what an operator may have to mend.
@@ -102,7 +112,8 @@ impl Notice {
             | Notice::ConsoleFault
             | Notice::Ignored
             | Notice::Gap
-            | Notice::Untold => Level::Warn,
+            | Notice::Untold
+            | Notice::NotReloaded => Level::Warn,
             Notice::Called
             | Notice::Made
             | Notice::Connected
@@ -111,7 +122,10 @@ impl Notice {
             | Notice::Announced
             | Notice::Started
             | Notice::Stopped
-            | Notice::Listening => Level::Info,
+            | Notice::Listening
+            | Notice::Undialed
+            | Notice::Unlistened
+            | Notice::Reloaded => Level::Info,
         }
     }
 }
@@ -170,9 +184,17 @@ impl Entry {
         }
     }
 
-    /// Whether it is of the same kind and of the same one, so that one line may stand for both.
+    /// Whether it is of the same kind, of the same one and for the same reason, so that one line may stand for both. Where from is
+    /// no difference.
     pub fn is_like(&self, other: &Entry) -> bool {
-        self.notice == other.notice && self.whom == other.whom
+        self.notice == other.notice
+            && self.whom == other.whom
+            && (self.detail == other.detail || (self.is_at() && other.is_at()))
+    }
+
+    /// Whether an address is known beside.
+    fn is_at(&self) -> bool {
+        matches!(self.detail, Detail::At(_))
     }
 }
 

@@ -42,3 +42,4 @@ pub use sources::{Address, Dial, Neighbours, SourceWorker};
 pub use ticker::Ticker;
 pub use waiting::Waiting;
 pub use watched::{Guarding, Seen, Watched};
+pub use words::system_words;

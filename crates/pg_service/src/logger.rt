@@ -31,7 +31,7 @@ pub struct Logger<'a, R: Wait + Clock + Eprint + Net> {
     outlet: Outlet,
     started: Instant,
     // How often each kind without a name was met before.
-    counted: [u64; 3],
+    counted: [u64; 5],
 }
 
 impl<'a, R: Wait + Clock + Eprint + Net> Logger<'a, R> {
@@ -55,7 +55,7 @@ impl<'a, R: Wait + Clock + Eprint + Net> Logger<'a, R> {
             digest: Digest::new(alloc),
             outlet: Outlet::new(rt, alloc)?,
             started: now,
-            counted: [0; 3],
+            counted: [0; 5],
         })
     }
 

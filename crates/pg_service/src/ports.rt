@@ -206,21 +206,43 @@ impl<'a, R: Wait + Net + Clock, N: Named> PortWorker<'a, R, N> {
                 rules,
                 listener,
             } => {
-                if self.open(Port::new(sub, rules, listener)).is_err() {
-                    let whom = Whom::Subscriber(sub);
-                    let entry = Entry::new(Notice::SocketFault, whom, Detail::Nothing);
-                    self.journal.tell(self.rt, entry);
-                }
+                self.open_told(Port::new(sub, rules, listener));
             }
-            PortOrder::Close(sub) => {
-                self.hang_up(sub);
-                for port in self.ports.iter_mut() {
-                    if port.as_ref().is_some_and(|it| it.door.sub() == sub) {
-                        *port = None;
-                    }
-                }
-            }
+            PortOrder::Close(sub) => self.close(sub),
             PortOrder::HangUp(sub) => self.hang_up(sub),
+        }
+    }
+
+    /// Serves this port too, and tells the log.
+    fn open_told(&mut self, port: Port) {
+        let whom = Whom::Subscriber(port.sub());
+        let detail = match port.address() {
+            Ok(address) => Detail::At(address),
+            Err(_) => Detail::Nothing,
+        };
+        let is_open = self.open(port).is_ok();
+        let notice = if is_open {
+            Notice::Listening
+        } else {
+            Notice::SocketFault
+        };
+        self.journal.tell(self.rt, Entry::new(notice, whom, detail));
+    }
+
+    /// Serves the subscriber's port no longer, and hangs up who has connected there.
+    fn close(&mut self, sub: SubId) {
+        self.hang_up(sub);
+        let mut is_closed = false;
+        for port in self.ports.iter_mut() {
+            if port.as_ref().is_some_and(|it| it.door.sub() == sub) {
+                *port = None;
+                is_closed = true;
+            }
+        }
+        if is_closed {
+            let whom = Whom::Subscriber(sub);
+            let entry = Entry::new(Notice::Unlistened, whom, Detail::Nothing);
+            self.journal.tell(self.rt, entry);
         }
     }
 

@@ -15,6 +15,7 @@ use pg_limits::{Budget, ClockGuard};
 use pg_serve::{Named, SharedGate, Work};
 use pg_wire::{PmuId, Refusal};
 use std::alloc::{AllocError, Global};
+use std::io::ErrorKind;
 use std::mem;
 use std::net::{Net, SocketAddr};
 use std::rt::Clock;
@@ -279,7 +280,10 @@ impl<'a, R: Wait + Net + Clock, N: Named> SourceWorker<'a, R, N> {
                 if let Some(source) = self.sources.iter_mut().find(|it| it.line.source() == id) {
                     source.line.rest();
                     source.stream = None;
-                    source.address = None;
+                    if source.address.take().is_some() {
+                        let entry = source.entry(Notice::Undialed, Detail::Nothing);
+                        self.neighbours.journal.tell(self.rt, entry);
+                    }
                 }
             }
             SourceOrder::Renew(id) => {
@@ -510,7 +514,7 @@ impl Source {
             }
             Err(_) => {
                 self.line.ended(now);
-                Some(self.entry(Notice::MailFault, Detail::Nothing))
+                Some(self.entry(Notice::NotMade, Detail::System(ErrorKind::OutOfMemory)))
             }
         }
     }

@@ -67,6 +67,10 @@ fn said(notice: Notice) -> &'static str {
         Notice::Stopped => "stopped stream",
         Notice::Listening => "may connect",
         Notice::Untold => "more was met than the log keeps",
+        Notice::Undialed => "called no longer",
+        Notice::Unlistened => "its port is closed",
+        Notice::Reloaded => "the setup was read again, and what changed is done",
+        Notice::NotReloaded => "the setup was read again; nothing changes",
     }
 }
 
@@ -89,7 +93,7 @@ fn write_detail<W: fmt::Write>(
         Detail::Because(refusal) => write_refusal(*refusal, f),
         Detail::Ended(end) => write_end(*end, f),
         Detail::System(kind) => {
-            let told = system_said(*kind);
+            let told = system_words(*kind);
             write!(f, ": {told}")
         }
         Detail::Rate(rate) => write!(f, ", DATA_RATE {rate}"),
@@ -123,9 +127,12 @@ fn write_end<W: fmt::Write>(end: End, f: &mut fmt::Formatter<W>) -> fmt::Result 
     }
 }
 
-/// What the system said.
-fn system_said(kind: ErrorKind) -> &'static str {
+/// What the system said, in words.
+pub fn system_words(kind: ErrorKind) -> &'static str {
     match kind {
+        ErrorKind::NotFound => "there is no such file",
+        ErrorKind::AddrInUse => "the address is in use",
+        ErrorKind::AddrNotAvailable => "this machine has no such address",
         ErrorKind::ConnectionRefused => "connection refused",
         ErrorKind::ConnectionReset => "connection reset",
         ErrorKind::HostUnreachable => "host unreachable",

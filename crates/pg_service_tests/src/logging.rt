@@ -80,6 +80,25 @@ fn a_line_a_minute(rt: HostRuntime) {
     assert!(rt; times(digest.due(60_000)) == 2);
 }
 
+/// Frames that are ignored for another reason, and another stream, have lines of their own, with their own counts.
+#[test]
+fn reasons_are_told_apart(rt: HostRuntime) {
+    let mut digest = Digest::new(rt.alloc());
+    let ignored = |reason| of_source(&rt, Notice::Ignored, Detail::Because(reason));
+    assert!(rt; times(digest.met(ignored(Refusal::BadCheck), 0)) == 1);
+    assert!(rt; times(digest.met(ignored(Refusal::StaleConfig), 1)) == 1);
+    assert!(rt; digest.met(ignored(Refusal::BadCheck), 2).is_none());
+    assert!(rt; digest.met(ignored(Refusal::BadCheck), 3).is_none());
+    assert!(rt; digest.met(ignored(Refusal::StaleConfig), 4).is_none());
+    let first = digest.due(60_001).expect(&rt, "the first reason");
+    assert!(rt; first.detail == Detail::Because(Refusal::BadCheck) && first.times == 2);
+    let second = digest.due(60_001).expect(&rt, "the other reason");
+    assert!(rt; second.detail == Detail::Because(Refusal::StaleConfig) && second.times == 1);
+    let started = |stream| of_subscriber(&rt, 2, Notice::Started, Detail::Stream(stream));
+    assert!(rt; times(digest.met(started(101), 0)) == 1);
+    assert!(rt; times(digest.met(started(102), 0)) == 1);
+}
+
 /// More kinds than are told apart are counted, and told as such.
 #[test]
 fn too_many_kinds(rt: HostRuntime) {

@@ -1,0 +1,305 @@
+//! The line `reload`: the setup file is read again, and what changed is done.
+
+use crate::operator::{Console, Told};
+use crate::running::dial_by;
+use crate::workers::told_as;
+use mio::net::TcpListener as PortListener;
+use pg_check::{check_setup, edit_name, reason};
+use pg_gateway::{Gate, Reply};
+use pg_operator::{PortRules, Setup, SourceRules, read_setup};
+use pg_reload::{Call, Changes, Order, Port, Restart, changes_between};
+use pg_replay::{Fault, print_refusal};
+use pg_service::{Detail, Entry, Notice, Watched, Whom, system_words};
+use pg_wire::{PmuId, Refusal, SubId};
+use std::alloc::{AllocError, Global};
+use std::io::{ErrorKind, Read, Write};
+use std::net::{Net, SocketAddr};
+use std::rt::Clock;
+use std::sync::Wait;
+use std::time::Duration;
+use std::{fs, io, thread};
+
+/// How often it is tried to bind a port that another one of ours has not left yet, and how long is waited between.
+const TRIES: u32 = 100;
+
+const PAUSE_MS: u64 = 10;
+
+/// The seconds without an event after which a source is called anew, where the setup does not name it.
+const SILENCE: u16 = 10;
+
+/// The setup by which the gateway runs, and the file that it stands in.
+#[derive(Drop)]
+pub struct InForce<'a, R: Net + Clock> {
+    rt: &'a R,
+    files: &'a HostRuntime,
+    file: &'a str,
+    setup: Setup,
+}
+
+impl<'a, R: Net + Clock> InForce<'a, R> {
+    /// The gateway runs by this setup of this file.
+    pub fn new(rt: &'a R, files: &'a HostRuntime, file: &'a str, setup: Setup) -> InForce<'a, R> {
+        InForce {
+            rt,
+            files,
+            file,
+            setup,
+        }
+    }
+}
+
+impl<R: Net + Clock> InForce<'_, R> {
+    /// The bytes of the file.
+    fn contents(&self, alloc: Global) -> io::Result<Vec<u8>> {
+        let mut file = fs::open(self.files, self.file)?;
+        let mut bytes = Vec::new(alloc);
+        file.read_to_end(&mut bytes)?;
+        Ok(bytes)
+    }
+
+    /// The setup that the file has now. Where it has none that can run, that is answered.
+    fn read<W: Write>(&self, alloc: Global, out: &mut W) -> Result<Option<Setup>, Fault> {
+        let bytes = match self.contents(alloc) {
+            Ok(bytes) => bytes,
+            Err(error) => {
+                let why = system_words(error.kind());
+                write_all(writeln!(out, "{}: can't be read: {why}", self.file))?;
+                print_refusal(out, "refused", told_as(error))?;
+                return Ok(None);
+            }
+        };
+        let Ok(text) = str::from_utf8(bytes.as_slice()) else {
+            write_all(writeln!(out, "{}: it is no text in UTF-8, as a setup is", self.file))?;
+            print_refusal(out, "refused", Refusal::BadSetup)?;
+            return Ok(None);
+        };
+        if let Err(trouble) = check_setup(alloc, self.file, text) {
+            write_all(write!(out, "{}", trouble.told.as_str()))?;
+            print_refusal(out, "refused", trouble.refusal)?;
+            return Ok(None);
+        }
+        match read_setup(alloc, text) {
+            Ok(setup) => Ok(Some(setup)),
+            Err(refusal) => {
+                print_refusal(out, "refused", refusal)?;
+                Ok(None)
+            }
+        }
+    }
+
+    /// Does what leads to this setup, and tells what was done.
+    fn change<W: Write, Q: Wait, G: Gate>(
+        &mut self,
+        rt: &Q,
+        console: &mut Console<'_, W>,
+        gate: &mut Watched<G>,
+        new: Setup,
+        changes: Changes,
+    ) -> Report {
+        let Changes {
+            edits,
+            orders,
+            restarts,
+        } = changes;
+        let mut report = Report::new(console.alloc);
+        for edit in edits {
+            let name = edit_name(console.alloc, &edit);
+            let reply = console.post_edit(rt, gate, edit);
+            report.edited(name, &reply);
+        }
+        let told = console.told;
+        for order in orders {
+            self.obey(rt, told, order, &mut report);
+        }
+        for restart in restarts {
+            report.restarted(restart);
+        }
+        self.setup = new;
+        report
+    }
+}
+
+/// What was done by a reload.
+#[derive(Drop)]
+struct Report {
+    edits: u64,
+    orders: u64,
+    lines: Vec<u8>,
+    // Whether there was memory for all lines.
+    is_whole: bool,
+}
+
+impl Report {
+    /// Nothing was done.
+    fn new(alloc: Global) -> Report {
+        Report {
+            edits: 0,
+            orders: 0,
+            lines: Vec::new(alloc),
+            is_whole: true,
+        }
+    }
+
+    /// An edit was answered so. Where it was refused, that is told: whom it concerns, and why.
+    fn edited(&mut self, name: Result<String, AllocError>, reply: &Reply) {
+        let Reply::Refused(refusal) = reply else {
+            self.edits = self.edits.saturating_add(1);
+            return;
+        };
+        let written = match name {
+            Ok(name) => writeln!(self.lines, "{}: {}", name.as_str(), reason(*refusal)),
+            Err(_) => Err(io::Error::from(ErrorKind::OutOfMemory)),
+        };
+        self.refused(written, *refusal);
+    }
+
+    /// Something was refused, of which was told in words.
+    fn refused(&mut self, written: io::Result<()>, refusal: Refusal) {
+        let printed = print_refusal(&mut self.lines, "refused", refusal);
+        self.is_whole = self.is_whole && written.is_ok() && printed.is_ok();
+    }
+
+    /// A port can't be bound.
+    fn not_bound(&mut self, sub: SubId, address: SocketAddr, error: io::Error) {
+        let (number, why) = (sub.get(), system_words(error.kind()));
+        let written = writeln!(self.lines, "subscriber {number}: port {address}: {why}");
+        self.refused(written, told_as(error));
+    }
+
+    /// This key needs a new start.
+    fn restarted(&mut self, restart: Restart) {
+        let key = key_of(restart);
+        let written = writeln!(self.lines, "{key} needs a new start");
+        self.is_whole = self.is_whole && written.is_ok();
+    }
+
+    /// Prints what was done, and in the lines before it what was not.
+    fn print<W: Write>(&self, out: &mut W) -> Result<(), Fault> {
+        write_all(out.write_all(&self.lines))?;
+        if !self.is_whole {
+            print_refusal(out, "refused", Refusal::NoMemory)?;
+        }
+        let (edits, orders) = (self.edits, self.orders);
+        write_all(writeln!(out, "reloaded: {edits} edits, {orders} orders"))
+    }
+}
+
+impl<R: Net + Clock> InForce<'_, R> {
+    /// Has workers do what is to be done about a source or a port.
+    fn obey<Q: Wait>(&self, rt: &Q, told: Told<'_>, order: Order, report: &mut Report) {
+        match order {
+            Order::Undial(source) => told.undial(rt, source),
+            Order::Dial(call) => {
+                let Call {
+                    source,
+                    address,
+                    rules,
+                } = call;
+                told.dial(rt, dial_by(source, address, &rules));
+            }
+            Order::Unlisten(sub) => told.close(rt, sub),
+            Order::Listen(port) => {
+                let Port { port, rules } = port;
+                let address = SocketAddr::from((rules.address, port));
+                match self.bind(address) {
+                    Ok(listener) => told.open(rt, rules, listener),
+                    Err(error) => {
+                        report.not_bound(rules.sub, address, error);
+                        return;
+                    }
+                }
+            }
+        }
+        report.orders = report.orders.saturating_add(1);
+    }
+
+    /// Listens here. A port of ours that is to be closed may not be closed yet: then it is tried again for a second.
+    pub(crate) fn bind(&self, address: SocketAddr) -> io::Result<PortListener> {
+        for _ in 0..TRIES {
+            match PortListener::bind(self.rt, address) {
+                Err(error) if error.kind() == ErrorKind::AddrInUse => {
+                    thread::sleep(self.rt, Duration::from_millis(PAUSE_MS));
+                }
+                bound => return bound,
+            }
+        }
+        PortListener::bind(self.rt, address)
+    }
+}
+
+impl<R: Net + Clock> InForce<'_, R> {
+    /// Reads the setup again and does what changed; answers it when all is done, so that a writer that fails keeps nothing from
+    /// being done.
+    ///
+    /// # Errors
+    ///
+    /// `Fault::Write` where an answer can't be written.
+    pub(crate) fn renew<W: Write, Q: Wait, G: Gate>(
+        &mut self,
+        rt: &Q,
+        console: &mut Console<'_, W>,
+        gate: &mut Watched<G>,
+    ) -> Result<(), Fault> {
+        let alloc = console.alloc;
+        let journal = console.told.neighbours.journal;
+        let Some(new) = self.read(alloc, &mut console.out)? else {
+            journal.tell(
+                rt,
+                Entry::new(Notice::NotReloaded, Whom::Nobody, Detail::Nothing),
+            );
+            return Ok(());
+        };
+        match changes_between(alloc, &self.setup, &new) {
+            Ok(changes) => {
+                let report = self.change(rt, console, gate, new, changes);
+                journal.tell(
+                    rt,
+                    Entry::new(Notice::Reloaded, Whom::Nobody, Detail::Nothing),
+                );
+                report.print(&mut console.out)
+            }
+            Err(refusal) => {
+                journal.tell(
+                    rt,
+                    Entry::new(Notice::NotReloaded, Whom::Nobody, Detail::Nothing),
+                );
+                print_refusal(&mut console.out, "refused", refusal)?;
+                Ok(())
+            }
+        }
+    }
+
+    /// The rules of the subscriber's port, if the setup has one for it.
+    pub(crate) fn door_of(&self, sub: SubId) -> Option<&PortRules> {
+        self.setup.doors.iter().find(|it| it.sub == sub)
+    }
+
+    /// How a source is watched, by the setup; by its defaults, where it does not name it.
+    pub(crate) fn rules_of(&self, source: PmuId) -> SourceRules {
+        match self.setup.sources.iter().find(|it| it.source == source) {
+            Some(rules) => *rules,
+            None => SourceRules {
+                source,
+                silence: SILENCE,
+                clock_ms: None,
+            },
+        }
+    }
+}
+
+/// Whether it could be written.
+pub(crate) fn write_all(written: io::Result<()>) -> Result<(), Fault> {
+    match written {
+        Ok(()) => Ok(()),
+        Err(_) => Err(Fault::Write),
+    }
+}
+
+/// The key of a setup.
+fn key_of(restart: Restart) -> &'static str {
+    match restart {
+        Restart::TickMs => "tick_ms",
+        Restart::Ingest => "ingest",
+        Restart::Serve => "serve",
+    }
+}

@@ -1,0 +1,143 @@
+//! Lines about the sources and ports of the running service.
+
+use crate::operator::{Console, Steering};
+use crate::reloading::{InForce, write_all};
+use crate::running::dial_to;
+use crate::workers::told_as;
+use pg_gateway::{Event, Gate, Reply};
+use pg_limits::Allow;
+use pg_operator::{PortRules, Steer};
+use pg_replay::{Fault, print_refusal};
+use pg_service::{Address, Watched, system_words};
+use pg_wire::{PmuId, Refusal, SubId};
+use std::alloc::Global;
+use std::io::Write;
+use std::net::{Ipv4Addr, Net, SocketAddr, SocketAddrV4};
+use std::rt::Clock;
+use std::sync::Wait;
+
+/// The seconds after which a subscriber is hung up whose socket takes nothing of what waits for it, where the setup has no port
+/// for it.
+const STALL: u16 = 30;
+
+impl<R: Net + Clock> InForce<'_, R> {
+    /// Calls a registered source at this address from now on.
+    fn dial<W: Write, Q: Wait>(
+        &self,
+        rt: &Q,
+        console: &mut Console<'_, W>,
+        source: PmuId,
+        address: SocketAddrV4,
+    ) -> Result<(), Refusal> {
+        if !console.has_source(source) {
+            return Err(Refusal::NoSuchPmu);
+        }
+        let address = Address::Known(SocketAddr::V4(address));
+        console.told.undial(rt, source);
+        console
+            .told
+            .dial(rt, dial_to(source, address, &self.rules_of(source)));
+        Ok(())
+    }
+
+    /// The rules of a subscriber's port on this address: else those of the setup, so that `allow` holds for this port too; where
+    /// the setup has no port for it, those of a port of which it says nothing.
+    fn port_rules(
+        &self,
+        alloc: Global,
+        sub: SubId,
+        address: Ipv4Addr,
+    ) -> Result<PortRules, Refusal> {
+        let Some(door) = self.door_of(sub) else {
+            return Ok(PortRules {
+                sub,
+                address,
+                allow: Allow { networks: None },
+                takeover: false,
+                stall: STALL,
+                idle: 0,
+            });
+        };
+        let networks = match &door.allow.networks {
+            Some(networks) => Some(Vec::from_slice(alloc, networks.as_slice())?),
+            None => None,
+        };
+        Ok(PortRules {
+            sub,
+            address,
+            allow: Allow { networks },
+            takeover: door.takeover,
+            stall: door.stall,
+            idle: door.idle,
+        })
+    }
+
+    /// Opens a port for a subscriber. Where it has one, that is closed, unless the new one can't be bound.
+    fn listen<W: Write, Q: Wait, G: Gate>(
+        &self,
+        rt: &Q,
+        console: &mut Console<'_, W>,
+        gate: &mut Watched<G>,
+        sub: SubId,
+        port: u16,
+        host: Ipv4Addr,
+    ) -> Result<Result<(), Refusal>, Fault> {
+        if let Reply::Refused(refusal) = gate.post(Event::Stats(sub)) {
+            return Ok(Err(refusal));
+        }
+        let rules = match self.port_rules(console.alloc, sub, host) {
+            Ok(rules) => rules,
+            Err(refusal) => return Ok(Err(refusal)),
+        };
+        let address = SocketAddr::from((host, port));
+        match self.bind(address) {
+            Ok(listener) => {
+                console.told.close(rt, sub);
+                console.told.open(rt, rules, listener);
+                Ok(Ok(()))
+            }
+            Err(error) => {
+                let (number, why) = (sub.get(), system_words(error.kind()));
+                write_all(writeln!(console.out, "subscriber {number}: port {address}: {why}"))?;
+                Ok(Err(told_as(error)))
+            }
+        }
+    }
+}
+
+impl<R: Net + Clock> Steering for InForce<'_, R> {
+    fn reload<W: Write, Q: Wait, G: Gate>(
+        &mut self,
+        rt: &Q,
+        console: &mut Console<'_, W>,
+        gate: &mut Watched<G>,
+    ) -> Result<(), Fault> {
+        self.renew(rt, console, gate)
+    }
+
+    fn steer<W: Write, Q: Wait, G: Gate>(
+        &mut self,
+        rt: &Q,
+        console: &mut Console<'_, W>,
+        gate: &mut Watched<G>,
+        steer: Steer,
+    ) -> Result<(), Fault> {
+        let mut done = Ok(());
+        match steer {
+            Steer::Dial(source, address) => done = self.dial(rt, console, source, address),
+            Steer::Undial(source) => console.told.undial(rt, source),
+            Steer::Listen(sub, port, host) => {
+                done = self.listen(rt, console, gate, sub, port, host)?;
+            }
+            Steer::Unlisten(sub) => console.told.close(rt, sub),
+            Steer::Disconnect(sub) => console.told.hang_up(rt, sub),
+        }
+        match done {
+            Ok(()) => write_all(writeln!(console.out, "done 0 0")),
+            Err(refusal) => {
+                print_refusal(&mut console.out, "refused", refusal)?;
+                Ok(())
+            }
+        }
+    }
+}
