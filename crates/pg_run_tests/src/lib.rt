@@ -1,5 +1,7 @@
-//! Tests of pg_run, as its callers see it: an operator's lines over memory.
+//! Tests of pg_run, as its callers see it: an operator's lines over memory, and services over loopback.
 #![tactic(auto)]
 
 #[cfg(test)]
 mod lines;
+#[cfg(test)]
+mod reloads;
