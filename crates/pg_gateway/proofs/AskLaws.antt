@@ -1,4 +1,4 @@
--- Events that ask for counters and notes.
+-- Events that ask for counters, notes, and how a subscriber stands.
 use Rattle.std.proofs.Common.{◌≡◌, ℕ, Option, Some, None, refl, ap, arith, inl}
 use Rattle.pg_wire.specs.declared.refusal.Refusal.TheVariants.{NoSuchPmu, NoSuchSub}
 use Rattle.pg_wire.specs.declared.ids.PmuKey.{PmuKey}
@@ -8,8 +8,10 @@ use Rattle.pg_audit.specs.declared.counters.PmuStats.{PmuStats}
 use Rattle.pg_audit.specs.declared.audit.Entry.{Entry}
 use Rattle.pg_audit.specs.Noting.{newest_at}
 use Rattle.pg_session.specs.Private.{refused}
+use Rattle.pg_session.specs.declared.standing.Standing.{Standing}
+use Rattle.pg_session.specs.Standing.{standing_of}
 use Rattle.pg_gateway.specs.Sharing.{Seat}
-use Rattle.pg_gateway.specs.Occurrences.{stats, pmu_stats, audit, tells, sub_counts, pmu_counts, entry}
+use Rattle.pg_gateway.specs.Occurrences.{stats, pmu_stats, audit, standing, tells, sub_counts, pmu_counts, entry, stands}
 use Rattle.pg_gateway.specs.Shared.{Shared, seat_of}
 use Rattle.pg_gateway.specs.Shown.{GatewayValue, GatewayShows, Steps}
 
@@ -30,6 +32,16 @@ pub audit_some : (u index : ℕ) (S : Shared) (v : GatewayValue) (s : Seat) (e :
 audit_some u index S v s e shown there is =
     record {
       may = rw there (inl (0, omega arith, ap entry is));
+      shows = record { pmus = shown.pmus; subs = shown.subs; last_tick = shown.last_tick };
+    }
+
+pub standing_none : (u place : ℕ) (S : Shared) (v : GatewayValue) → GatewayShows v S → seat_of u S.subs ≡ None → Steps S (standing u place) (tells (refused NoSuchSub)) v
+standing_none u place S v shown none = record { may = rw none refl; shows = record { pmus = shown.pmus; subs = shown.subs; last_tick = shown.last_tick } }
+
+pub standing_some : (u place : ℕ) (S : Shared) (v : GatewayValue) (s : Seat) (st : Standing) → GatewayShows v S → seat_of u S.subs ≡ Some s → st ≡ standing_of s.own place → Steps S (standing u place) (stands st) v
+standing_some u place S v s st shown there is =
+    record {
+      may = rw there (inl (0, omega arith, ap stands is));
       shows = record { pmus = shown.pmus; subs = shown.subs; last_tick = shown.last_tick };
     }
 

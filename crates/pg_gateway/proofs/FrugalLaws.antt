@@ -8,9 +8,9 @@ use Rattle.pg_session.specs.Private as private
 use Rattle.pg_session.specs.Private.{Told, refused}
 use Rattle.pg_session.specs.Shown.{Model}
 use Rattle.pg_session.specs.ByAll.{by_arrivals, by_numbers}
-use Rattle.pg_gateway.specs.Occurrences.{Occurrence, add_pmu, drop_pmu, add_sub, drop_sub, grant, asks, announce, measure, tick, stats, pmu_stats, audit, Answer, tells}
+use Rattle.pg_gateway.specs.Occurrences.{Occurrence, add_pmu, drop_pmu, add_sub, drop_sub, grant, asks, announce, measure, tick, stats, pmu_stats, audit, standing, Answer, tells}
 use Rattle.pg_gateway.specs.Sharing.{Seat, Seats}
-use Rattle.pg_gateway.specs.Shared.{Shared, Reach, to_all, to_one, adds, drops, to_none, reach, takes_memory, own_answer, reached_answer, stats_answer, pmu_answer, audit_answer, seat_of, made, answer}
+use Rattle.pg_gateway.specs.Shared.{Shared, Reach, to_all, to_one, adds, drops, to_none, reach, takes_memory, own_answer, reached_answer, stats_answer, pmu_answer, audit_answer, standing_answer, seat_of, made, answer}
 use Rattle.pg_gateway.specs.Shown.{GatewayValue, Goes}
 use Rattle.pg_gateway.specs.Frugal.{Frugal}
 use Rattle.pg_gateway.specs.Taking.{MayCopy}
@@ -54,6 +54,10 @@ audit_answered : (o : Option Seat) (index : ℕ) → audit_answer o index ≡ te
 audit_answered None index e = cc
 audit_answered (Some s) index e = cc
 
+standing_answered : (o : Option Seat) (place : ℕ) → standing_answer o place ≡ tells (refused NoMemory) → ⊥
+standing_answered None place e = cc
+standing_answered (Some s) place e = cc
+
 answered : (S : Shared) (e : Occurrence) (k : ℕ) → answer S e k ≡ tells (refused NoMemory) → ⊥
 answered S (add_pmu key) k is = reach_answered (reach S (add_pmu key)) S.subs k (told_in _ _ is)
 answered S (drop_pmu key) k is = reach_answered (reach S (drop_pmu key)) S.subs k (told_in _ _ is)
@@ -67,6 +71,7 @@ answered S (tick soc) k is = reach_answered (reach S (tick soc)) S.subs k (told_
 answered S (stats u) k is = stats_answered (seat_of u S.subs) is
 answered S (pmu_stats key) k is = pmu_answered (pmu_of S.pmus key) is
 answered S (audit u index) k is = audit_answered (seat_of u S.subs) index is
+answered S (standing u place) k is = standing_answered (seat_of u S.subs) place is
 
 freely : (old new : GatewayValue) (e : Occurrence) (a : Answer) → Goes old e a new → takes_memory e ≡ false → Frugal old e a
 freely old new e a goes free = λ S h none needs is.
@@ -89,3 +94,4 @@ frugally old new (tick soc) a goes copies = freely old new (tick soc) a goes ref
 frugally old new (stats u) a goes copies = freely old new (stats u) a goes refl
 frugally old new (pmu_stats key) a goes copies = freely old new (pmu_stats key) a goes refl
 frugally old new (audit u index) a goes copies = freely old new (audit u index) a goes refl
+frugally old new (standing u place) a goes copies = freely old new (standing u place) a goes refl

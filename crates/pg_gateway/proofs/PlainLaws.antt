@@ -47,24 +47,26 @@ one_of_four (kind.Drain u buf) all drop announce measure tick = all
 one_of_four (kind.Stats u) all drop announce measure tick = all
 one_of_four (kind.PmuStats key) all drop announce measure tick = all
 one_of_four (kind.Audit u index) all drop announce measure tick = all
+one_of_four (kind.Standing u place) all drop announce measure tick = all
 
 -- and all others are for one, or for none
-pub else_for_all : (e : Event) → ((key : _) → e ≡ kind.AddPmu key → ⊥) → ((u : _) → (size : _) → (bytes : _) → e ≡ kind.AddSub u size bytes → ⊥) → ((u : _) → e ≡ kind.DropSub u → ⊥) → ((u : _) → (key : _) → e ≡ kind.Grant u key → ⊥) → ((u : _) → (key : _) → e ≡ kind.Revoke u key → ⊥) → ((u : _) → (definition : _) → e ≡ kind.Define u definition → ⊥) → ((u : _) → (number : _) → e ≡ kind.Remove u number → ⊥) → ((u : _) → e ≡ kind.Connect u → ⊥) → ((u : _) → e ≡ kind.Hangup u → ⊥) → ((u : _) → (asked : _) → e ≡ kind.Command u asked → ⊥) → ((u : _) → (buf : _) → e ≡ kind.Drain u buf → ⊥) → ((u : _) → e ≡ kind.Stats u → ⊥) → ((key : _) → e ≡ kind.PmuStats key → ⊥) → ((u : _) → (index : _) → e ≡ kind.Audit u index → ⊥) → IsForAll e
-else_for_all (kind.AddPmu key) nAddPmu nAddSub nDropSub nGrant nRevoke nDefine nRemove nConnect nHangup nCommand nDrain nStats nPmuStats nAudit = absurd (nAddPmu key refl)
-else_for_all (kind.AddSub u size bytes) nAddPmu nAddSub nDropSub nGrant nRevoke nDefine nRemove nConnect nHangup nCommand nDrain nStats nPmuStats nAudit = absurd (nAddSub u size bytes refl)
-else_for_all (kind.DropSub u) nAddPmu nAddSub nDropSub nGrant nRevoke nDefine nRemove nConnect nHangup nCommand nDrain nStats nPmuStats nAudit = absurd (nDropSub u refl)
-else_for_all (kind.Grant u key) nAddPmu nAddSub nDropSub nGrant nRevoke nDefine nRemove nConnect nHangup nCommand nDrain nStats nPmuStats nAudit = absurd (nGrant u key refl)
-else_for_all (kind.Revoke u key) nAddPmu nAddSub nDropSub nGrant nRevoke nDefine nRemove nConnect nHangup nCommand nDrain nStats nPmuStats nAudit = absurd (nRevoke u key refl)
-else_for_all (kind.Define u definition) nAddPmu nAddSub nDropSub nGrant nRevoke nDefine nRemove nConnect nHangup nCommand nDrain nStats nPmuStats nAudit = absurd (nDefine u definition refl)
-else_for_all (kind.Remove u number) nAddPmu nAddSub nDropSub nGrant nRevoke nDefine nRemove nConnect nHangup nCommand nDrain nStats nPmuStats nAudit = absurd (nRemove u number refl)
-else_for_all (kind.Connect u) nAddPmu nAddSub nDropSub nGrant nRevoke nDefine nRemove nConnect nHangup nCommand nDrain nStats nPmuStats nAudit = absurd (nConnect u refl)
-else_for_all (kind.Hangup u) nAddPmu nAddSub nDropSub nGrant nRevoke nDefine nRemove nConnect nHangup nCommand nDrain nStats nPmuStats nAudit = absurd (nHangup u refl)
-else_for_all (kind.Command u asked) nAddPmu nAddSub nDropSub nGrant nRevoke nDefine nRemove nConnect nHangup nCommand nDrain nStats nPmuStats nAudit = absurd (nCommand u asked refl)
-else_for_all (kind.Drain u buf) nAddPmu nAddSub nDropSub nGrant nRevoke nDefine nRemove nConnect nHangup nCommand nDrain nStats nPmuStats nAudit = absurd (nDrain u buf refl)
-else_for_all (kind.Stats u) nAddPmu nAddSub nDropSub nGrant nRevoke nDefine nRemove nConnect nHangup nCommand nDrain nStats nPmuStats nAudit = absurd (nStats u refl)
-else_for_all (kind.PmuStats key) nAddPmu nAddSub nDropSub nGrant nRevoke nDefine nRemove nConnect nHangup nCommand nDrain nStats nPmuStats nAudit = absurd (nPmuStats key refl)
-else_for_all (kind.Audit u index) nAddPmu nAddSub nDropSub nGrant nRevoke nDefine nRemove nConnect nHangup nCommand nDrain nStats nPmuStats nAudit = absurd (nAudit u index refl)
-else_for_all (kind.DropPmu key) nAddPmu nAddSub nDropSub nGrant nRevoke nDefine nRemove nConnect nHangup nCommand nDrain nStats nPmuStats nAudit = tt
-else_for_all (kind.Announce config) nAddPmu nAddSub nDropSub nGrant nRevoke nDefine nRemove nConnect nHangup nCommand nDrain nStats nPmuStats nAudit = tt
-else_for_all (kind.Measure frame) nAddPmu nAddSub nDropSub nGrant nRevoke nDefine nRemove nConnect nHangup nCommand nDrain nStats nPmuStats nAudit = tt
-else_for_all (kind.Tick soc) nAddPmu nAddSub nDropSub nGrant nRevoke nDefine nRemove nConnect nHangup nCommand nDrain nStats nPmuStats nAudit = tt
+pub else_for_all : (e : Event) → ((key : _) → e ≡ kind.AddPmu key → ⊥) → ((u : _) → (size : _) → (bytes : _) → e ≡ kind.AddSub u size bytes → ⊥) → ((u : _) → e ≡ kind.DropSub u → ⊥) → ((u : _) → (key : _) → e ≡ kind.Grant u key → ⊥) → ((u : _) → (key : _) → e ≡ kind.Revoke u key → ⊥) → ((u : _) → (definition : _) → e ≡ kind.Define u definition → ⊥) → ((u : _) → (number : _) → e ≡ kind.Remove u number → ⊥) → ((u : _) → e ≡ kind.Connect u → ⊥) → ((u : _) → e ≡ kind.Hangup u → ⊥) → ((u : _) → (asked : _) → e ≡ kind.Command u asked → ⊥) → ((u : _) → (buf : _) → e ≡ kind.Drain u buf → ⊥) → ((u : _) → e ≡ kind.Stats u → ⊥) → ((key : _) → e ≡ kind.PmuStats key → ⊥) → ((u : _) → (index : _) → e ≡ kind.Audit u index → ⊥) → ((u : _) → (place : _) → e ≡ kind.Standing u place → ⊥) → IsForAll e
+else_for_all (kind.AddPmu key) nAddPmu nAddSub nDropSub nGrant nRevoke nDefine nRemove nConnect nHangup nCommand nDrain nStats nPmuStats nAudit nStanding = absurd (nAddPmu key refl)
+else_for_all (kind.AddSub u size bytes) nAddPmu nAddSub nDropSub nGrant nRevoke nDefine nRemove nConnect nHangup nCommand nDrain nStats nPmuStats nAudit nStanding = absurd (nAddSub u size bytes refl)
+else_for_all (kind.DropSub u) nAddPmu nAddSub nDropSub nGrant nRevoke nDefine nRemove nConnect nHangup nCommand nDrain nStats nPmuStats nAudit nStanding = absurd (nDropSub u refl)
+else_for_all (kind.Grant u key) nAddPmu nAddSub nDropSub nGrant nRevoke nDefine nRemove nConnect nHangup nCommand nDrain nStats nPmuStats nAudit nStanding = absurd (nGrant u key refl)
+else_for_all (kind.Revoke u key) nAddPmu nAddSub nDropSub nGrant nRevoke nDefine nRemove nConnect nHangup nCommand nDrain nStats nPmuStats nAudit nStanding = absurd (nRevoke u key refl)
+else_for_all (kind.Define u definition) nAddPmu nAddSub nDropSub nGrant nRevoke nDefine nRemove nConnect nHangup nCommand nDrain nStats nPmuStats nAudit nStanding = absurd (nDefine u definition refl)
+else_for_all (kind.Remove u number) nAddPmu nAddSub nDropSub nGrant nRevoke nDefine nRemove nConnect nHangup nCommand nDrain nStats nPmuStats nAudit nStanding = absurd (nRemove u number refl)
+else_for_all (kind.Connect u) nAddPmu nAddSub nDropSub nGrant nRevoke nDefine nRemove nConnect nHangup nCommand nDrain nStats nPmuStats nAudit nStanding = absurd (nConnect u refl)
+else_for_all (kind.Hangup u) nAddPmu nAddSub nDropSub nGrant nRevoke nDefine nRemove nConnect nHangup nCommand nDrain nStats nPmuStats nAudit nStanding = absurd (nHangup u refl)
+else_for_all (kind.Command u asked) nAddPmu nAddSub nDropSub nGrant nRevoke nDefine nRemove nConnect nHangup nCommand nDrain nStats nPmuStats nAudit nStanding = absurd (nCommand u asked refl)
+else_for_all (kind.Drain u buf) nAddPmu nAddSub nDropSub nGrant nRevoke nDefine nRemove nConnect nHangup nCommand nDrain nStats nPmuStats nAudit nStanding = absurd (nDrain u buf refl)
+else_for_all (kind.Stats u) nAddPmu nAddSub nDropSub nGrant nRevoke nDefine nRemove nConnect nHangup nCommand nDrain nStats nPmuStats nAudit nStanding = absurd (nStats u refl)
+else_for_all (kind.PmuStats key) nAddPmu nAddSub nDropSub nGrant nRevoke nDefine nRemove nConnect nHangup nCommand nDrain nStats nPmuStats nAudit nStanding = absurd (nPmuStats key refl)
+else_for_all (kind.Audit u index) nAddPmu nAddSub nDropSub nGrant nRevoke nDefine nRemove nConnect nHangup nCommand nDrain nStats nPmuStats nAudit nStanding = absurd (nAudit u index refl)
+else_for_all (kind.Standing u place) nAddPmu nAddSub nDropSub nGrant nRevoke nDefine nRemove nConnect nHangup nCommand nDrain nStats nPmuStats nAudit nStanding = absurd (nStanding u place refl)
+else_for_all (kind.DropPmu key) nAddPmu nAddSub nDropSub nGrant nRevoke nDefine nRemove nConnect nHangup nCommand nDrain nStats nPmuStats nAudit nStanding = tt
+else_for_all (kind.Announce config) nAddPmu nAddSub nDropSub nGrant nRevoke nDefine nRemove nConnect nHangup nCommand nDrain nStats nPmuStats nAudit nStanding = tt
+else_for_all (kind.Measure frame) nAddPmu nAddSub nDropSub nGrant nRevoke nDefine nRemove nConnect nHangup nCommand nDrain nStats nPmuStats nAudit nStanding = tt
+else_for_all (kind.Tick soc) nAddPmu nAddSub nDropSub nGrant nRevoke nDefine nRemove nConnect nHangup nCommand nDrain nStats nPmuStats nAudit nStanding = tt

@@ -25,7 +25,7 @@ use Rattle.pg_session.specs.Shown.{Model}
 use Rattle.pg_session.specs.ByAll.{by_arrivals, by_numbers}
 use Rattle.pg_gateway.specs.declared.event.Event.{Event}
 use Rattle.pg_gateway.specs.declared.event.Event.TheVariants as kind
-use Rattle.pg_gateway.specs.Occurrences.{occurrence, Occurrence, add_pmu, drop_pmu, add_sub, drop_sub, grant, asks, announce, measure, tick, stats, pmu_stats, audit, Answer, tells, sub_counts, pmu_counts, entry}
+use Rattle.pg_gateway.specs.Occurrences.{occurrence, Occurrence, add_pmu, drop_pmu, add_sub, drop_sub, grant, asks, announce, measure, tick, stats, pmu_stats, audit, standing, Answer, tells, sub_counts, pmu_counts, entry, stands}
 use Rattle.pg_gateway.specs.Judging.{samples_in, sample_refusal, is_taken, judged, taken_of, registered_of, block_counted, blocks_counted, memory_counted, all_announced}
 use Rattle.pg_gateway.specs.Related.{Related}
 use Rattle.pg_gateway.specs.Sharing.{Seat, Seats, Offer, announces, measures, ticks, some_announced, some_measured, after_share, shared_to, fan_out}
@@ -168,6 +168,7 @@ module _ (S : Shared) (t : Told) where
   grants_stay (stats u) keeps = refl
   grants_stay (pmu_stats key) keeps = refl
   grants_stay (audit u index) keeps = refl
+  grants_stay (standing u place) keeps = refl
 
 -- The PMUs stay where they are.
 keys_announced : (list : List Announcing) (pmus : Pmus) → keys_of (all_announced pmus list) ≡ keys_of pmus
@@ -204,12 +205,14 @@ module _ (S : Shared) (t : Told) where
   keys_stay (stats u) keeps = refl
   keys_stay (pmu_stats key) keeps = refl
   keys_stay (audit u index) keeps = refl
+  keys_stay (standing u place) keeps = refl
 
 stays : (S : Shared) (e : Occurrence) (a : Answer) → KeepsRoutes e → (grants_of (next S e a).subs ≡ grants_of S.subs) × (keys_of (next S e a).pmus ≡ keys_of S.pmus)
 stays S e (tells t) keeps = (grants_stay S t e keeps, keys_stay S t e keeps)
 stays S e (sub_counts s) keeps = (refl, refl)
 stays S e (pmu_counts s) keeps = (refl, refl)
 stays S e (entry found) keeps = (refl, refl)
+stays S e (stands s) keeps = (refl, refl)
 
 pub routes_stay : (old new : GatewayValue) (e : Occurrence) (a : Answer) → IsReached old → Goes old e a new → KeepsRoutes e → (masks : List ℕ)
     → AreMasks old.subs (keys_of old.pmus) masks → AreMasks new.subs (keys_of new.pmus) masks
@@ -320,3 +323,4 @@ else_keeps (kind.Drain u buf) nAddPmu nDropPmu nAddSub nDropSub nGrant nRevoke =
 else_keeps (kind.Stats u) nAddPmu nDropPmu nAddSub nDropSub nGrant nRevoke = tt
 else_keeps (kind.PmuStats key) nAddPmu nDropPmu nAddSub nDropSub nGrant nRevoke = tt
 else_keeps (kind.Audit u index) nAddPmu nDropPmu nAddSub nDropSub nGrant nRevoke = tt
+else_keeps (kind.Standing u place) nAddPmu nDropPmu nAddSub nDropSub nGrant nRevoke = tt

@@ -7,9 +7,10 @@ use Rattle.pg_entitle.specs.Grants.{has_key}
 use Rattle.pg_data.specs.Measurements.{Measurement}
 use Rattle.pg_session.specs.Events.{Happening, Sample}
 use Rattle.pg_session.specs.Shown.{Model}
-use Rattle.pg_gateway.specs.Occurrences.{Occurrence, occurrence, told, asks, measure, stats, Answer, tells, sub_counts}
+use Rattle.pg_session.specs.Standing.{standing_of}
+use Rattle.pg_gateway.specs.Occurrences.{Occurrence, occurrence, told, asks, measure, stats, standing, Answer, tells, sub_counts, stands}
 use Rattle.pg_gateway.specs.Sharing.{Seat, measures, some_measured}
-use Rattle.pg_gateway.specs.Shared.{Shared, opening, seat_of, own_of, taken_in, refusal, to_all, unless, stats_answer, May, next}
+use Rattle.pg_gateway.specs.Shared.{Shared, opening, seat_of, own_of, taken_in, refusal, to_all, unless, stats_answer, standing_answer, May, next}
 use Rattle.pg_gateway.specs.Views.{shared_step, shared_run, private_run, as_seen, share_seen, part_of, part, view, full_told, full_by, full_answer, full_answers, AllLossless, handed_to, handed_in}
 use Rattle.pg_gateway.specs.Shown.{GatewayValue, GatewayShows, Goes}
 use Rattle.pg_gateway.specs.declared.event.Event.{Event}
@@ -49,6 +50,11 @@ pub own_counters : (u : ℕ) (S : Shared) (p : Model) → own_of u S ≡ Some p 
 own_counters u S p is =
     let found = seat_from (seat_of u S.subs) p is in
     ap (λ o. full_by (refuse (not (is_some o)) NoSuchSub None) (stats_answer o)) found.1 ∙ ap (λ (q : Model). sub_counts q.output.stats) found.2
+
+pub own_standing : (u place : ℕ) (S : Shared) (p : Model) → own_of u S ≡ Some p → full_answer S (standing u place) ≡ stands (standing_of p place)
+own_standing u place S p is =
+    let found = seat_from (seat_of u S.subs) p is in
+    ap (λ o. full_by (refuse (not (is_some o)) NoSuchSub None) (standing_answer o place)) found.1 ∙ ap (λ (q : Model). stands (standing_of q place)) found.2
 
 pub equal_states : (u : ℕ) (es fs : List Occurrence) → view u opening es ≡ view u opening fs → own_of u (after es) ≡ own_of u (after fs)
 equal_states u es fs same = own-run u opening es tt ∙ ap (λ v. private_run None v) same ∙ sym (own-run u opening fs tt)

@@ -12,10 +12,10 @@ use Rattle.pg_session.specs.Private as private
 use Rattle.pg_session.specs.Private.{Told, done, refused, handed, refuse, frames_of}
 use Rattle.pg_session.specs.Shown.{Model}
 use Rattle.pg_session.specs.ByAll.{by_arrivals, by_numbers}
-use Rattle.pg_gateway.specs.Occurrences.{Occurrence, add_pmu, drop_pmu, add_sub, drop_sub, grant, asks, announce, measure, tick, stats, pmu_stats, audit, Answer, tells, sub_counts, pmu_counts, entry}
+use Rattle.pg_gateway.specs.Occurrences.{Occurrence, add_pmu, drop_pmu, add_sub, drop_sub, grant, asks, announce, measure, tick, stats, pmu_stats, audit, standing, Answer, tells, sub_counts, pmu_counts, entry, stands}
 use Rattle.pg_gateway.specs.Judging.{registered_of}
 use Rattle.pg_gateway.specs.Sharing.{Seat, Seats, Offer, revokes, announces, measures, ticks, total, fan_out}
-use Rattle.pg_gateway.specs.Shared.{Shared, seat_of, own_of, at_seat, own_refusal, grant_refusal, granting, taken_in, refusal, Reach, to_all, to_one, adds, drops, to_none, unless, reach, own_frames, frames_reached, made, own_answer, reached_answer, answer, stats_answer, pmu_answer, audit_answer, moved, added, is_refusal, kept_of, seats_after, names, with_note, code_of, seats_noted, next}
+use Rattle.pg_gateway.specs.Shared.{Shared, seat_of, own_of, at_seat, own_refusal, grant_refusal, granting, taken_in, refusal, Reach, to_all, to_one, adds, drops, to_none, unless, reach, own_frames, frames_reached, made, own_answer, reached_answer, answer, stats_answer, pmu_answer, audit_answer, standing_answer, moved, added, is_refusal, kept_of, seats_after, names, with_note, code_of, seats_noted, next}
 use Rattle.pg_gateway.specs.Views.{Seen, begins, ends, takes, unless_refused, full_told, private_step, private_run, full_by, full_answer, shared_step, shared_run, part_of, part, view}
 use Rattle.pg_gateway.proofs.SeatLaws.{owned, Alone, Alone-push, Alone-removed, Alone-same, same-at_seat, same-fan_out, lookup-push, lookup-removed, seat_of-at_seat, seat_of-fan_out, own-noted}
 use Rattle.pg_gateway.proofs.ShareLaws.{share_run}
@@ -157,6 +157,12 @@ own-step u S (audit w index) alone = by (refusal S (audit w index)) (seat_of w S
     by None None = refl
     by None (Some s) = refl
     by (Some r) o = refl
+own-step u S (standing w place) alone = by (refusal S (standing w place)) (seat_of w S.subs)
+  where
+    by : (r : Option Refusal) (o : Option Seat) → own_of u (next S (standing w place) (full_by r (standing_answer o place))) ≡ own_of u S
+    by None None = refl
+    by None (Some s) = refl
+    by (Some r) o = refl
 
 -- numbers stay apart
 abbrev Fresh : Reach → Seats → Type 0
@@ -184,6 +190,7 @@ fresh_reach S (tick soc) = tt
 fresh_reach S (stats w) = tt
 fresh_reach S (pmu_stats key) = tt
 fresh_reach S (audit w index) = tt
+fresh_reach S (standing w place) = tt
 
 Alone-after : (to : Reach) (t : Told) (ss : Seats) → Fresh to ss → Alone ss → Alone (seats_after to t ss)
 Alone-after (to_all o) t ss fresh alone = by (is_refusal t)
@@ -214,6 +221,7 @@ Alone-next S e (tells t) alone =
 Alone-next S e (sub_counts s) alone = alone
 Alone-next S e (pmu_counts s) alone = alone
 Alone-next S e (entry found) alone = alone
+Alone-next S e (stands s) alone = alone
 
 private_run-append : (o : Option Model) (xs ys : List Seen) → private_run o (xs ++ ys) ≡ private_run (private_run o xs) ys
 private_run-append o [] ys = refl

@@ -9,7 +9,7 @@ use Rattle.pg_session.specs.Private.{refused}
 use Rattle.pg_session.specs.Events.{Happening}
 use Rattle.pg_session.specs.Shown.{SubscriberValue}
 use Rattle.pg_session.specs.Ready.{NeedsNone}
-use Rattle.pg_gateway.specs.Occurrences.{Occurrence, add_pmu, drop_pmu, add_sub, drop_sub, grant, asks, announce, measure, tick, stats, pmu_stats, audit, Answer, tells}
+use Rattle.pg_gateway.specs.Occurrences.{Occurrence, add_pmu, drop_pmu, add_sub, drop_sub, grant, asks, announce, measure, tick, stats, pmu_stats, audit, standing, Answer, tells}
 use Rattle.pg_gateway.specs.Sharing.{Offer, measures, share}
 use Rattle.pg_gateway.specs.Judging.{taken_of}
 use Rattle.pg_gateway.specs.Shared.{Shared, refusal}
@@ -44,6 +44,7 @@ NeedsNoMemory v (tick soc) = Unit {0}
 NeedsNoMemory v (stats u) = Unit {0}
 NeedsNoMemory v (pmu_stats key) = Unit {0}
 NeedsNoMemory v (audit u index) = Unit {0}
+NeedsNoMemory v (standing u place) = Unit {0}
 
 -- Where no other refusal holds, such an event is not refused for want of memory.
 abbrev pub Frugal : GatewayValue → Occurrence → Answer → Type 0

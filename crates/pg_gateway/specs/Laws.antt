@@ -4,7 +4,8 @@ use Rattle.pg_entitle.specs.Grants.{has_key}
 use Rattle.pg_data.specs.Measurements.{Measurement}
 use Rattle.pg_session.specs.Events.{Happening, Sample}
 use Rattle.pg_session.specs.Shown.{Model}
-use Rattle.pg_gateway.specs.Occurrences.{Occurrence, asks, measure, stats, Answer, tells, sub_counts}
+use Rattle.pg_session.specs.Standing.{standing_of}
+use Rattle.pg_gateway.specs.Occurrences.{Occurrence, asks, measure, stats, standing, Answer, tells, sub_counts, stands}
 use Rattle.pg_gateway.specs.Shared.{Shared, opening, own_of, taken_in, refusal, May}
 use Rattle.pg_gateway.specs.Views.{shared_run, private_run, part, view, full_told, full_answer, full_answers, Lossless, AllLossless, handed_to, handed_in}
 use Rattle.pg_gateway.specs.Histories.{Legal, state_after}
@@ -20,11 +21,13 @@ pub record Isolation : Type 0 where
   -- one event more: each goes on by its part, and stays where it has none
   pub steps : (u : ℕ) (es : List Occurrence) (e : Occurrence)
       → own_of u (after (es ++ e ∷ [])) ≡ private_run (own_of u (after es)) (part u (after es) e)
-  -- the replies to its own events and its counters are the private gateway's
+  -- the replies to its own events, its counters and how it stands are the private gateway's
   pub replies : (u : ℕ) (es : List Occurrence) (x : Happening) (p : Model) → own_of u (after es) ≡ Some p
       → full_answer (after es) (asks u x) ≡ tells (full_told p x)
   pub counters : (u : ℕ) (es : List Occurrence) (p : Model) → own_of u (after es) ≡ Some p
       → full_answer (after es) (stats u) ≡ sub_counts p.output.stats
+  pub standings : (u place : ℕ) (es : List Occurrence) (p : Model) → own_of u (after es) ≡ Some p
+      → full_answer (after es) (standing u place) ≡ stands (standing_of p place)
 
 -- Two lists of events that give a subscriber equal views leave it alike, and hand it the same.
 pub record EqualViews : Type 0 where

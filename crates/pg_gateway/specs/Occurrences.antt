@@ -11,6 +11,7 @@ use Rattle.pg_session.specs.Events as session
 use Rattle.pg_session.specs.Events.{Happening}
 use Rattle.pg_session.specs.Private as session_reply
 use Rattle.pg_session.specs.Private.{Told, drain_told}
+use Rattle.pg_session.specs.declared.standing.Standing.{Standing}
 use Rattle.pg_gateway.specs.declared.event.Event.{Event}
 use Rattle.pg_gateway.specs.declared.event.Event.TheVariants as event
 use Rattle.pg_gateway.specs.declared.event.Reply.{Reply}
@@ -32,10 +33,12 @@ pub data Occurrence : Type 0 where
   measure : Measurement → Occurrence
   -- a tick, with its SOC
   tick : ℕ → Occurrence
-  -- counters of a subscriber, counters of a PMU, and an entry of a subscriber's audit are asked for
+  -- counters of a subscriber, counters of a PMU, an entry of a subscriber's audit, and how a subscriber and its stream at a place
+  -- stand, are asked for
   stats : ℕ → Occurrence
   pmu_stats : PmuKey → Occurrence
   audit : ℕ → ℕ → Occurrence
+  standing : ℕ → ℕ → Occurrence
 
 -- what an event says
 abbrev pub occurrence : Event → Occurrence
@@ -57,6 +60,7 @@ occurrence (event.Drain u buf) = asks u (session.drain (length buf.items))
 occurrence (event.Stats u) = stats u
 occurrence (event.PmuStats key) = pmu_stats key
 occurrence (event.Audit u index) = audit u index
+occurrence (event.Standing u place) = standing u place
 
 pub data Answer : Type 0 where
   -- done, refused or handed out, as one subscriber tells it
@@ -64,6 +68,7 @@ pub data Answer : Type 0 where
   sub_counts : Stats → Answer
   pmu_counts : PmuStats → Answer
   entry : Option Entry → Answer
+  stands : Standing → Answer
 
 -- what a reply tells
 abbrev pub told : Reply → Answer
@@ -73,3 +78,4 @@ told (reply.Drained buf out) = tells (drain_told buf.items out)
 told (reply.Stats s) = sub_counts s
 told (reply.PmuStats s) = pmu_counts s
 told (reply.Audit e) = entry e
+told (reply.Standing s) = stands s

@@ -25,6 +25,7 @@ IsPlain (reply.Drained buf out) = ⊥
 IsPlain (reply.Stats s) = Unit {0}
 IsPlain (reply.PmuStats s) = Unit {0}
 IsPlain (reply.Audit e) = Unit {0}
+IsPlain (reply.Standing s) = Unit {0}
 
 -- The buffer comes back as long as it was, and past what was handed out as it was.
 abbrev pub KeepsBuffer : List ℕ → Reply → Type 0
@@ -36,6 +37,7 @@ KeepsBuffer bytes (reply.Refused r) = ⊥
 KeepsBuffer bytes (reply.Stats s) = ⊥
 KeepsBuffer bytes (reply.PmuStats s) = ⊥
 KeepsBuffer bytes (reply.Audit e) = ⊥
+KeepsBuffer bytes (reply.Standing s) = ⊥
 
 -- Just a drain is answered with its buffer: as long as it was, and past what was handed out as it was.
 abbrev pub Answers : Event → Reply → Type 0
@@ -57,3 +59,4 @@ Answers (event.Command u asked) r = IsPlain r
 Answers (event.Stats u) r = IsPlain r
 Answers (event.PmuStats key) r = IsPlain r
 Answers (event.Audit u index) r = IsPlain r
+Answers (event.Standing u place) r = IsPlain r

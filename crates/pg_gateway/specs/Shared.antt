@@ -17,7 +17,8 @@ use Rattle.pg_session.specs.Private as private
 use Rattle.pg_session.specs.Private.{Told, done, refused, handed, refuse, frames_of}
 use Rattle.pg_session.specs.Shown.{Model, begin}
 use Rattle.pg_session.specs.ByAll.{by_arrivals, by_numbers}
-use Rattle.pg_gateway.specs.Occurrences.{Occurrence, add_pmu, drop_pmu, add_sub, drop_sub, grant, asks, announce, measure, tick, stats, pmu_stats, audit, Answer, tells, sub_counts, pmu_counts, entry}
+use Rattle.pg_session.specs.Standing.{standing_of}
+use Rattle.pg_gateway.specs.Occurrences.{Occurrence, add_pmu, drop_pmu, add_sub, drop_sub, grant, asks, announce, measure, tick, stats, pmu_stats, audit, standing, Answer, tells, sub_counts, pmu_counts, entry, stands}
 use Rattle.pg_gateway.specs.Judging.{registered_of, judged, taken_of, first_refusal, blocks_counted, all_announced, memory_counted}
 use Rattle.pg_gateway.specs.Sharing.{Seat, Seats, Offer, revokes, announces, measures, ticks, total, fan_out}
 
@@ -85,6 +86,7 @@ module _ (S : Shared) where
   refusal (stats u) = refuse (not (is_some (seat_of u S.subs))) NoSuchSub None
   refusal (pmu_stats key) = refuse (not (has_key S.pmus key)) NoSuchPmu None
   refusal (audit u index) = refuse (not (is_some (seat_of u S.subs))) NoSuchSub None
+  refusal (standing u place) = refuse (not (is_some (seat_of u S.subs))) NoSuchSub None
 
 -- events that may be refused for want of memory
 abbrev pub takes_memory : Occurrence → Bool
@@ -100,6 +102,7 @@ takes_memory (tick soc) = false
 takes_memory (stats u) = false
 takes_memory (pmu_stats key) = false
 takes_memory (audit u index) = false
+takes_memory (standing u place) = false
 
 -- whom an event reaches, and as what
 pub data Reach : Type 0 where
@@ -128,6 +131,7 @@ reach S (tick soc) = to_all (ticks soc)
 reach S (stats u) = to_none
 reach S (pmu_stats key) = to_none
 reach S (audit u index) = to_none
+reach S (standing u place) = to_none
 
 -- the frames that an event makes for the one that it reaches, or for all
 abbrev pub own_frames : Option Seat → Happening → ℕ
@@ -168,6 +172,10 @@ abbrev pub audit_answer : Option Seat → ℕ → Answer
 audit_answer None index = tells (refused NoSuchSub)
 audit_answer (Some s) index = entry (newest_at s.noted index)
 
+abbrev pub standing_answer : Option Seat → ℕ → Answer
+standing_answer None place = tells (refused NoSuchSub)
+standing_answer (Some s) place = stands (standing_of s.own place)
+
 abbrev pub answer : Shared → Occurrence → ℕ → Answer
 answer S (add_pmu key) k = tells (reached_answer (reach S (add_pmu key)) S.subs k)
 answer S (drop_pmu key) k = tells (reached_answer (reach S (drop_pmu key)) S.subs k)
@@ -181,6 +189,7 @@ answer S (tick soc) k = tells (reached_answer (reach S (tick soc)) S.subs k)
 answer S (stats u) k = stats_answer (seat_of u S.subs)
 answer S (pmu_stats key) k = pmu_answer (pmu_of S.pmus key)
 answer S (audit u index) k = audit_answer (seat_of u S.subs) index
+answer S (standing u place) k = standing_answer (seat_of u S.subs) place
 
 -- This answer may come to the event: its first refusal, or the reply with some of the frames made kept, or want of memory.
 abbrev pub May : Shared → Occurrence → Answer → Type 0
@@ -245,6 +254,7 @@ names (tick soc) = None
 names (stats u) = None
 names (pmu_stats key) = None
 names (audit u index) = None
+names (standing u place) = None
 
 -- why it was refused, or None
 abbrev pub code_of : Told → Option Refusal
@@ -280,6 +290,7 @@ pmus_after S (tick soc) t = S.pmus
 pmus_after S (stats u) t = S.pmus
 pmus_after S (pmu_stats key) t = S.pmus
 pmus_after S (audit u index) t = S.pmus
+pmus_after S (standing u place) t = S.pmus
 
 abbrev pub tick_after : Option ℕ → Occurrence → Option ℕ
 tick_after last (add_pmu key) = last
@@ -294,6 +305,7 @@ tick_after last (tick soc) = Some soc
 tick_after last (stats u) = last
 tick_after last (pmu_stats key) = last
 tick_after last (audit u index) = last
+tick_after last (standing u place) = last
 
 -- the state after an event and its answer
 abbrev pub next : Shared → Occurrence → Answer → Shared
@@ -306,3 +318,4 @@ next S e (tells t) =
 next S e (sub_counts s) = S
 next S e (pmu_counts s) = S
 next S e (entry found) = S
+next S e (stands s) = S

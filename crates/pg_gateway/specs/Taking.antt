@@ -19,7 +19,7 @@ use Rattle.pg_gateway.specs.declared.event.Event.TheVariants as event
 use Rattle.pg_gateway.specs.Sharing.{Seat, Seats, Offer, revokes, announces, measures, ticks, share, frames_for, shared_to, total, fan_out}
 use Rattle.pg_audit.specs.declared.audit.What.{What}
 use Rattle.pg_audit.specs.declared.audit.What.TheVariants as audited
-use Rattle.pg_gateway.specs.Occurrences.{Occurrence, add_pmu, drop_pmu, add_sub, drop_sub, grant, asks, announce, measure, tick, stats, pmu_stats, audit, Answer, tells}
+use Rattle.pg_gateway.specs.Occurrences.{Occurrence, add_pmu, drop_pmu, add_sub, drop_sub, grant, asks, announce, measure, tick, stats, pmu_stats, audit, standing, Answer, tells}
 use Rattle.pg_gateway.specs.Shared.{seat_of, at_seat, moved, names, with_note, code_of, seats_noted}
 use Rattle.pg_gateway.specs.Related.{Related}
 use Rattle.pg_gateway.specs.Shown.{SeatValue, SeatShows}
@@ -49,6 +49,7 @@ offered (event.Drain u buf) places = announces []
 offered (event.Stats u) places = announces []
 offered (event.PmuStats key) places = announces []
 offered (event.Audit u index) places = announces []
+offered (event.Standing u place) places = announces []
 
 -- these are places of the frame's PMUs, and rise
 abbrev pub IsRising : Event → List ℕ → Type 0
@@ -70,6 +71,7 @@ IsRising (event.Drain u buf) places = Unit {0}
 IsRising (event.Stats u) places = Unit {0}
 IsRising (event.PmuStats key) places = Unit {0}
 IsRising (event.Audit u index) places = Unit {0}
+IsRising (event.Standing u place) places = Unit {0}
 
 -- the PMU at a place passes a test of its key
 abbrev pub part_passes : (PmuKey → Bool) → Source → Option Part → Bool
@@ -210,6 +212,7 @@ IsForAll (event.Drain u buf) = ⊥
 IsForAll (event.Stats u) = ⊥
 IsForAll (event.PmuStats key) = ⊥
 IsForAll (event.Audit u index) = ⊥
+IsForAll (event.Standing u place) = ⊥
 
 -- events whose copies of a PMU's configuration or block may be needed or not
 abbrev pub MayCopy : Occurrence → Type 0
@@ -225,3 +228,4 @@ MayCopy (tick soc) = ⊥
 MayCopy (stats u) = ⊥
 MayCopy (pmu_stats key) = ⊥
 MayCopy (audit u index) = ⊥
+MayCopy (standing u place) = ⊥

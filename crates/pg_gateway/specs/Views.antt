@@ -7,7 +7,7 @@ use Rattle.pg_session.specs.Private as session
 use Rattle.pg_session.specs.Private.{Told, done, refused, handed, frames_of}
 use Rattle.pg_session.specs.Shown.{Model, begin}
 use Rattle.pg_session.specs.ByAll.{by_arrivals, by_numbers}
-use Rattle.pg_gateway.specs.Occurrences.{Occurrence, add_pmu, drop_pmu, add_sub, drop_sub, grant, asks, announce, measure, tick, stats, pmu_stats, audit, Answer, tells, sub_counts, pmu_counts, entry}
+use Rattle.pg_gateway.specs.Occurrences.{Occurrence, add_pmu, drop_pmu, add_sub, drop_sub, grant, asks, announce, measure, tick, stats, pmu_stats, audit, standing, Answer, tells, sub_counts, pmu_counts, entry, stands}
 use Rattle.pg_gateway.specs.Sharing.{Offer, share}
 use Rattle.pg_gateway.specs.Shared.{Shared, own_of, refusal, Reach, to_all, to_one, adds, drops, to_none, reach, made, answer, next}
 
@@ -109,6 +109,7 @@ handed_out (tells t) = handed_by t
 handed_out (sub_counts s) = []
 handed_out (pmu_counts s) = []
 handed_out (entry found) = []
+handed_out (stands s) = []
 
 abbrev pub handed_one : ℕ → Occurrence → Answer → List Handed
 handed_one u (add_pmu key) a = []
@@ -123,6 +124,7 @@ handed_one u (tick soc) a = []
 handed_one u (stats w) a = []
 handed_one u (pmu_stats key) a = []
 handed_one u (audit w index) a = []
+handed_one u (standing w place) a = []
 
 abbrev pub handed_to : ℕ → List Occurrence → List Answer → List Handed
 handed_to u [] answers = []
@@ -137,6 +139,7 @@ Lossless (tells (handed bytes begun gap)) = Unit {0}
 Lossless (sub_counts s) = Unit {0}
 Lossless (pmu_counts s) = Unit {0}
 Lossless (entry found) = Unit {0}
+Lossless (stands s) = Unit {0}
 
 abbrev pub AllLossless : List Answer → Type 0
 AllLossless [] = Unit {0}

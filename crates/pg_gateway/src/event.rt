@@ -5,6 +5,7 @@ use pg_command::Command as Asked;
 use pg_config::SourceConfig;
 use pg_data::DataFrame;
 use pg_ring::{Drained as Handed, RingBytes, RingSize};
+use pg_session::Standing;
 use pg_stream::Definition;
 use pg_wire::{PmuKey, Refusal, StreamId, SubId};
 use std::sync::Arc;
@@ -48,6 +49,8 @@ pub enum Event {
     PmuStats(PmuKey),
     /// An entry of a subscriber's audit is asked for: 0 the newest, at most 63.
     Audit(SubId, u8),
+    /// How a subscriber stands is asked for, and its stream at this place: 0 the one that was defined first.
+    Standing(SubId, u8),
 }
 
 /// What the gateway answers.
@@ -75,4 +78,6 @@ pub enum Reply {
     PmuStats(PmuStats),
     /// An entry of a subscriber's audit, or `None` where it has no such entry.
     Audit(Option<Entry>),
+    /// How a subscriber stands.
+    Standing(Standing),
 }

@@ -6,7 +6,7 @@ ghost use Rattle.pg_session.specs.Events.{announced_at, happening, drain};
 ghost use Rattle.pg_session.specs.Private.{told as private_told};
 ghost use Rattle.pg_gateway.specs.Related.{Related};
 ghost use Rattle.pg_gateway.specs.Sharing.{Seats, announces, revokes, ticks};
-ghost use Rattle.pg_gateway.specs.Occurrences.{occurrence, told, tells, add_pmu, drop_pmu, add_sub, drop_sub, asks, tick, stats, pmu_stats, audit, announce, measure, grant};
+ghost use Rattle.pg_gateway.specs.Occurrences.{occurrence, told, tells, add_pmu, drop_pmu, add_sub, drop_sub, asks, tick, stats, pmu_stats, audit, standing, announce, measure, grant};
 ghost use Rattle.std.specs.Map.{lookup};
 ghost use Rattle.std.specs.Option.{option_map_or};
 ghost use Rattle.pg_registry.specs.Registered.{has_source};
@@ -130,6 +130,7 @@ impl Kernel {
             Event::Stats(sub) => self.stats(sub),
             Event::PmuStats(key) => self.pmu_stats(key),
             Event::Audit(sub, index) => self.audit(sub, index),
+            Event::Standing(sub, place) => self.standing(sub, place),
             for_all => self.step_all(&for_all, routes),
         }
     }
@@ -416,6 +417,17 @@ impl Kernel {
         match self.subs.get(&sub) {
             None => Reply::Refused(Refusal::NoSuchSub),
             Some(seat) => Reply::Audit(seat.noted(index)),
+        }
+    }
+
+    /// How a subscriber stands is asked for.
+    pub(crate) fn standing(&self, sub: SubId, place: u8) -> Reply
+        ensures goes { Goes self.now (standing sub place) (told result) self.now }
+        ensures plain { IsPlain result }
+    {
+        match self.subs.get(&sub) {
+            None => Reply::Refused(Refusal::NoSuchSub),
+            Some(seat) => Reply::Standing(seat.standing(place)),
         }
     }
 }

@@ -10,6 +10,7 @@ ghost use Rattle.pg_entitle.specs.Grants.{has_key};
 ghost use Rattle.pg_session.specs.Events.{happening, drain, announced_at};
 ghost use Rattle.pg_session.specs.Private.{told};
 ghost use Rattle.pg_session.specs.Steps.{MakesFew};
+ghost use Rattle.pg_session.specs.Standing.{standing_of};
 ghost use Rattle.pg_session.specs.Ready.{ReturnsBuffer, AreRising};
 ghost use Rattle.pg_gateway.specs.Sharing.{Seat as SeatState, announces, revokes};
 ghost use Rattle.pg_gateway.specs.Shared.{added, with_note, noted_as};
@@ -22,7 +23,7 @@ use pg_audit::{Audit, Entry, Stats, What};
 use pg_config::{PmuConfig, SourceConfig};
 use pg_data::DataFrame;
 use pg_ring::{RingBytes, RingSize};
-use pg_session::{PrivateEvent, PrivateReply, Subscriber};
+use pg_session::{PrivateEvent, PrivateReply, Standing, Subscriber};
 use pg_wire::{PmuKey, Refusal};
 use std::alloc::Global;
 use std::marker::Model;
@@ -134,6 +135,13 @@ impl Seat {
         ensures { result.now ≡ self.now.subscriber.own.output.stats }
     {
         self.subscriber.stats()
+    }
+
+    /// How it stands, with the stream at this place.
+    pub(crate) fn standing(&self, place: u8) -> Standing
+        ensures { (s : SeatState) → SeatShows self.now s → result ≡ standing_of s.own place }
+    {
+        self.subscriber.standing(usize::from(place))
     }
 
     /// What was noted of it: 0 the newest.

@@ -1,4 +1,4 @@
-use pg_audit::{PmuStats, Stats};
+use pg_audit::{PmuStats, Stats, What};
 use pg_command::Command;
 use pg_config::{SourceConfig, read_config};
 use pg_data::{DataFrame, read_data};
@@ -232,6 +232,41 @@ fn stats(rt: &impl Abort, gateway: &mut Gateway, sub: u16) -> Stats {
     }
 }
 
+// How a subscriber stands, with its stream at this place.
+fn standing(rt: &impl Abort, gateway: &mut Gateway, sub: u16, place: u8) -> Standing {
+    match gateway.step(Event::Standing(subscriber(rt, sub), place)) {
+        Reply::Standing(standing) => standing,
+        _ => panic!(rt; "no standing"),
+    }
+}
+
+// So many frames and bytes wait for a subscriber.
+fn waits(rt: &impl Abort, gateway: &mut Gateway, sub: u16, frames: u64, bytes: u64) {
+    let standing = standing(rt, gateway, sub, 0);
+    assert!(rt; standing.frames == frames);
+    assert!(rt; standing.bytes == bytes);
+}
+
+// The stream at a place is this one, on or off, with so many effective members of so many.
+fn stands(
+    rt: &impl Abort,
+    gateway: &mut Gateway,
+    sub: u16,
+    place: u8,
+    number: u16,
+    is_on: bool,
+    effective: u16,
+    members: u16,
+) {
+    let expected = StreamStanding {
+        stream: StreamId::new(number).expect(rt, "a number"),
+        is_on,
+        effective,
+        members,
+    };
+    assert!(rt; standing(rt, gateway, sub, place).stream == Some(expected));
+}
+
 fn pmu_stats(rt: &impl Abort, gateway: &mut Gateway, pmu: u16) -> PmuStats {
     match gateway.step(Event::PmuStats(key(rt, pmu))) {
         Reply::PmuStats(stats) => stats,
@@ -374,6 +409,85 @@ fn two_subscribers(rt: HostRuntime) {
     );
     let frames = both(&rt, alloc, &reply, &FRAME_8);
     drains(&rt, alloc, &mut gateway, 2, &frames, 0);
+}
+
+// A gateway with PMU 7, which announced, and PMU 8, which did not; and subscriber 1, which is connected and granted both, with
+// stream 101 of both and stream 102 of PMU 7.
+fn with_two_streams(rt: &impl Abort, alloc: Global, config: &Arc<SourceConfig>) -> Gateway {
+    let mut gateway = with_pmu_7(rt, alloc, config);
+    done(rt, &mut gateway, Event::AddPmu(key(rt, 8)), 0);
+    subscribe(rt, alloc, &mut gateway, 1, 4, 100, 7);
+    let granted = Event::Grant(subscriber(rt, 1), key(rt, 8));
+    done(rt, &mut gateway, granted, 0);
+    define(rt, &mut gateway, 1, stream(rt, alloc, 101, 0, &[7, 8]));
+    define(rt, &mut gateway, 1, stream(rt, alloc, 102, 0, &[7]));
+    gateway
+}
+
+// What waits for a subscriber is counted frame by frame and byte by byte, the frame in hand as long as bytes of it are left; and
+// another subscriber has its own.
+#[test]
+fn what_waits(rt: HostRuntime) {
+    let alloc = rt.alloc();
+    let config = source_7(&rt, alloc);
+    let mut gateway = with_two_streams(&rt, alloc, &config);
+    done(&rt, &mut gateway, add_sub(&rt, 2, 4), 0);
+    waits(&rt, &mut gateway, 1, 0, 0);
+    command(&rt, &mut gateway, 1, 101, 5);
+    waits(&rt, &mut gateway, 1, 1, 74);
+    command(&rt, &mut gateway, 1, 101, 2);
+    done(&rt, &mut gateway, frame_7(&rt, alloc, &config), 1);
+    waits(&rt, &mut gateway, 1, 2, 100);
+    let few = vec![in alloc; 0; 10].expect(&rt, "memory");
+    let _handed = gateway.step(Event::Drain(subscriber(&rt, 1), few));
+    waits(&rt, &mut gateway, 1, 2, 90);
+    let few = vec![in alloc; 0; 64].expect(&rt, "memory");
+    let _handed = gateway.step(Event::Drain(subscriber(&rt, 1), few));
+    waits(&rt, &mut gateway, 1, 1, 26);
+    waits(&rt, &mut gateway, 2, 0, 0);
+    assert!(&rt; standing(&rt, &mut gateway, 2, 0).stream.is_none());
+    done(&rt, &mut gateway, Event::Hangup(subscriber(&rt, 1)), 0);
+    waits(&rt, &mut gateway, 1, 0, 0);
+    let unknown = Event::Standing(subscriber(&rt, 3), 0);
+    refused(&rt, &mut gateway, unknown, Refusal::NoSuchSub);
+}
+
+// A stream stands as its commands and the grants say: on or off, with those members that are granted and have announced.
+#[test]
+fn how_streams_stand(rt: HostRuntime) {
+    let alloc = rt.alloc();
+    let config = source_7(&rt, alloc);
+    let mut gateway = with_two_streams(&rt, alloc, &config);
+    let sub = subscriber(&rt, 1);
+    command(&rt, &mut gateway, 1, 101, 2);
+    stands(&rt, &mut gateway, 1, 0, 101, true, 1, 2);
+    stands(&rt, &mut gateway, 1, 1, 102, false, 1, 1);
+    assert!(&rt; standing(&rt, &mut gateway, 1, 2).stream.is_none());
+    done(&rt, &mut gateway, Event::Announce(source_8(&rt, alloc)), 0);
+    stands(&rt, &mut gateway, 1, 0, 101, true, 2, 2);
+    done(&rt, &mut gateway, Event::Revoke(sub, key(&rt, 7)), 0);
+    stands(&rt, &mut gateway, 1, 0, 101, true, 1, 2);
+    stands(&rt, &mut gateway, 1, 1, 102, false, 0, 1);
+    command(&rt, &mut gateway, 1, 101, 1);
+    let first = StreamId::new(101).expect(&rt, "a number");
+    stands(&rt, &mut gateway, 1, 0, 101, false, 1, 2);
+    done(&rt, &mut gateway, Event::Remove(sub, first), 0);
+    stands(&rt, &mut gateway, 1, 0, 102, false, 0, 1);
+}
+
+// To ask how a subscriber stands changes neither its counters nor its audit.
+#[test]
+fn standing_leaves_no_trace(rt: HostRuntime) {
+    let alloc = rt.alloc();
+    let config = source_7(&rt, alloc);
+    let mut gateway = with_two_streams(&rt, alloc, &config);
+    let before = stats(&rt, &mut gateway, 1);
+    stands(&rt, &mut gateway, 1, 1, 102, false, 1, 1);
+    assert!(&rt; stats(&rt, &mut gateway, 1) == before);
+    match gateway.step(Event::Audit(subscriber(&rt, 1), 0)) {
+        Reply::Audit(Some(entry)) => assert!(&rt; entry.what == What::Define),
+        _ => panic!(&rt; "no entry"),
+    }
 }
 
 // Row limits-and-refusals: of the registry and of the subscribers.

@@ -1,4 +1,5 @@
 pub mod Room
+pub mod Waiting
 pub mod Numbering
 pub mod Handing
 pub mod Fates

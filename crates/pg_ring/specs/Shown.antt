@@ -66,6 +66,10 @@ pieces_of queue = queue.replies ++ map bytes_of queue.frames
 abbrev pub bytes_to_leave : Queue → List ℕ
 bytes_to_leave queue = queue.rest ++ flat_map (λ piece. piece) (pieces_of queue)
 
+-- how many frames wait, replies and data frames; the one in hand is one of them where bytes of it are left
+abbrev pub frames_to_leave : Queue → ℕ
+frames_to_leave queue = length (pieces_of queue) + (if nat_lt 0 (length queue.rest) then 1 else 0)
+
 -- how many of these pieces n bytes begin: those whose first byte is among the n
 abbrev pub begun_by : ℕ → List (List ℕ) → ℕ
 begun_by n [] = 0

@@ -1,6 +1,7 @@
 //! The output queue. A clause sees a queue as its readers show it.
 ghost use Rattle.std.specs.Prelude.{◌≡◌, ◌+◌, ◌-◌, ◌^◌, ◌<◌, ◌≤◌, ◌↔◌, ◌==◌, [], ◌∷◌, ◌++◌, length, take, drop, map, sum, slice_get, option_copied, IfOk, IfErr, IsOk, IfSome, IfNone, MatchOption, vec_len, false, if◌then◌else◌, nat_lt, Ok, Err, sum_by, min, Some, None};
-ghost use Rattle.pg_ring.specs.Shown.{Queue, Framed, IsWithinLimits, empty_queue, emptied, data_frames, drained, bytes_to_leave, begun_of, frames_begun, saturated, gap_of};
+ghost use Rattle.std.specs.List.{flat_map};
+ghost use Rattle.pg_ring.specs.Shown.{Queue, Framed, IsWithinLimits, empty_queue, emptied, data_frames, drained, bytes_to_leave, begun_of, frames_begun, frames_to_leave, saturated, gap_of};
 ghost use Rattle.pg_ring.specs.Steps.{with_data, with_lost, with_reply, takes_reply, begun_next};
 ghost use Rattle.pg_ring.specs.Numbers.{Numbered, Shows, push_made, dropped_by, lose_made, drain_made, clear_made, cleared_by, none_made, reply_made};
 
@@ -108,6 +109,40 @@ impl OutQueue {
         ensures { result ≡ self.now.pending }
     {
         self.pending
+    }
+
+    /// The number of frames that wait, replies and data frames: at most 1,033. The one in hand is one of them where bytes of it
+    /// are left.
+    pub fn frames_to_leave(&self) -> u64
+        ensures count { result ≡ frames_to_leave self.now }
+        ensures within { result ≤ 1033 }
+    {
+        let in_hand = self.taken < self.hand.len();
+        self.replies.len() as u64 + self.frames.len() as u64 + u64::from(in_hand)
+    }
+
+    /// The number of bytes that wait: the rest in hand, the replies and the data frames; at most 2^64 - 1.
+    pub fn bytes_to_leave(&self) -> u64
+        ensures { result ≡ saturated (length (bytes_to_leave self.now)) }
+    {
+        let rest = self.hand.len() - self.taken;
+        (rest as u64)
+            .saturating_add(self.held as u64)
+            .saturating_add(self.reply_bytes())
+    }
+
+    /// The number of bytes of the replies that stand, at most 2^64 - 1.
+    fn reply_bytes(&self) -> u64
+        ensures { result ≡ saturated (length (flat_map (λ piece. piece) self.now.replies)) }
+    {
+        let mut bytes = 0u64;
+        for i in 0..self.replies() {
+            let Some(reply) = self.reply_at(i) else {
+                unreachable!();
+            };
+            bytes = bytes.saturating_add(reply.len() as u64);
+        }
+        bytes
     }
 
     /// The reply at `index`, the oldest first.

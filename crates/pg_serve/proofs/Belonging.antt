@@ -26,7 +26,7 @@ use Rattle.pg_session.specs.Private.{Told, done, refuse, refused_at}
 use Rattle.pg_session.specs.Shown.{Model}
 use Rattle.pg_session.specs.ByAll.{by_arrivals, by_numbers}
 use Rattle.pg_session.specs.Commands.{Item, commands, ignores, item_of, items_of, break_in}
-use Rattle.pg_gateway.specs.Occurrences.{Occurrence, add_pmu, drop_pmu, add_sub, drop_sub, grant, asks, announce, measure, tick, stats, pmu_stats, audit, Answer, tells, sub_counts, pmu_counts, entry}
+use Rattle.pg_gateway.specs.Occurrences.{Occurrence, add_pmu, drop_pmu, add_sub, drop_sub, grant, asks, announce, measure, tick, stats, pmu_stats, audit, standing, Answer, tells, sub_counts, pmu_counts, entry, stands}
 use Rattle.pg_gateway.specs.Judging.{registered_of, block_counted, blocks_counted, memory_counted, all_announced}
 use Rattle.pg_gateway.specs.Sharing.{Seat, Offer, revokes, announces, measures, ticks, some_announced, some_measured, share}
 use Rattle.pg_gateway.specs.Shared.{Shared, seat_of, own_of, refusal, Reach, to_all, to_one, adds, drops, to_none, unless, reach, reached_answer, frames_reached, granting, judged_in, is_refusal, wants_memory, pmus_after, next}
@@ -73,6 +73,7 @@ KeepsKeys (tick soc) = Unit {0}
 KeepsKeys (stats u) = Unit {0}
 KeepsKeys (pmu_stats key) = Unit {0}
 KeepsKeys (audit u index) = Unit {0}
+KeepsKeys (standing u place) = Unit {0}
 
 keys_after : (S : Shared) (e : Occurrence) (t : Told) → KeepsKeys e → keys_of (pmus_after S e t) ≡ keys_of S.pmus
 keys_after S (add_pmu key) t keeps = absurd keeps
@@ -101,6 +102,7 @@ keys_after S (tick soc) t keeps = refl
 keys_after S (stats u) t keeps = refl
 keys_after S (pmu_stats key) t keeps = refl
 keys_after S (audit u index) t keeps = refl
+keys_after S (standing u place) t keeps = refl
 
 pub sources_kept : (S : Shared) (e : Occurrence) (a : Answer) (s : ℕ) → KeepsKeys e → has_source (next S e a) s ≡ has_source S s
 sources_kept S e (tells t) s keeps = ap (list_source s) (keys_after S e t keeps)
@@ -110,6 +112,7 @@ sources_kept S e (tells t) s keeps = ap (list_source s) (keys_after S e t keeps)
 sources_kept S e (sub_counts x) s keeps = refl
 sources_kept S e (pmu_counts x) s keeps = refl
 sources_kept S e (entry x) s keeps = refl
+sources_kept S e (stands x) s keeps = refl
 
 sources-push : (pmus : Pmus) (key : PmuKey) (pmu : Pmu) (s : ℕ) → registered.has_source (pmus ++ (key, pmu) ∷ []) s ≡ (registered.has_source pmus s || nat_eq key.source s)
 sources-push [] key pmu s = by (nat_eq key.source s)
@@ -324,6 +327,7 @@ KeepsSessions (tick soc) = Unit {0}
 KeepsSessions (stats u) = Unit {0}
 KeepsSessions (pmu_stats key) = Unit {0}
 KeepsSessions (audit u index) = Unit {0}
+KeepsSessions (standing u place) = Unit {0}
 
 unless_keeps : (r : Option Refusal) (o : Offer) → KeepsReach (unless r (to_all o))
 unless_keeps None o = tt
@@ -346,6 +350,7 @@ keeps_reach S (tick soc) k = tt
 keeps_reach S (stats u) k = tt
 keeps_reach S (pmu_stats key) k = tt
 keeps_reach S (audit u index) k = tt
+keeps_reach S (standing u place) k = tt
 
 sessions_kept : (S : Shared) (e : Occurrence) (u : ℕ) → Alone S.subs → KeepsSessions e → connected_in (own_of u (shared_step S e)) ≡ connected_in (own_of u S)
 sessions_kept S e u alone k = ap connected_in (own-step u S e alone) ∙ reach_keeps u (own_of u S) (reach S e) (keeps_reach S e k)
@@ -837,6 +842,7 @@ named_belongs m (tick soc) is = quiet_belongs m (tick soc) is tt tt
 named_belongs m (stats w) is = quiet_belongs m (stats w) is tt tt
 named_belongs m (pmu_stats key) is = quiet_belongs m (pmu_stats key) is tt tt
 named_belongs m (audit w index) is = quiet_belongs m (audit w index) is tt tt
+named_belongs m (standing w place) is = quiet_belongs m (standing w place) is tt tt
 
 -- ---- all inputs
 

@@ -14,7 +14,7 @@ use Rattle.pg_ingest.specs.Items.{AreTold, is_want, told_of, break_in}
 use Rattle.pg_ingest.specs.Commands.{Act, tells, asks, told_in}
 use Rattle.pg_ingest.specs.Shown.{IsAllTold}
 use Rattle.pg_ingest.proofs.Past.{told_of-only}
-use Rattle.pg_gateway.specs.Occurrences.{Occurrence, add_pmu, drop_pmu, add_sub, drop_sub, grant, asks as asks_for, announce, measure, tick, stats, pmu_stats, audit, Answer}
+use Rattle.pg_gateway.specs.Occurrences.{Occurrence, add_pmu, drop_pmu, add_sub, drop_sub, grant, asks as asks_for, announce, measure, tick, stats, pmu_stats, audit, standing, Answer}
 use Rattle.pg_gateway.specs.Shared.{Shared, opening as shared_opening, next}
 use Rattle.pg_gateway.specs.Histories.{Legal, state_after}
 use Rattle.pg_gateway.specs.Views.{full_answer, full_answers, shared_step, shared_run}
@@ -185,6 +185,7 @@ full_by lines S T (tick soc) done full = full
 full_by lines S T (stats u) done full = full
 full_by lines S T (pmu_stats key) done full = full
 full_by lines S T (audit u index) done full = full
+full_by lines S T (standing u place) done full = full
 
 full_named : (lines : List (ℕ × LinePast)) (S T : Shared) (pairs : List (Occurrence × Answer)) → AllFull lines → AllFull (lines_named lines S T pairs)
 full_named lines S T [] full = full

@@ -15,7 +15,7 @@ use Rattle.pg_session.specs.Events as session
 use Rattle.pg_session.specs.Events.{Happening}
 use Rattle.pg_session.specs.Private.{Told, done, refuse}
 use Rattle.pg_session.specs.Commands.{Item, commands, ignores, items_of, break_in}
-use Rattle.pg_gateway.specs.Occurrences.{Occurrence, add_pmu, drop_pmu, add_sub, drop_sub, grant, asks, announce, measure, tick, stats, pmu_stats, audit, Answer, tells, sub_counts, pmu_counts, entry}
+use Rattle.pg_gateway.specs.Occurrences.{Occurrence, add_pmu, drop_pmu, add_sub, drop_sub, grant, asks, announce, measure, tick, stats, pmu_stats, audit, standing, Answer, tells, sub_counts, pmu_counts, entry, stands}
 use Rattle.pg_gateway.specs.Judging.{registered_of}
 use Rattle.pg_gateway.specs.Sharing.{Seat, Seats, revokes, announces, measures, fan_out}
 use Rattle.pg_gateway.specs.Shared.{Shared, seat_of, own_of, at_seat, refusal, Reach, to_all, to_one, adds, drops, to_none, unless, reach, reached_answer, frames_reached, granting, moved, added, with_note, code_of, is_refusal, kept_of, seats_after, seats_noted, names as named, taken_in, pmus_after, tick_after, next}
@@ -47,6 +47,7 @@ KeepsPmus (tick soc) = Unit {0}
 KeepsPmus (stats u) = Unit {0}
 KeepsPmus (pmu_stats key) = Unit {0}
 KeepsPmus (audit u index) = Unit {0}
+KeepsPmus (standing u place) = Unit {0}
 
 told_pmus : (S : Shared) (e : Occurrence) (t : Told) → KeepsPmus e → pmus_after S e t ≡ S.pmus
 told_pmus S (add_pmu key) t k = absurd k
@@ -61,12 +62,14 @@ told_pmus S (tick soc) t k = refl
 told_pmus S (stats u) t k = refl
 told_pmus S (pmu_stats key) t k = refl
 told_pmus S (audit u index) t k = refl
+told_pmus S (standing u place) t k = refl
 
 kept_pmus : (S : Shared) (e : Occurrence) (a : Answer) → KeepsPmus e → (next S e a).pmus ≡ S.pmus
 kept_pmus S e (tells t) k = told_pmus S e t k
 kept_pmus S e (sub_counts x) k = refl
 kept_pmus S e (pmu_counts x) k = refl
 kept_pmus S e (entry x) k = refl
+kept_pmus S e (stands x) k = refl
 
 abbrev KeepsTick : Occurrence → Type 0
 KeepsTick (add_pmu key) = Unit {0}
@@ -81,6 +84,7 @@ KeepsTick (tick soc) = ⊥
 KeepsTick (stats u) = Unit {0}
 KeepsTick (pmu_stats key) = Unit {0}
 KeepsTick (audit u index) = Unit {0}
+KeepsTick (standing u place) = Unit {0}
 
 told_tick : (last : Option ℕ) (e : Occurrence) → KeepsTick e → tick_after last e ≡ last
 told_tick last (add_pmu key) k = refl
@@ -95,12 +99,14 @@ told_tick last (tick soc) k = absurd k
 told_tick last (stats u) k = refl
 told_tick last (pmu_stats key) k = refl
 told_tick last (audit u index) k = refl
+told_tick last (standing u place) k = refl
 
 kept_tick : (S : Shared) (e : Occurrence) (a : Answer) → KeepsTick e → (next S e a).last_tick ≡ S.last_tick
 kept_tick S e (tells t) k = told_tick S.last_tick e k
 kept_tick S e (sub_counts x) k = refl
 kept_tick S e (pmu_counts x) k = refl
 kept_tick S e (entry x) k = refl
+kept_tick S e (stands x) k = refl
 
 -- ---- two states that are alike for u
 
@@ -125,6 +131,7 @@ HasRoom (tick soc) S = Unit {0}
 HasRoom (stats u) S = Unit {0}
 HasRoom (pmu_stats key) S = Unit {0}
 HasRoom (audit u index) S = Unit {0}
+HasRoom (standing u place) S = Unit {0}
 
 -- a state of these parts
 abbrev parts : Pmus → Option ℕ → Seats → Shared
@@ -172,6 +179,7 @@ same_reach u pmus last ss ts (tick soc) own mine_so room room' = refl
 same_reach u pmus last ss ts (stats w) own mine_so room room' = refl
 same_reach u pmus last ss ts (pmu_stats key) own mine_so room room' = refl
 same_reach u pmus last ss ts (audit w index) own mine_so room room' = refl
+same_reach u pmus last ss ts (standing w place) own mine_so room room' = refl
 
 -- and the registry and the last tick go on alike
 same_pmus : (pmus : Pmus) (last : Option ℕ) (ss ts : Seats) (e : Occurrence) → (shared_step (parts pmus last ss) e).pmus ≡ (shared_step (parts pmus last ts) e).pmus
@@ -218,6 +226,7 @@ same_pmus pmus last ss ts (tick soc) = refl
 same_pmus pmus last ss ts (stats w) = kept_pmus (parts pmus last ss) (stats w) (full_answer (parts pmus last ss) (stats w)) tt ∙ sym (kept_pmus (parts pmus last ts) (stats w) (full_answer (parts pmus last ts) (stats w)) tt)
 same_pmus pmus last ss ts (pmu_stats key) = kept_pmus (parts pmus last ss) (pmu_stats key) (full_answer (parts pmus last ss) (pmu_stats key)) tt ∙ sym (kept_pmus (parts pmus last ts) (pmu_stats key) (full_answer (parts pmus last ts) (pmu_stats key)) tt)
 same_pmus pmus last ss ts (audit w index) = kept_pmus (parts pmus last ss) (audit w index) (full_answer (parts pmus last ss) (audit w index)) tt ∙ sym (kept_pmus (parts pmus last ts) (audit w index) (full_answer (parts pmus last ts) (audit w index)) tt)
+same_pmus pmus last ss ts (standing w place) = kept_pmus (parts pmus last ss) (standing w place) (full_answer (parts pmus last ss) (standing w place)) tt ∙ sym (kept_pmus (parts pmus last ts) (standing w place) (full_answer (parts pmus last ts) (standing w place)) tt)
 
 is_tick : (e : Occurrence) → (KeepsTick e) ⊎ ((soc : ℕ) × (e ≡ tick soc))
 is_tick (add_pmu key) = inl tt
@@ -232,6 +241,7 @@ is_tick (tick soc) = inr (soc, refl)
 is_tick (stats u) = inl tt
 is_tick (pmu_stats key) = inl tt
 is_tick (audit u index) = inl tt
+is_tick (standing u place) = inl tt
 
 same_tick : (pmus : Pmus) (last : Option ℕ) (ss ts : Seats) (e : Occurrence) → (shared_step (parts pmus last ss) e).last_tick ≡ (shared_step (parts pmus last ts) e).last_tick
 same_tick pmus last ss ts e = by (is_tick e)
@@ -296,6 +306,7 @@ none_seen u S (tick soc) other = absurd (cc)
 none_seen u S (stats w) other = refl
 none_seen u S (pmu_stats key) other = refl
 none_seen u S (audit w index) other = refl
+none_seen u S (standing w place) other = refl
 
 other_keeps : (u : ℕ) (e : Occurrence) → names_other u e ≡ true → KeepsPmus e × KeepsTick e
 other_keeps u (add_pmu key) other = absurd (cc)
@@ -310,6 +321,7 @@ other_keeps u (tick soc) other = absurd (cc)
 other_keeps u (stats w) other = (tt, tt)
 other_keeps u (pmu_stats key) other = (tt, tt)
 other_keeps u (audit w index) other = (tt, tt)
+other_keeps u (standing w place) other = (tt, tt)
 
 other_alike : (u : ℕ) (S T : Shared) (e : Occurrence) → Alike u S T → names_other u e ≡ true → Alike u (shared_step S e) T
 other_alike u S T e alike other = record {
@@ -542,6 +554,7 @@ named_apart u fed (tick soc) done_so other alone = refl
 named_apart u fed (stats w) done_so other alone = refl
 named_apart u fed (pmu_stats key) done_so other alone = refl
 named_apart u fed (audit w index) done_so other alone = refl
+named_apart u fed (standing w place) done_so other alone = refl
 
 other_lines : (u : ℕ) (lines : List (ℕ × LinePast)) (S T : Shared) (e : Occurrence) (done_so : Bool) → names_other u e ≡ true → lines_by lines S T e done_so ≡ lines
 other_lines u lines S T (add_pmu key) done_so other = absurd (cc)
@@ -556,6 +569,7 @@ other_lines u lines S T (tick soc) done_so other = refl
 other_lines u lines S T (stats w) done_so other = refl
 other_lines u lines S T (pmu_stats key) done_so other = refl
 other_lines u lines S T (audit w index) done_so other = refl
+other_lines u lines S T (standing w place) done_so other = refl
 
 other_turn : (u : ℕ) (m n : Moment) (f : Fact) → AlikeMoments u m n → is_of_other u f ≡ true
     → AlikeMoments u (turned m f) n × (view u m.shared (posted (dues_of m f)) ≡ [])
@@ -656,6 +670,7 @@ own_lines u m n (tick soc) alike after = alike.lines
 own_lines u m n (stats w) alike after = alike.lines
 own_lines u m n (pmu_stats key) alike after = alike.lines
 own_lines u m n (audit w index) alike after = alike.lines
+own_lines u m n (standing w place) alike after = alike.lines
 
 -- and so does what u's session was fed
 connect_here : (u : ℕ) (fed fed' : List (ℕ × List ℕ)) (b c : Bool) → b ≡ c → lookup (nat_eq u) fed ≡ lookup (nat_eq u) fed'
@@ -710,6 +725,7 @@ fed_named u m n (tick soc) alike own = alike.fed
 fed_named u m n (stats w) alike own = alike.fed
 fed_named u m n (pmu_stats key) alike own = alike.fed
 fed_named u m n (audit w index) alike own = alike.fed
+fed_named u m n (standing w place) alike own = alike.fed
 
 abbrev RoomFor : Fact → Shared → Type 0
 RoomFor (link_up s) S = Unit {0}
@@ -818,6 +834,7 @@ reach_by S (tick soc) = omega arith
 reach_by S (stats w) = omega arith
 reach_by S (pmu_stats key) = omega arith
 reach_by S (audit w index) = omega arith
+reach_by S (standing w place) = omega arith
 
 length_next : (S : Shared) (e : Occurrence) (a : Answer) → length (next S e a).subs ≤ length S.subs + adds_by e
 length_next S e (tells t) =
@@ -828,6 +845,7 @@ length_next S e (tells t) =
 length_next S e (sub_counts x) = omega arith
 length_next S e (pmu_counts x) = omega arith
 length_next S e (entry x) = omega arith
+length_next S e (stands x) = omega arith
 
 abbrev adds_all : List Occurrence → ℕ
 adds_all [] = 0
@@ -898,6 +916,7 @@ has_room (tick soc) S others h = tt
 has_room (stats u) S others h = tt
 has_room (pmu_stats key) S others h = tt
 has_room (audit u index) S others h = tt
+has_room (standing u place) S others h = tt
 
 room_for : (f : Fact) (S : Shared) (others : ℕ) → length S.subs + (adds_at f + others) ≤ 64 → RoomFor f S
 room_for (link_up s) S others h = tt

@@ -14,7 +14,7 @@ use Rattle.pg_session.specs.Commands.{items_of, stats_of as session_stats}
 use Rattle.pg_ingest.specs.Items as link
 use Rattle.pg_ingest.specs.Items.{told_of, break_in}
 use Rattle.pg_ingest.specs.Linking.{stats_of as link_stats}
-use Rattle.pg_gateway.specs.Occurrences.{Occurrence, add_pmu, drop_pmu, add_sub, drop_sub, grant, asks, announce, measure, tick, stats, pmu_stats, audit, Answer}
+use Rattle.pg_gateway.specs.Occurrences.{Occurrence, add_pmu, drop_pmu, add_sub, drop_sub, grant, asks, announce, measure, tick, stats, pmu_stats, audit, standing, Answer}
 use Rattle.pg_gateway.specs.Shared.{Shared, opening as shared_opening, seat_of, own_of, refusal}
 use Rattle.pg_gateway.specs.Views.{Seen, full_answer, shared_step, view, private_run, Handed, handed_out, handed_in, Lossless}
 use Rattle.pg_gateway.specs.Laws.{after, events_of, answers_of, AgreeOn}
@@ -109,6 +109,7 @@ is_asked u (tick soc) = false
 is_asked u (stats w) = false
 is_asked u (pmu_stats key) = false
 is_asked u (audit w index) = false
+is_asked u (standing w place) = false
 
 abbrev pub is_for : ℕ → Fact → Bool
 is_for u (link_up s) = false

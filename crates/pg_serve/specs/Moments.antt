@@ -15,7 +15,7 @@ use Rattle.pg_session.specs.Commands.{break_in as session_break}
 use Rattle.pg_ingest.specs.Items as link
 use Rattle.pg_ingest.specs.Items.{break_in as link_break}
 use Rattle.pg_ingest.specs.Shown.{LinkPast, beginning, feeding, renewed, IsAllTold}
-use Rattle.pg_gateway.specs.Occurrences.{Occurrence, add_pmu, drop_pmu, add_sub, drop_sub, grant, asks, announce, measure, tick, stats, pmu_stats, audit, Answer, tells, sub_counts, pmu_counts, entry}
+use Rattle.pg_gateway.specs.Occurrences.{Occurrence, add_pmu, drop_pmu, add_sub, drop_sub, grant, asks, announce, measure, tick, stats, pmu_stats, audit, standing, Answer, tells, sub_counts, pmu_counts, entry, stands}
 use Rattle.pg_gateway.specs.Shared.{Shared, opening as shared_opening, seat_of, refusal}
 use Rattle.pg_gateway.specs.Histories.{Legal, state_after}
 use Rattle.pg_serve.specs.Inputs.{Fact, link_up, pmu_bytes, sub_bytes, names, Outcome}
@@ -93,6 +93,7 @@ begins (tick soc) = false
 begins (stats u) = false
 begins (pmu_stats key) = false
 begins (audit u index) = false
+begins (standing u place) = false
 
 -- The event of the input's name is posted; or there is no memory for its link or session, and it would not be refused.
 abbrev pub Posts : Shared → Occurrence → List Due → Type 0
@@ -124,6 +125,7 @@ is_done (tells t) = is_done_so t
 is_done (sub_counts s) = false
 is_done (pmu_counts s) = false
 is_done (entry found) = false
+is_done (stands s) = false
 
 -- a PMU of this source is registered
 abbrev pub has_source : Shared → ℕ → Bool
@@ -149,6 +151,7 @@ lines_by lines S T (tick soc) done = lines
 lines_by lines S T (stats u) done = lines
 lines_by lines S T (pmu_stats key) done = lines
 lines_by lines S T (audit u index) done = lines
+lines_by lines S T (standing u place) done = lines
 
 -- A session begins with a Connect, and ends with a Hangup and with its subscriber, where these are done.
 abbrev pub fed_by_one : List (ℕ × List ℕ) → ℕ → Happening → Bool → List (ℕ × List ℕ)
@@ -177,6 +180,7 @@ fed_by fed (tick soc) done = fed
 fed_by fed (stats u) done = fed
 fed_by fed (pmu_stats key) done = fed
 fed_by fed (audit u index) done = fed
+fed_by fed (standing u place) done = fed
 
 -- a link whose connection was up gives all commands that are owed
 abbrev pub words_given : LinePast → List Word

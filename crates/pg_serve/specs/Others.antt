@@ -1,6 +1,6 @@
 -- Inputs that name other subscribers.
 use Rattle.std.specs.Prelude.{◌≡◌, ℕ, ◌+◌, ◌≤◌, nat_eq, Bool, false, not, List, [], ◌∷◌, filter}
-use Rattle.pg_gateway.specs.Occurrences.{Occurrence, add_pmu, drop_pmu, add_sub, drop_sub, grant, asks, announce, measure, tick, stats, pmu_stats, audit}
+use Rattle.pg_gateway.specs.Occurrences.{Occurrence, add_pmu, drop_pmu, add_sub, drop_sub, grant, asks, announce, measure, tick, stats, pmu_stats, audit, standing}
 use Rattle.pg_serve.specs.Inputs.{Fact, link_up, pmu_bytes, sub_bytes, names}
 use Rattle.pg_serve.specs.Full.{view_of}
 
@@ -18,6 +18,7 @@ names_other u (tick soc) = false
 names_other u (stats w) = not (nat_eq u w)
 names_other u (pmu_stats key) = false
 names_other u (audit w index) = not (nat_eq u w)
+names_other u (standing w place) = not (nat_eq u w)
 
 abbrev pub is_of_other : ℕ → Fact → Bool
 is_of_other u (link_up s) = false
@@ -44,6 +45,7 @@ adds_by (tick soc) = 0
 adds_by (stats u) = 0
 adds_by (pmu_stats key) = 0
 adds_by (audit u index) = 0
+adds_by (standing u place) = 0
 
 abbrev pub adds_at : Fact → ℕ
 adds_at (link_up s) = 0

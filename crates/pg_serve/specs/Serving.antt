@@ -10,7 +10,7 @@ use Rattle.pg_session.specs.Events as session
 use Rattle.pg_session.specs.Events.{Happening}
 use Rattle.pg_session.specs.Private.{Told, done, refused, handed}
 use Rattle.pg_session.specs.Commands.{Hearing, Item, commands, ignores, items_of, break_in, Shows}
-use Rattle.pg_gateway.specs.Occurrences.{asks, Answer, tells, sub_counts, pmu_counts, entry}
+use Rattle.pg_gateway.specs.Occurrences.{asks, Answer, tells, sub_counts, pmu_counts, entry, stands}
 use Rattle.pg_gateway.specs.Posting.{Posted, Notes}
 use Rattle.pg_ingest.specs.declared.run.End.{End}
 use Rattle.pg_ingest.specs.declared.run.End.TheVariants.{Closed, Quiet, Stalled, Fault}
@@ -58,6 +58,7 @@ bytes_answered (tells t) = bytes_told t
 bytes_answered (sub_counts s) = []
 bytes_answered (pmu_counts s) = []
 bytes_answered (entry e) = []
+bytes_answered (stands s) = []
 
 -- The answer to a drain hands out what is to be written.
 abbrev pub handed_on : Post → Answer → List ℕ

@@ -57,6 +57,7 @@ refusal_of (reply.Drained buf out) = Some NoMemory
 refusal_of (reply.Stats s) = Some NoMemory
 refusal_of (reply.PmuStats s) = Some NoMemory
 refusal_of (reply.Audit e) = Some NoMemory
+refusal_of (reply.Standing s) = Some NoMemory
 
 -- what becomes of a connection that is refused for this, or not at all
 abbrev pub knock_by : Option Refusal → Doorway → Knock

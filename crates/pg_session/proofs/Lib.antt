@@ -2,6 +2,7 @@ pub mod Hearing
 pub mod Sending
 pub mod Simulating
 pub mod Stepping
+pub mod Standings
 pub mod Departing
 pub mod Changing
 pub mod Members

@@ -11,6 +11,7 @@ pub mod ByAll
 pub mod Kept
 -- What a subscriber shows of it, one step of the two, and what an event asks of the subscriber.
 pub mod Shown
+pub mod Standing
 pub mod Steps
 pub mod Wanted
 pub mod Ready

@@ -13,6 +13,7 @@ mod output;
 mod pending;
 mod reply;
 mod session;
+mod standing;
 mod stream;
 mod streams;
 mod subscriber;
@@ -23,4 +24,5 @@ pub use laws::{
     stamps_rise,
 };
 pub use session::{Next, Session};
+pub use standing::{Standing, StreamStanding};
 pub use subscriber::Subscriber;

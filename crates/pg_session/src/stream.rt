@@ -18,6 +18,7 @@ ghost use Rattle.pg_session.specs.Kept.{by_slots, by_gaps};
 ghost use Rattle.pg_session.specs.Ready.{GoesOn};
 ghost use Rattle.pg_session.specs.Fields.{IsStream, AreListed, turn_stats, with_stats};
 ghost use Rattle.pg_session.specs.Wanted.{wanted_of};
+ghost use Rattle.pg_session.specs.Standing.{stream_standing};
 
 use crate::accepting::after_members;
 use crate::arriving::{arrive_all_in, count_placed, pass_all};
@@ -25,6 +26,7 @@ use crate::change::{Change, config_of};
 use crate::copying::copy_members;
 use crate::leaving::{flush_all, leave_all};
 use crate::output::Output;
+use crate::standing::{StreamStanding, count_effective};
 use circular_buffer::HeapCircularBuffer;
 use pg_align::Align;
 use pg_data::{DataFrame, SharedBlock};
@@ -147,6 +149,19 @@ impl Stream {
         ensures { result ≡ self.now.slots.is_on }
     {
         self.align.is_on()
+    }
+
+    /// How it stands, by this CFG-1 list.
+    pub fn standing(&self, listed: &ConfigList) -> StreamStanding
+        ensures { result ≡ stream_standing by_slots listed.now self.now }
+    {
+        let members = self.definition.members.as_slice();
+        StreamStanding {
+            stream: self.definition.stream,
+            is_on: self.align.is_on(),
+            effective: count_effective(listed, members),
+            members: members.len() as u16,
+        }
     }
 
     /// Switches it on, with no open slot. One that is on stays as it is.

@@ -1,6 +1,6 @@
 //! What an event is to all streams of a subscriber, in the order of their definition.
 
-ghost use Rattle.std.specs.Prelude.{◌≡◌, ◌+◌, ◌*◌, ◌<◌, ◌≤◌, ◌^◌, ◌++◌, [], ◌∷◌, List, length, map, drop, not, All, ◌==◌, filter, option_map, vec_len, vec_capacity};
+ghost use Rattle.std.specs.Prelude.{◌≡◌, ◌+◌, ◌*◌, ◌<◌, ◌≤◌, ◌^◌, ◌++◌, [], ◌∷◌, List, length, map, drop, not, All, ◌==◌, filter, option_map, slice_get, vec_len, vec_capacity};
 ghost use Rattle.pg_session.specs.Events.{samples_at};
 ghost use Rattle.pg_session.specs.Shape.{same_list};
 ghost use Rattle.pg_session.specs.Changing.{IsOfParts, list_after};
@@ -11,9 +11,11 @@ ghost use Rattle.pg_session.specs.Taking.{Taken};
 ghost use Rattle.pg_session.specs.Kept.{by_slots, by_gaps};
 ghost use Rattle.pg_session.specs.Fields.{AreListed, AreFitted, stream_after};
 ghost use Rattle.pg_session.specs.Wanted.{all_wanted};
+ghost use Rattle.pg_session.specs.Standing.{stream_standing};
 
 use crate::change::Change;
 use crate::output::Output;
+use crate::standing::StreamStanding;
 use crate::stream::Stream;
 use circular_buffer::HeapCircularBuffer;
 use pg_data::{DataFrame, SharedBlock};
@@ -110,6 +112,20 @@ pub(crate) fn stream_of(streams: &[Stream], number: u16) -> Option<&Stream>
         }
     }
     None
+}
+
+/// How the stream at a place stands, by this CFG-1 list.
+pub(crate) fn stream_standing_at(
+    streams: &[Stream],
+    place: usize,
+    listed: &ConfigList,
+) -> Option<StreamStanding>
+    ensures { result ≡ option_map (stream_standing by_slots listed.now) (slice_get streams.now place) }
+{
+    match streams.get(place) {
+        None => None,
+        Some(s) => Some(s.standing(listed)),
+    }
 }
 
 /// The streams of a number are removed.

@@ -8,7 +8,8 @@ ghost use Rattle.pg_session.specs.Events.{Happening, happening, config_of, annou
 ghost use Rattle.pg_config.specs.Parts.{Part};
 ghost use Rattle.pg_session.specs.Private.{told};
 ghost use Rattle.pg_session.specs.Ready.{Accepts, AreHeld, AreOwn, ArePlaces, IsPlain, IsReady, KeepsBuffer, NeedsNone, ReturnsBuffer};
-ghost use Rattle.pg_session.specs.Shown.{SubscriberValue, Shows, Takes, begin};
+ghost use Rattle.pg_session.specs.Shown.{Model, SubscriberValue, Shows, Takes, begin};
+ghost use Rattle.pg_session.specs.Standing.{standing_of, own_standing};
 ghost use Rattle.pg_session.specs.Steps.{Steps, MakesFew, HasNoCopies};
 ghost use Rattle.pg_session.specs.Fields.{Obeys, MayRefuse};
 ghost use Rattle.pg_session.specs.Wanted.{all_wanted, granted_wanted};
@@ -20,9 +21,11 @@ use crate::event::{PrivateEvent, PrivateReply};
 use crate::listing::{list_all, list_one};
 use crate::output::Output;
 use crate::reply::{is_question, send_reply, word_at};
+use crate::standing::Standing;
 use crate::stream::Stream;
 use crate::streams::{
-    measure_all, remove_streams, reshape_all, stop_all, stream_of, switch_streams, tick_all,
+    measure_all, remove_streams, reshape_all, stop_all, stream_of, stream_standing_at,
+    switch_streams, tick_all,
 };
 use circular_buffer::HeapCircularBuffer;
 use pg_audit::Stats;
@@ -157,6 +160,20 @@ impl Subscriber {
         ensures value { result.now ≡ self.now.own.output.queue }
     {
         self.output.queue()
+    }
+
+    /// How the subscriber stands: what waits for it, and the stream at this place, 0 the one that was defined first.
+    pub fn standing(&self, place: usize) -> Standing
+        ensures value { (p : Model) → Shows self.now p → result ≡ standing_of p place }
+        // the same of what is kept, whatever state that shows
+        ensures kept { result ≡ own_standing self.now.own place }
+    {
+        let queue = self.output.queue();
+        Standing {
+            frames: queue.frames_to_leave(),
+            bytes: queue.bytes_to_leave(),
+            stream: stream_standing_at(&self.streams, place, &self.listed),
+        }
     }
 
     /// The counters.

@@ -306,6 +306,52 @@ fn filler_after_wait(rt: HostRuntime) {
     assert!(rt; sub.stats().by_reason[20] == 1);
 }
 
+// How stream 102 stands, of two members, and how many frames and bytes wait.
+fn stands(rt: &impl Abort, sub: &Subscriber, frames: u64, bytes: u64, effective: u16, is_on: bool) {
+    let stream = StreamStanding {
+        stream: StreamId::new(102).expect(rt, "a number"),
+        is_on,
+        effective,
+        members: 2,
+    };
+    let expected = Standing {
+        frames,
+        bytes,
+        stream: Some(stream),
+    };
+    assert!(rt; sub.standing(0) == expected);
+    let next = Standing {
+        stream: None,
+        ..expected
+    };
+    assert!(rt; sub.standing(1) == next);
+}
+
+// What waits is counted with the frame in hand. A revoked member is effective no more, and a hang-up leaves nothing and switches off.
+#[test]
+fn standing_of_two(rt: HostRuntime) {
+    let alloc = rt.alloc();
+    let first = source_7(&rt, alloc).expect(&rt, "memory");
+    let second = source_8(&rt, alloc).expect(&rt, "memory");
+    let mut sub = with_two(&rt, alloc, &first, &second, 0, 4).expect(&rt, "memory");
+    stands(&rt, &sub, 0, 0, 2, true);
+    let frame = measured(&rt, alloc, &first, 100, 33_333, &DATA_7).expect(&rt, "memory");
+    done(
+        &rt,
+        give(&rt, &mut sub, PrivateEvent::Measure(&frame, &[0])),
+        1,
+    );
+    stands(&rt, &sub, 1, 34, 2, true);
+    let buffer = vec![in alloc; 0; 10].expect(&rt, "memory");
+    let _handed = give(&rt, &mut sub, PrivateEvent::Drain(buffer));
+    stands(&rt, &sub, 1, 24, 2, true);
+    let revoke = PrivateEvent::Revoke(key(8).expect(&rt, "a key"));
+    done(&rt, give(&rt, &mut sub, revoke), 0);
+    stands(&rt, &sub, 1, 24, 1, true);
+    done(&rt, give(&rt, &mut sub, PrivateEvent::Hangup), 0);
+    stands(&rt, &sub, 0, 0, 1, false);
+}
+
 // Takes all memory that there is, down to the last byte, until the pieces that it answers are dropped.
 fn all_memory(rt: &impl Abort, alloc: Global) -> Vec<Vec<u8>> {
     let mut held = Vec::with_capacity(alloc, 40_000).expect(rt, "memory");

@@ -98,6 +98,31 @@ fn ring_of_one(rt: HostRuntime) -> Result<(), Fail> {
     Ok(())
 }
 
+/// How many frames and bytes wait.
+fn waits(queue: &OutQueue) -> (u64, u64) {
+    (queue.frames_to_leave(), queue.bytes_to_leave())
+}
+
+#[test]
+fn what_waits(rt: HostRuntime) -> Result<(), Fail> {
+    let mut queue = queue_of(&rt, 2, 16_777_216)?;
+    assert_eq!(rt; waits(&queue), (0, 0));
+    push_replies(&rt, &mut queue, 2)?;
+    for last in 1..=3 {
+        push(&rt, &mut queue, last)?;
+    }
+    assert_eq!(rt; waits(&queue), (4, 200));
+    drain(&rt, &mut queue, 80)?;
+    assert_eq!(rt; waits(&queue), (3, 120));
+    drain(&rt, &mut queue, 68)?;
+    assert_eq!(rt; waits(&queue), (2, 52));
+    queue.push_lost();
+    assert_eq!(rt; waits(&queue), (2, 52));
+    queue.clear();
+    assert_eq!(rt; waits(&queue), (0, 0));
+    Ok(())
+}
+
 #[test]
 fn bytes_drop_oldest(rt: HostRuntime) -> Result<(), Fail> {
     let mut queue = queue_of(&rt, 4, 60)?;

@@ -20,6 +20,9 @@ returns-in-PmuStats-clause-goes c = subst (λ e. Goes c.args.self.now (occurrenc
 pub returns-in-Audit-clause-goes : goal.returns-in-Audit-clause-goes
 returns-in-Audit-clause-goes c = subst (λ e. Goes c.args.self.now (occurrence e) (told c.audit.result) c.args.self.now) (sym c.in-Audit.is) c.audit.ensures.goes
 
+pub returns-in-Standing-clause-goes : goal.returns-in-Standing-clause-goes
+returns-in-Standing-clause-goes c = subst (λ e. Goes c.args.self.now (occurrence e) (told c.standing.result) c.args.self.now) (sym c.in-Standing.is) c.standing.ensures.goes
+
 pub returns-in-Command-clause-copies : goal.returns-in-Command-clause-copies
 returns-in-Command-clause-copies c = λ may. absurd (subst (λ e. MayCopy (occurrence e)) c.in-Command.is may)
 
@@ -31,6 +34,9 @@ returns-in-PmuStats-clause-copies c = λ may. absurd (subst (λ e. MayCopy (occu
 
 pub returns-in-Audit-clause-copies : goal.returns-in-Audit-clause-copies
 returns-in-Audit-clause-copies c = λ may. absurd (subst (λ e. MayCopy (occurrence e)) c.in-Audit.is may)
+
+pub returns-in-Standing-clause-copies : goal.returns-in-Standing-clause-copies
+returns-in-Standing-clause-copies c = λ may. absurd (subst (λ e. MayCopy (occurrence e)) c.in-Standing.is may)
 
 pub returns-in-Grant-clause-copies : goal.returns-in-Grant-clause-copies
 returns-in-Grant-clause-copies c = λ may. subst (λ e. Frugal c.args.self.now (occurrence e) (told c.grant.result)) (sym c.in-Grant.is) c.grant.ensures.frugal

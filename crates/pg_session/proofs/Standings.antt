@@ -1,0 +1,46 @@
+-- How a subscriber stands is the same of what is kept and of the model that it shows.
+use Rattle.std.proofs.Common.{◌≡◌, ℕ, zero, suc, List, [], ◌∷◌, length, slice_get, option_map, Option, Some, refl, ap, ap₂, ◌∙◌, Bool}
+use Rattle.pg_data.specs.Shared.{Piece}
+use Rattle.pg_stream.specs.declared.definition.Definition.{Definition}
+use Rattle.pg_align.specs.Histories.{History}
+use Rattle.pg_align.specs.Slots.{Aligned}
+use Rattle.pg_outcfg.specs.Frames.{effective_of}
+use Rattle.pg_outcfg.specs.Listing.{Listing}
+use Rattle.pg_ring.specs.Shown.{Queue, bytes_to_leave, frames_to_leave, saturated}
+use Rattle.pg_session.specs.declared.standing.Standing.{Standing}
+use Rattle.pg_session.specs.declared.standing.StreamStanding.{StreamStanding}
+use Rattle.pg_session.specs.Streams.{StreamOf}
+use Rattle.pg_session.specs.Shown.{Model, Own, StreamShows, StreamsShow, OwnShows}
+use Rattle.pg_session.specs.ByAll.{by_arrivals}
+use Rattle.pg_session.specs.Kept.{by_slots}
+use Rattle.pg_session.specs.Standing.{stream_standing, standing_of, own_standing}
+
+same_stream : (listed : Listing) (s : StreamOf (Aligned Piece)) (t : StreamOf (History Piece)) → StreamShows s t
+    → stream_standing by_slots listed s ≡ stream_standing by_arrivals listed t
+same_stream listed s t shows =
+    let stands : Definition → Bool → StreamStanding = λ d on. record {
+      stream = d.stream;
+      is_on = on;
+      effective = length (effective_of listed d.members);
+      members = length d.members;
+    } in
+    ap₂ stands shows.definition (ap (λ a. a.is_on) shows.slots.same)
+
+same_place : (listed : Listing) (ss : List (StreamOf (Aligned Piece))) (ts : List (StreamOf (History Piece))) (place : ℕ) → StreamsShow ss ts
+    → option_map (stream_standing by_slots listed) (slice_get ss place) ≡ option_map (stream_standing by_arrivals listed) (slice_get ts place)
+same_place listed [] [] place shows = refl
+same_place listed (s ∷ ss) (t ∷ ts) zero shows = ap Some (same_stream listed s t shows.0)
+same_place listed (s ∷ ss) (t ∷ ts) (suc place) shows = same_place listed ss ts place shows.1
+same_place listed [] (t ∷ ts) place shows = absurd shows
+same_place listed (s ∷ ss) [] place shows = absurd shows
+
+pub same_standing : (v : Own) (p : Model) (place : ℕ) → OwnShows v p → own_standing v place ≡ standing_of p place
+same_standing v p place shows =
+    let stands : Queue → Option StreamStanding → Standing = λ queue stream. record {
+      frames = frames_to_leave queue;
+      bytes = saturated (length (bytes_to_leave queue));
+      stream = stream;
+    } in
+    ap₂ stands shows.queue.same
+    (ap (λ listed. option_map (stream_standing by_slots listed) (slice_get v.streams place)) shows.listed
+    ∙ same_place p.listed v.streams p.streams place shows.streams)
