@@ -5,8 +5,9 @@ pub const PROGRAM: &str = "\
 Exit status:
   0  done
   1  a fault, told on standard error as `pdcgw: N NAME`: 1 NoMemory; 39 ReadFault, standard input or a setup file can't be
-     read, or a port can't be bound; 40 WriteFault, standard output can't be written; 37 BadSetup, and any other by which
-     an edit of a setup is refused. What is wrong with a setup is told before it, a line for each fault
+     read, a port, the page or the control socket can't be bound, or `ctl` finds no gateway; 40 WriteFault, standard output
+     can't be written; 37 BadSetup, and any other by which an edit of a setup is refused. What is wrong with a setup is told
+     before it, a line for each fault. What ends `simulate`, `watch` or `demo` is told as `pdcgw:` and what is wrong
   2  other words than those above
 
 `pdcgw replay --help` tells the lines of a script and the answers to them, `pdcgw run --help` the keys of a setup file.";
@@ -83,6 +84,7 @@ to them are written to standard output. The line `quit` ends the program with st
 What sources and subscribers do is logged on standard error, a line an event: TIME LEVEL WHAT.
 
 Besides these lines there are:
+  status                   prints a line for each source, subscriber and stream: how it stands, and what was counted
   reload                   reads the setup file again and does what changed. Who is not named by a change keeps his connection and
                            his frames. Answered by what was refused, and then by: reloaded: N edits, N orders. A file with a
                            fault changes nothing, and its faults are the answer
@@ -95,6 +97,11 @@ Besides these lines there are:
 A setup file is TOML:
   tick_ms                  milliseconds from tick to tick, 1 to 1000; 10 where not given
   ingest, serve            threads that call sources, and that serve subscribers: 1 to 8; 1 where not given
+  log                      what is logged: error, warn, info or debug, each with those before it; info where not given
+  control                  the path of a socket, of 1 to 107 bytes, where lines are taken and answered too, by `pdcgw ctl`; the user
+                           that the gateway runs as may connect, and nobody else. None where not given
+  status                   the text A.B.C.D:PORT, where a page (at /) and metrics (at /metrics) are served by HTTP; nowhere where
+                           not given
   [[pmu]]                  a PMU, registered in the order of the file
     id                     its number: 1 to 65534
     source                 the number of its source: 1 to 65534; as `id` where not given
@@ -127,11 +134,22 @@ A subscriber sends commands for its streams: 1 stop, 2 start, 3 send the header,
 
 /// Of `check`.
 pub const CHECK: &str = "\
-Reads a setup file and tries its edits on a gateway of its own; nothing is bound or called. It prints a line for each source, subscriber
-and stream that would run. Each fault of the file is told on standard error as FILE:LINE: KEY: what is wrong; what has to be there.
+Reads a setup file and tries its edits on a gateway of its own; nothing is bound or called. It prints a line for each source,
+subscriber and stream that would run. Each fault of the file is told on standard error as FILE:LINE: KEY: what is wrong; what has
+to be there.
 An edit that is refused is told with the PMU, the subscriber or the stream that it concerns, and why.
 
 `pdcgw run --help` has the keys of a setup file. Exit status: 0 where it would run, else 1.";
+
+/// Of `ctl`.
+pub const CTL: &str = "\
+Sends each LINE to the gateway that runs with this control socket, in their order, and prints the answers. The lines are those that
+`pdcgw run` takes, as `pdcgw run --help` tells them.
+
+    pdcgw ctl --control /run/pdcgw/control status
+    pdcgw ctl --control /run/pdcgw/control 'addpmu 9' 'grant 1 9'
+
+Exit status: 0 where no line was refused; 1 where one was, or the gateway can't be reached; 2 for other words than these.";
 
 /// Of `simulate`.
 pub const SIMULATE: &str = "\
@@ -152,7 +170,8 @@ Exit status: 1 where the address can't be bound, 2 for other words than these.";
 /// Of `watch`.
 pub const WATCH: &str = "\
 Connects, asks for CFG-2 and the header, starts the stream, and shows what comes until it is ended: on a terminal a screen that is
-renewed ten times a second, else a line a second. It stops the stream before it ends.
+renewed ten times a second, else a line a second. With --csv what was counted is told on standard error at the end. It stops the
+stream before it ends; Ctrl-C closes the connection.
 
 It checks each frame: CHK, the length by the configuration, the IDCODE, and that stamps rise. What is wrong is told and counted.
 Slots of which no frame came are counted as missing; fillers are blocks of a gateway for what has not come.
@@ -164,7 +183,8 @@ Exit status: 0 where nothing was wrong; 1 where something was, or the address ca
 pub const DEMO: &str = "\
 Two simulated sources, 7 and 8 with a PMU each, the gateway, and two subscribers, on free ports of 127.0.0.1. Subscriber 1 has
 stream 101 of both PMUs, which is shown as `watch` shows it; subscriber 2 has stream 102 of PMU 8 alone. Each data frame that
-comes is compared, byte for byte, with what the sources sent.
+comes is compared, byte for byte, with what the sources sent. The gateway's page is served on such a port too, which is told
+below the screen.
 
 Lines of an operator, as in `pdcgw replay --help`, are read from standard input where it is a terminal or a pipe: `revoke 1 8`
 takes PMU 8 from subscriber 1, `grant 1 8` gives it back, `droppmu 7` drops PMU 7. From the first line that changes what comes

@@ -1,6 +1,7 @@
 //! The program `pdcgw`.
 #![tactic(auto)]
 
+mod ctl;
 mod help;
 mod setup;
 mod tools;
@@ -45,6 +46,7 @@ fn program<'a>(alloc: Global) -> Result<Command<'a>, AllocError> {
         .about("Tells what is wrong with a setup, or what would run by it")
         .after_help(help::CHECK)
         .arg(setup_word(alloc))?;
+    let ctl = ctl::words(alloc)?;
     let simulate = tools::simulate_words(alloc)?;
     let watch = tools::watch_words(alloc)?;
     let demo = tools::demo_words(alloc)?;
@@ -56,6 +58,7 @@ fn program<'a>(alloc: Global) -> Result<Command<'a>, AllocError> {
         .subcommand(replay)?
         .subcommand(run)?
         .subcommand(check)?
+        .subcommand(ctl)?
         .subcommand(simulate)?
         .subcommand(watch)?
         .subcommand(demo)
@@ -75,7 +78,7 @@ enum Outcome {
     Misused(clap::Error),
     /// The value of an option is none that it takes.
     Misworded(Misword),
-    /// Something was wrong with what `watch` saw, and it has told that.
+    /// Something was wrong with what `watch` saw, or a line of `ctl` was refused, and that has been told.
     Troubled,
     /// A tool has ended by this.
     Fallen(pg_tools::Fault),
@@ -103,6 +106,7 @@ where
         return Outcome::Unread;
     };
     match work {
+        "ctl" => return ctl::run(rt, files, words),
         "simulate" => return tools::simulate(rt, words),
         "watch" => return tools::watch(rt, words, is_terminal),
         "demo" => return tools::demo(rt, words, is_terminal),
@@ -111,10 +115,7 @@ where
     match (work, words.get_str("setup")) {
         ("run", Some(file)) => match pg_run::run(rt, files, file) {
             Ok(()) => Outcome::Done,
-            Err(refusal) => Outcome::Unfit(Trouble {
-                refusal,
-                told: setup::told_of(rt, file),
-            }),
+            Err(failure) => Outcome::Unfit(setup::why(rt, file, &failure)),
         },
         ("check", Some(file)) => match setup::check(rt, file) {
             Ok(report) => Outcome::Checked(report),

@@ -22,7 +22,7 @@ const PAUSE: u64 = 5;
 
 /// Who looks on while a subscriber watches its stream.
 #[derive(Drop)]
-pub struct Onlooker<'a, R: Wait + Input<Reader = StdinLock<'static>>, N: Named> {
+pub struct Onlooker<'a, R: Wait + Clock + Input<Reader = StdinLock<'static>>, N: Named> {
     rt: &'a R,
     alloc: Global,
     stage: &'a Stage<'a>,
@@ -34,7 +34,11 @@ pub struct Onlooker<'a, R: Wait + Input<Reader = StdinLock<'static>>, N: Named> 
     keyboard: Option<Keyboard<'a, R, N>>,
 }
 
-impl<'a, R: Wait + Net + Print + Input<Reader = StdinLock<'static>>, N: Named> Onlooker<'a, R, N> {
+impl<'a, R: Wait + Clock + Net + Print + Input<Reader = StdinLock<'static>>, N: Named> Onlooker<
+    'a,
+    R,
+    N,
+> {
     /// Of the first subscriber, or of the second one; `intro` stands below the screen, or before the lines.
     pub fn new(
         rt: &'a R,
@@ -122,7 +126,7 @@ impl<'a, R: Wait + Net + Print + Input<Reader = StdinLock<'static>>, N: Named> O
     }
 }
 
-impl<R: Wait + Net + Print + Input<Reader = StdinLock<'static>>, N: Named> Audience
+impl<R: Wait + Clock + Net + Print + Input<Reader = StdinLock<'static>>, N: Named> Audience
     for Onlooker<'_, R, N> {
     fn frame(&mut self, frame: &DataFrame) {
         if self.stage.is_changed.load(Ordering::SeqCst) {
@@ -167,7 +171,7 @@ impl<R: Wait + Net + Print + Input<Reader = StdinLock<'static>>, N: Named> Audie
 
 /// A worker that is a subscriber: it connects once both sources are called.
 #[derive(Drop)]
-pub struct Guest<'a, R: Wait + Input<Reader = StdinLock<'static>>, N: Named> {
+pub struct Guest<'a, R: Wait + Clock + Input<Reader = StdinLock<'static>>, N: Named> {
     /// Who looks on.
     pub onlooker: Onlooker<'a, R, N>,
     /// Where it connects.

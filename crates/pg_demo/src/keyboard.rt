@@ -9,6 +9,7 @@ use std::alloc::{AllocError, Global};
 use std::io;
 use std::io::{BufRead, StdinLock};
 use std::net::Net;
+use std::rt::Clock;
 use std::sync::Wait;
 use std::time::Duration;
 
@@ -20,7 +21,7 @@ const LONGEST: usize = 4_096;
 
 /// Standard input, which is read without waiting, and the operator who answers its lines (own rule). The line `q` ends all.
 #[derive(Drop)]
-pub struct Keyboard<'a, R: Wait + Input<Reader = StdinLock<'static>>, N: Named> {
+pub struct Keyboard<'a, R: Wait + Clock + Input<Reader = StdinLock<'static>>, N: Named> {
     rt: &'a R,
     alloc: Global,
     poll: Poll,
@@ -36,7 +37,7 @@ pub struct Keyboard<'a, R: Wait + Input<Reader = StdinLock<'static>>, N: Named> 
     pub typed: usize,
 }
 
-impl<'a, R: Wait + Net + Input<Reader = StdinLock<'static>>, N: Named> Keyboard<'a, R, N> {
+impl<'a, R: Wait + Clock + Net + Input<Reader = StdinLock<'static>>, N: Named> Keyboard<'a, R, N> {
     /// Lines are posted at this gate, and answered by this console. Where standard input can't be waited for, as a file, none
     /// are read.
     pub fn new(
@@ -141,6 +142,7 @@ impl<'a, R: Wait + Net + Input<Reader = StdinLock<'static>>, N: Named> Keyboard<
 /// Whether a line changes nothing.
 fn is_question(line: &[u8]) -> bool {
     line.is_empty()
+        || line == b"status".as_slice()
         || line.starts_with(b"stats")
         || line.starts_with(b"pmustats")
         || line.starts_with(b"audit")

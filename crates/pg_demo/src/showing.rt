@@ -12,13 +12,14 @@ use mio::net::TcpListener as PortListener;
 use pg_demo_core::{Accounts, Course, SOURCES, Verdict, demo_settings};
 use pg_gateway::Gateway;
 use pg_limits::Allow;
-use pg_run::{Console, Told};
+use pg_run::{Console, Counter, EditsAlone, Told};
 use pg_serve::{Named, Seat, SeatGate, Shared, SharedGate, Work, run_workers};
 use pg_service::{
-    Address, Dial, DoorRules, Journal, Mailbox, Neighbours, Port, PortWorker, Registered,
-    SourceWorker, Ticker, Waiting, post_edits,
+    Address, Board, Dial, DoorRules, Journal, Mailbox, Neighbours, Port, PortOrder, PortWorker,
+    Registered, SourceWorker, Ticker, Waiting, post_edits,
 };
 use pg_tools::{Simulator, Style};
+use pg_window::Window;
 use pg_wire::Refusal;
 use std::alloc::{AllocError, Global};
 use std::io::StdinLock;
@@ -26,8 +27,8 @@ use std::marker::Brand;
 use std::mem;
 use std::net::{Ipv4Addr, Net, SocketAddr, TcpListener, TcpStream};
 use std::rt::Clock;
-use std::sync::Wait;
 use std::sync::atomic::AtomicBool;
+use std::sync::{Mutex, Wait};
 use std::thread::Threads;
 use std::time::{Duration, Instant};
 
@@ -58,6 +59,7 @@ enum Worker<
     Ticks(Ticker<'a, R, N>),
     Players(Players<'a, R>),
     Guest(Guest<'a, R, N>),
+    Page(Window<'a, R, Counter<'a, R, N, EditsAlone>>),
 }
 
 impl<R, N: Named> Work for Worker<'_, R, N>
@@ -76,6 +78,7 @@ where
             Worker::Ticks(worker) => worker.turn(),
             Worker::Players(worker) => worker.turn(),
             Worker::Guest(worker) => worker.turn(),
+            Worker::Page(worker) => worker.turn(),
         }
     }
 }
@@ -146,11 +149,23 @@ fn port<R: Net>(rt: &R, number: u16) -> Result<(Port, SocketAddr), Fault> {
     Ok((Port::new(sub_id(number)?, rules, listener), address))
 }
 
+/// A free port for the page, and where it is.
+fn page_listener<R: Net>(rt: &R) -> Result<(PortListener, SocketAddr), Fault> {
+    match PortListener::bind(rt, here()) {
+        Ok(listener) => {
+            let address = listener.local_addr()?;
+            Ok((listener, address))
+        }
+        Err(error) => Err(Fault::Tool(pg_tools::Fault::Bind(here(), error))),
+    }
+}
+
 /// What stands below the screen: where all of it is, and the lines that can be tried.
 fn intro(
     alloc: Global,
     sources: [SocketAddr; 2],
     ports: [SocketAddr; 2],
+    page: SocketAddr,
     reads_lines: bool,
 ) -> Result<String, AllocError> {
     let mut text = String::new(alloc);
@@ -159,6 +174,7 @@ fn intro(
     let [seven, eight] = SOURCES;
     write!(text, "source {seven} {one}  source {eight} {other}\n")?;
     write!(text, "subscriber 1 {first}  subscriber 2 {second}\n")?;
+    write!(text, "page http://{page}/\n")?;
     if reads_lines {
         text.push_str(
             "try: revoke 1 8 | grant 1 8 | droppmu 7 | addpmu 7 | stats 1 | q (ends it)\n",
@@ -191,7 +207,15 @@ where
     let source_wait = Waiting::new(rt, alloc)?;
     let port_wait = Waiting::new(rt, alloc)?;
     let name_wait = Waiting::new(rt, alloc)?;
-    let boxes = boxes(alloc, &source_wait, &port_wait, &name_wait)?;
+    let page_wait = Waiting::new(rt, alloc)?;
+    let boxes = boxes(
+        alloc,
+        &source_wait,
+        &port_wait,
+        &name_wait,
+        &page_wait,
+        registered,
+    )?;
     let stop = AtomicBool::new(false);
     let stage = Stage::new(&stop, &boxes, Accounts::new(alloc));
     let workers = make_workers::<R, N>(
@@ -200,9 +224,9 @@ where
         shared,
         seat,
         asked,
-        registered,
         source_wait,
         port_wait,
+        page_wait,
         &stage,
     )?;
     let back = run_workers(rt, alloc, workers, u64::MAX, &stop)?;
@@ -220,6 +244,8 @@ fn boxes(
     sources: &Waiting,
     ports: &Waiting,
     names: &Waiting,
+    page: &Waiting,
+    registered: Registered,
 ) -> Result<Boxes, Fault> {
     let mut source_boxes = Vec::new(alloc);
     source_boxes.push(Mailbox::new(alloc, sources.poll())?)?;
@@ -229,8 +255,45 @@ fn boxes(
         sources: source_boxes,
         ports: port_boxes,
         names: Mailbox::new(alloc, names.poll())?,
+        window: Mailbox::new(alloc, page.poll())?,
         journal: Journal::new(alloc)?,
+        board: Board::new(alloc),
+        registered: Mutex::new(registered),
     })
+}
+
+/// The worker of both subscribers' ports, and where they are.
+fn port_worker<'a, R: Wait + Net<Listener = TcpListener, Stream = TcpStream> + Clock, N: Named>(
+    rt: &'a R,
+    alloc: Global,
+    gate: SharedGate<'a, R, N>,
+    wait: Waiting,
+    mailbox: &'a Mailbox<PortOrder>,
+    neighbours: Neighbours<'a>,
+    start: Instant,
+) -> Result<(PortWorker<'a, R, N>, [SocketAddr; 2]), Fault> {
+    let Neighbours { journal, board, .. } = neighbours;
+    let mut server = PortWorker::new(rt, alloc, gate, wait, mailbox, journal, board, start);
+    let (first, first_at) = port(rt, 1)?;
+    let (second, second_at) = port(rt, 2)?;
+    server.open(first)?;
+    server.open(second)?;
+    Ok((server, [first_at, second_at]))
+}
+
+/// The worker of the page, and where it is.
+fn page_worker<'a, R: Wait + Net<Listener = TcpListener, Stream = TcpStream> + Clock, N: Named>(
+    rt: &'a R,
+    alloc: Global,
+    wait: Waiting,
+    boxes: &'a Boxes,
+    clerk: Counter<'a, R, N, EditsAlone>,
+    start: Instant,
+) -> Result<(Window<'a, R, Counter<'a, R, N, EditsAlone>>, SocketAddr), Fault> {
+    let mut page = Window::new(rt, alloc, wait, &boxes.window, &boxes.journal, clerk, start)?;
+    let (listener, page_at) = page_listener(rt)?;
+    page.show_page(listener)?;
+    Ok((page, page_at))
 }
 
 /// All workers: those of the gateway, both sources, and both subscribers.
@@ -248,9 +311,9 @@ fn make_workers<
     shared: &'a Shared,
     seat: Seat,
     asked: Asked,
-    registered: Registered,
     source_wait: Waiting,
     port_wait: Waiting,
+    page_wait: Waiting,
     stage: &'a Stage<'a>,
 ) -> Result<Vec<Worker<'a, R, N>>, Fault>
     requires shared { shared.now ≡ N.table }
@@ -261,6 +324,14 @@ fn make_workers<
         ports: &boxes.ports,
         finder: &boxes.names,
         journal: &boxes.journal,
+        board: &boxes.board,
+    };
+    let told = Told {
+        sources: &boxes.sources,
+        neighbours,
+        registered: &boxes.registered,
+        window: Some(&boxes.window),
+        stop: stage.stop,
     };
     let (Some(source_box), Some(port_box)) = (boxes.sources.first(), boxes.ports.first()) else {
         return Err(Fault::Refused(Refusal::NoMemory));
@@ -285,28 +356,24 @@ fn make_workers<
     caller.dial(dial_other)?;
     let (seat, own) = shared.split(seat);
     let gate = SharedGate::<R, N>::new(rt, shared, own);
-    let mut server = PortWorker::new(rt, alloc, gate, port_wait, port_box, &boxes.journal, start);
-    let (first, first_at) = port(rt, 1)?;
-    let (second, second_at) = port(rt, 2)?;
-    server.open(first)?;
-    server.open(second)?;
+    let (server, ports) = port_worker(rt, alloc, gate, port_wait, port_box, neighbours, start)?;
     let (seat, own) = shared.split(seat);
     let gate = SharedGate::<R, N>::new(rt, shared, own);
     let ticker = Ticker::new(rt, gate, Duration::from_millis(TICK), neighbours);
+    let (seat, own) = shared.split(seat);
+    let gate = SharedGate::<R, N>::new(rt, shared, own);
+    let clerk = Counter::new(rt, alloc, gate, told, EditsAlone);
+    let (page, page_at) = page_worker(rt, alloc, page_wait, boxes, clerk, start)?;
     let gate = SharedGate::<R, N>::new(rt, shared, seat);
     let keyboard = match asked.seconds {
         Some(_) => None,
         None => {
-            let told = Told {
-                sources: &boxes.sources,
-                neighbours,
-                stop: stage.stop,
-            };
-            let console = Console::new(alloc, Vec::new(alloc), registered, told);
+            let console = Console::new(alloc, Vec::new(alloc), told);
             Some(Keyboard::new(rt, alloc, gate, console)?)
         }
     };
-    let text = intro(alloc, sources, [first_at, second_at], keyboard.is_some())?;
+    let text = intro(alloc, sources, ports, page_at, keyboard.is_some())?;
+    let [first_at, second_at] = ports;
     let first = Guest {
         onlooker: Onlooker::new(rt, alloc, stage, true, asked.style, text, keyboard),
         address: first_at,
@@ -326,5 +393,6 @@ fn make_workers<
     workers.push(Worker::Players(Players::new(rt, alloc, stage, course, one, other)))?;
     workers.push(Worker::Guest(first))?;
     workers.push(Worker::Guest(second))?;
+    workers.push(Worker::Page(page))?;
     Ok(workers)
 }

@@ -2,7 +2,7 @@
 
 use crate::fault::Fault;
 use pg_demo_core::{Accounts, Verdict};
-use pg_service::{Journal, Lookup, Mailbox, PortOrder, SourceOrder};
+use pg_service::{Board, Journal, Lookup, Mailbox, PortOrder, Registered, SourceOrder};
 use std::sync::atomic::{AtomicBool, Ordering};
 use std::sync::{Mutex, Wait};
 
@@ -15,8 +15,14 @@ pub struct Boxes {
     pub ports: Vec<Mailbox<PortOrder>>,
     /// Nobody looks up names here.
     pub names: Mailbox<Lookup>,
+    /// Of the one that shows the page.
+    pub window: Mailbox<()>,
     /// What the workers note.
     pub journal: Journal,
+    /// Where the workers tell how their sources and ports stand.
+    pub board: Board,
+    /// The PMUs and subscribers that are registered.
+    pub registered: Mutex<Registered>,
 }
 
 impl Boxes {
@@ -28,6 +34,7 @@ impl Boxes {
         for mailbox in &self.ports {
             mailbox.wake(&self.journal);
         }
+        self.window.wake(&self.journal);
     }
 }
 

@@ -11,9 +11,17 @@ pub trait Gate {
     // What was posted to it and answered, in order, where it tells.
     ghost posts: { Self → Option (List Posted) } = { λ _. None };
 
+    // How it goes on from one value to a later one, whatever it was posted.
+    ghost goes_on: { Self → Self → Type 0 } = { λ _ _. Unit {0} };
+
     /// Posts an event, and gives its reply. A drain is answered with a drain's reply, and a buffer as long as the event's; all
     /// other events without a buffer.
     fn post(&mut self, event: Event) -> Reply
         ensures answers { Answers event result }
-        ensures posted { Notes (posts self.old) (posts self.new) ((occurrence event, told result) ∷ []) };
+        ensures posted { Notes (posts self.old) (posts self.new) ((occurrence event, told result) ∷ []) }
+        ensures goes_on { goes_on self.old self.new };
+
+    ghost stays: { (g : Self) → goes_on g g };
+
+    ghost joins: { (g h k : Self) → goes_on g h → goes_on h k → goes_on g k };
 }

@@ -27,6 +27,10 @@ impl Machine for Gateway {
 }
 
 impl Gate for Gateway {
+    ghost stays = { λ _. tt };
+
+    ghost joins = { λ _ _ _ _ _. tt };
+
     fn post(&mut self, event: Event) -> Reply
         ensures goes { Goes self.old (occurrence event) (told result) self.new }
         ensures answers { Answers event result }

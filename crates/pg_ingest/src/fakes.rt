@@ -107,6 +107,10 @@ fn hand(chunk: &[u8], buffer: &mut [u8]) -> usize
 }
 
 impl Gate for FakeGate<'_> {
+    ghost stays = { λ _. tt };
+
+    ghost joins = { λ _ _ _ _ _. tt };
+
     fn post(&mut self, event: Event) -> Reply {
         match event {
             Event::Drain(sub, mut buf) => {

@@ -75,6 +75,7 @@ fn post_events<G: Gate>(link: &mut Link, gate: &mut G) -> Option<Refusal>
     ensures breaks { IfSome result IsBreak }
     ensures room { length link.new.bytes.held < 65535 }
     ensures left { link.new.left ≡ link.old.left }
+    ensures onward { G.goes_on gate.old gate.new }
 {
     'events: loop {
         match link.next_event() {
@@ -126,6 +127,7 @@ fn turn<R: Read, W: Write, G: Gate>(
     ensures room { length link.new.bytes.held < 65535 }
     ensures goes { result ≡ None → link.new.left ≡ [] }
     ensures whole { IfSome result (λ end. is_cut end ≡ false → link.new.left ≡ []) }
+    ensures onward { G.goes_on gate.old gate.new }
 {
     if let Some(end) = write_owed(link, writer) {
         return Some(end);
@@ -151,9 +153,10 @@ pub fn run_link<R: Read, W: Write, G: Gate>(
     gate: &mut G,
     turns: u64,
 ) -> End
-    ensures { IsCall result turns link.old link.new
+    ensures call { IsCall result turns link.old link.new
         (wires (R.remaining reader.old) (W.contents writer.old) (G.posts gate.old))
         (wires (R.remaining reader.new) (W.contents writer.new) (G.posts gate.new)) }
+    ensures onward { G.goes_on gate.old gate.new }
 {
     // What it was fed by others comes first, so that there is room. A break shows again in a turn.
     post_events(link, gate);

@@ -176,6 +176,10 @@ struct TellingGate<'a, R: Abort> {
 impl<R: Abort> Gate for TellingGate<'_, R> {
     ghost posts = { λ g. Some (map (λ call. (occurrence call.0, told call.1)) g.calls.items) };
 
+    ghost stays = { λ _. tt };
+
+    ghost joins = { λ _ _ _ _ _. tt };
+
     fn post(&mut self, event: Event) -> Reply {
         match event {
             Event::Drain(sub, buf) => {

@@ -1,5 +1,5 @@
 -- What a setup file asks for, by its table.
-use Rattle.std.specs.Prelude.{ℕ, ◌==◌, ◌&&◌, ◌++◌, Bool, true, false, not, pos, List, [], ◌∷◌, length, map, filter, Option, Some, None, option_map, option_and_then, option_to_list, if◌then◌else◌, nat_le, codes}
+use Rattle.std.specs.Prelude.{ℕ, ◌==◌, ◌&&◌, ◌++◌, Bool, true, false, not, pos, List, [], ◌∷◌, length, map, filter, find, Option, Some, None, option_map, option_and_then, option_to_list, if◌then◌else◌, nat_lt, nat_le, codes, string_bytes}
 use Rattle.std.specs.List.{list_all, list_any}
 use Rattle.std.specs.Net.Addr.{ipv4_bits}
 use Rattle.std.specs.Option.{option_map_or, unwrap_or}
@@ -12,10 +12,14 @@ use Rattle.pg_gateway.specs.declared.edit.Edit.{Edit}
 use Rattle.pg_gateway.specs.declared.edit.Edit.TheVariants.{AddPmu, AddSub, Grant, Define}
 use Rattle.pg_limits.specs.Hosts.{Net}
 use Rattle.pg_operator.specs.declared.door.PortRules.{PortRules}
+use Rattle.pg_operator.specs.declared.general.GeneralKeys.{GeneralKeys}
+use Rattle.pg_operator.specs.declared.general.LogLevel.{LogLevel}
+use Rattle.pg_operator.specs.declared.general.LogLevel.TheVariants as level
 use Rattle.pg_operator.specs.declared.pmu.PmuTable.{PmuTable}
+use Rattle.pg_operator.specs.declared.setup.Setup.{Setup}
 use Rattle.pg_operator.specs.declared.source.SourceRules.{SourceRules}
 use Rattle.pg_operator.specs.Words.{Text, key_of, pair_in}
-use Rattle.pg_operator.specs.Addresses.{host_in, is_address, network_in}
+use Rattle.pg_operator.specs.Addresses.{Endpoint, endpoint, endpoint_in, host_in, is_address, network_in}
 
 -- ---- tables
 
@@ -77,6 +81,10 @@ network_text_in _ = None
 abbrev pub text_in : Data → Option Text
 text_in (string s) = Some s
 text_in _ = None
+
+abbrev pub endpoint_text_in : Data → Option Endpoint
+endpoint_text_in (string s) = endpoint_in s
+endpoint_text_in _ = None
 
 abbrev pub boolean_in : Data → Option Bool
 boolean_in (boolean b) = Some b
@@ -263,6 +271,58 @@ abbrev pub subscriber_in : Data → Option Subscriber
 subscriber_in (table ms) = only subscriber_names subscriber_by ms
 subscriber_in _ = None
 
+-- ---- the file's own keys: how the service runs
+
+-- the levels of the log, as they are written
+abbrev pub levels : List (Text × LogLevel)
+levels = (codes "error", level.Error) ∷ (codes "warn", level.Warn) ∷ (codes "info", level.Info) ∷ (codes "debug", level.Debug) ∷ []
+
+abbrev pub level_of : Text → Option LogLevel
+level_of w = option_map (λ row. row.1) (find (λ row. bytes_eq row.0 w) levels)
+
+abbrev pub level_in : Data → Option LogLevel
+level_in (string s) = level_of s
+level_in _ = None
+
+-- the path of a socket: 1 to 107 bytes, of which none is zero
+abbrev pub is_path : Text → Bool
+is_path w = (nat_lt 0 (length w) && nat_le (length w) 107) && list_all (λ b. not (b == 0)) w
+
+abbrev pub path_in : Data → Option Text
+path_in (string s) = if is_path s then Some s else None
+path_in _ = None
+
+pub record General : Type 0 where
+  pub tick_ms : ℕ
+  pub ingest : ℕ
+  pub serve : ℕ
+  pub log : LogLevel
+  pub control : Option Text
+  pub status : Option Endpoint
+
+-- the same, of keys that were read
+abbrev pub general_of : GeneralKeys → General
+general_of g = record {
+  tick_ms = g.tick_ms;
+  ingest = g.ingest;
+  serve = g.serve;
+  log = g.log;
+  control = option_map (λ s. s.now) g.control;
+  status = option_map endpoint g.status;
+}
+
+-- 10 milliseconds, one thread each, the level info, no socket and no page, where it is left out
+abbrev pub general_by : Members → Option General
+general_by ms =
+    option_and_then (λ tick. option_and_then (λ ingest. option_and_then (λ serve. option_and_then (λ log. option_and_then (λ control. option_map
+    (λ status. record { tick_ms = tick; ingest = ingest; serve = serve; log = log; control = control; status = status })
+    (absent_or endpoint_text_in (codes "status") ms))
+    (absent_or path_in (codes "control") ms))
+    (optional level.Info level_in (codes "log") ms))
+    (optional 1 (whole_in 1 8) (codes "serve") ms))
+    (optional 1 (whole_in 1 8) (codes "ingest") ms))
+    (optional 10 (whole_in 1 1000) (codes "tick_ms") ms)
+
 -- ---- the file
 
 -- the PMUs in the file's order, then each subscriber's edits
@@ -293,36 +353,52 @@ pub record Settings : Type 0 where
   pub sources : List SourceRules
   pub ports : List (ℕ × ℕ)
   pub doors : List Door
-  pub tick_ms : ℕ
-  pub ingest : ℕ
-  pub serve : ℕ
+  pub general : General
 
-abbrev pub settings_by : List Pmu → Links → List SourceRules → List Subscriber → ℕ → ℕ → ℕ → Settings
-settings_by pmus links sources subscribers tick ingest serve = record {
+-- the same, of a setup that was read
+abbrev pub settings : Setup → Settings
+settings s = record {
+  edits = s.edits.items;
+  links = map (λ l. (l.0, string_bytes l.1)) s.links.items;
+  sources = s.sources.items;
+  ports = s.ports.items;
+  doors = map door_of s.doors.items;
+  general = record {
+    tick_ms = s.tick_ms;
+    ingest = s.ingest;
+    serve = s.serve;
+    log = s.log;
+    control = option_map (λ path. string_bytes path) s.control;
+    status = option_map endpoint s.status;
+  };
+}
+
+abbrev pub settings_by : List Pmu → Links → List SourceRules → List Subscriber → General → Settings
+settings_by pmus links sources subscribers general = record {
   edits = map pmu_edit pmus ++ edits_of subscribers;
   links = links;
   sources = sources;
   ports = ports_of subscribers;
   doors = doors_of subscribers;
-  tick_ms = tick;
-  ingest = ingest;
-  serve = serve;
+  general = general;
 }
 
 abbrev pub setup_by : Members → Option Settings
 setup_by ms =
-    option_and_then (λ tick. option_and_then (λ ingest. option_and_then (λ serve. option_and_then (λ pmus. option_and_then (λ links. option_and_then (λ sources. option_map
-    (λ subscribers. settings_by pmus links sources subscribers tick ingest serve)
+    option_and_then (λ general. option_and_then (λ pmus. option_and_then (λ links. option_and_then (λ sources. option_map
+    (λ subscribers. settings_by pmus links sources subscribers general)
     (required (list_of subscriber_in) (codes "subscriber") ms))
     (sources_of pmus))
     (links_from [] pmus))
     (required (list_of pmu_in) (codes "pmu") ms))
-    (optional 1 (whole_in 1 8) (codes "serve") ms))
-    (optional 1 (whole_in 1 8) (codes "ingest") ms))
-    (optional 10 (whole_in 1 1000) (codes "tick_ms") ms)
+    (general_by ms)
+
+abbrev pub top_names : List Text
+top_names =
+    codes "tick_ms" ∷ codes "ingest" ∷ codes "serve" ∷ codes "log" ∷ codes "control" ∷ codes "status" ∷ codes "pmu" ∷ codes "subscriber" ∷ []
 
 abbrev pub setup_in : Members → Option Settings
-setup_in = only (codes "tick_ms" ∷ codes "ingest" ∷ codes "serve" ∷ codes "pmu" ∷ codes "subscriber" ∷ []) setup_by
+setup_in = only top_names setup_by
 
 -- what a file asks for, or nothing
 abbrev pub setup_of : Text → Option Settings

@@ -5,7 +5,7 @@ ghost use Rattle.std.specs.List.{list_all};
 ghost use Rattle.std.specs.Net.Addr.{ipv4_bits};
 ghost use Rattle.toml.specs.View.{view};
 ghost use Rattle.pg_operator.specs.Addresses.{endpoint, endpoint_in, host_in, is_address, is_label, is_label_byte, is_name, labels_of, last_of, network_by, network_in, part_in, parts_in, port_in};
-ghost use Rattle.pg_operator.specs.Setups.{address_in, host_text_in, network_text_in};
+ghost use Rattle.pg_operator.specs.Setups.{address_in, endpoint_text_in, host_text_in, network_text_in};
 
 use crate::words;
 use pg_limits::Network;
@@ -146,6 +146,16 @@ pub(crate) fn bound(value: &Value) -> Option<Ipv4Addr>
 {
     match value {
         Value::String(text) => host(text.as_str()),
+        _ => None,
+    }
+}
+
+/// The address of this machine that a page is served on.
+pub(crate) fn served(value: &Value) -> Option<SocketAddrV4>
+    ensures { option_map (λ a. endpoint a) result ≡ endpoint_text_in (view value.now) }
+{
+    match value {
+        Value::String(text) => endpoint(text.as_str()),
         _ => None,
     }
 }

@@ -2,7 +2,7 @@
 
 ghost use Rattle.std.specs.Prelude.{◌≡◌, IfErr};
 
-use crate::{address, table};
+use crate::{address, general, table};
 use pg_wire::Refusal;
 use std::alloc::Global;
 use std::fmt;
@@ -43,6 +43,12 @@ pub enum Kind {
     Called,
     /// An address of this machine.
     Bound,
+    /// An address of this machine with a port.
+    Served,
+    /// A level of the log.
+    Level,
+    /// The path of a socket.
+    Path,
     /// A list of networks.
     Networks,
     /// A list of PMUs.
@@ -78,10 +84,13 @@ macro_rules! optional {
 }
 
 /// The keys of the file itself.
-pub(crate) const TOP: [Rule; 5] = [
+pub(crate) const TOP: [Rule; 8] = [
     optional!("tick_ms", Kind::Whole(1, 1000)),
     optional!("ingest", Kind::Whole(1, 8)),
     optional!("serve", Kind::Whole(1, 8)),
+    optional!("log", Kind::Level),
+    optional!("control", Kind::Path),
+    optional!("status", Kind::Served),
     required!("pmu", Kind::Tables("[[pmu]]")),
     required!("subscriber", Kind::Tables("[[subscriber]]")),
 ];
@@ -128,6 +137,11 @@ impl fmt::Display for Kind {
             Kind::Truth => f.write_str("true or false"),
             Kind::Called => f.write_str("a text \"A.B.C.D:PORT\" or \"NAME:PORT\""),
             Kind::Bound => f.write_str("a text \"A.B.C.D\""),
+            Kind::Served => f.write_str("a text \"A.B.C.D:PORT\""),
+            Kind::Level => f.write_str("\"error\", \"warn\", \"info\" or \"debug\""),
+            Kind::Path => {
+                f.write_str("the path of a socket, a text of 1 to 107 bytes without a zero byte")
+            }
             Kind::Networks => f.write_str("a list of texts \"A.B.C.D\" or \"A.B.C.D/BITS\""),
             Kind::Grants => f.write_str(
                 "a list of PMUs, each a number or a text \"SOURCE/PMU\", from 1 to 65534",
@@ -213,6 +227,9 @@ impl Kind {
             Kind::Truth => matches!(value, Value::Boolean(_)),
             Kind::Called => address::called(value).is_some(),
             Kind::Bound => address::bound(value).is_some(),
+            Kind::Served => address::served(value).is_some(),
+            Kind::Level => general::level(value).is_some(),
+            Kind::Path => general::path(value).is_some(),
             Kind::Text => matches!(value, Value::String(_)),
             Kind::Networks | Kind::Grants | Kind::Members | Kind::Tables(_) => {
                 return self.misfit_of_list(alloc, value);

@@ -5,6 +5,7 @@ mod address;
 mod define;
 mod door;
 mod faults;
+mod general;
 mod kind;
 mod line;
 mod place;
@@ -19,8 +20,10 @@ pub mod words;
 
 pub use door::PortRules;
 pub use faults::{Fault, Wrong, setup_faults};
+pub use general::LogLevel;
 pub use kind::{Found, Heading, Kind, Misfit};
 pub use line::{parse_line, words_of};
+pub use place::{BoundBy, line_of_key};
 pub use setup::{Setup, read_setup};
 pub use source::SourceRules;
 pub use steer::{Steer, parse_steer};

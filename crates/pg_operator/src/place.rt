@@ -1,9 +1,10 @@
 //! The line of a key in a setup file: the line behind the longest part of the text, from its begin, that is TOML and has not the
-//! key. Parts are read again for it, some dozen for each fault.
+//! key. Parts are read again for it, some dozen for each key.
 
 ghost use Rattle.std.specs.Prelude.{◌≡◌, IfErr};
 
-use pg_wire::Refusal;
+use crate::setup::subscriber_id;
+use pg_wire::{Refusal, SubId};
 use std::alloc::Global;
 use toml::Table;
 
@@ -96,8 +97,9 @@ impl<'a> Lines<'a> {
     {
         let mut parts = Vec::new(alloc);
         for (at, _) in text.match_indices('\n') {
-            let (before, _) = text.split_at(at);
-            parts.push(before)?;
+            // With its end: a carriage return with no line feed behind it is no TOML.
+            let part = text.get(..at.saturating_add(1)).unwrap_or(text);
+            parts.push(part)?;
         }
         parts.push(text)?;
         Ok(Lines { parts })
@@ -105,7 +107,7 @@ impl<'a> Lines<'a> {
 
     /// The line of this byte of the text.
     pub(crate) fn line_at(&self, byte: usize) -> usize {
-        let before = self.parts.iter().filter(|part| part.len() < byte).count();
+        let before = self.parts.iter().filter(|part| part.len() <= byte).count();
         (before + 1).min(self.parts.len())
     }
 
@@ -154,4 +156,49 @@ impl<'a> Lines<'a> {
         }
         Ok(None)
     }
+}
+
+/// Whose key of a setup file asks to bind.
+#[derive(Clone, Copy, Debug, PartialEq, Eq)]
+pub enum BoundBy {
+    /// `port` of this subscriber.
+    Port(SubId),
+    /// `status`.
+    Status,
+    /// `control`.
+    Control,
+}
+
+/// The line, from 1, of the key of a setup file that asks to bind (own rule). In a list or a text of several lines it is the first of
+/// them. `None` where the text can't be read, has no such key, or memory runs out.
+pub fn line_of_key(alloc: Global, text: &str, by: BoundBy) -> Option<usize> {
+    let table = toml::table_from_str(alloc, text).ok()?;
+    let place = place_of(&table, by)?;
+    if !place.is_in(&table) {
+        return None;
+    }
+    let lines = Lines::of(alloc, text).ok()?;
+    lines.line_of(alloc, place).ok()
+}
+
+/// The place of the key that asks to bind, where it is there.
+fn place_of(table: &Table, by: BoundBy) -> Option<Place<'static>> {
+    let top = Place::top();
+    match by {
+        BoundBy::Port(sub) => {
+            let number = number_of(table, sub)?;
+            Some(top.item("subscriber", number).key("port"))
+        }
+        BoundBy::Status => Some(top.key("status")),
+        BoundBy::Control => Some(top.key("control")),
+    }
+}
+
+/// Where this subscriber's table stands among those of the subscribers.
+fn number_of(table: &Table, sub: SubId) -> Option<usize> {
+    let items = table.get("subscriber")?.as_array()?;
+    items.iter().position(|item| match item.as_table() {
+        Some(table) => subscriber_id(table) == Some(sub),
+        None => false,
+    })
 }

@@ -1,15 +1,17 @@
 //! The setup file: what it is read as.
 ghost use Rattle.std.specs.Prelude.{◌≡◌, ◌⊎◌, ◌++◌, IfOk, IfErr, OnOk, map, option_map, option_to_list, codes, string_bytes, Some, None, []};
 ghost use Rattle.toml.specs.View.{view, table_view};
-ghost use Rattle.pg_operator.specs.Setups.{absent_or, door_of, edits_by, entry_by, grants_in, list_of, optional, planned, required, setup_in, setup_of, streams_in, subscriber_in, told, whole_in};
+ghost use Rattle.pg_operator.specs.Setups.{absent_or, door_of, edits_by, entry_by, grants_in, list_of, optional, planned, required, settings, setup_in, setup_of, streams_in, subscriber_in, told, whole_in};
 
 use crate::door::{self, PortRules};
+use crate::general::{self, LogLevel};
 use crate::source::{self, SourceRules};
 use crate::{pmu, stream, table};
 use pg_gateway::Edit;
 use pg_ring::{RingBytes, RingSize};
 use pg_wire::{PmuId, Refusal, SubId};
 use std::alloc::Global;
+use std::net::SocketAddrV4;
 use toml::{Table, Value};
 
 /// What a setup file asks for.
@@ -31,6 +33,12 @@ pub struct Setup {
     pub ingest: u8,
     /// Threads that serve the subscribers: 1 to 8.
     pub serve: u8,
+    /// Which events the log tells.
+    pub log: LogLevel,
+    /// The path of the Unix socket at which an operator's lines are taken: 1 to 107 bytes, none of them zero; `None` for no such socket.
+    pub control: Option<String>,
+    /// The address on which the page and the metrics are served; `None` where they are not.
+    pub status: Option<SocketAddrV4>,
 }
 
 /// What a setup file asks for (own rule). It is TOML, with these keys and no other:
@@ -39,6 +47,9 @@ pub struct Setup {
 /// |---|---|---|
 /// | `tick_ms` | 1 to 1000 | 10 |
 /// | `ingest`, `serve` | 1 to 8 | 1 |
+/// | `log` | `"error"`, `"warn"`, `"info"`, `"debug"` | `"info"` |
+/// | `control` | path of a Unix socket: a text of 1 to 107 bytes without a zero byte | no socket |
+/// | `status` | text `A.B.C.D:PORT`, of the page and the metrics | no page |
 /// | `pmu`, `subscriber` | tables | required |
 /// | `pmu.id` | 1 to 65534 | required |
 /// | `pmu.source` | 1 to 65534 | equal to `id` |
@@ -69,7 +80,7 @@ pub struct Setup {
 /// `BadSetup` for text that is not TOML, an unknown key, a key that is required and absent, a value of another type or
 /// out of range, a second `connect` for one source, and two tables of one source that say another `silence` or `clock_ms`; `NoMemory`.
 pub fn read_setup(alloc: Global, text: &str) -> Result<Setup, Refusal>
-    ensures found { IfOk result (λ s. setup_of text.now ≡ Some (record { edits = s.edits.items; links = map (λ l. (l.0, string_bytes l.1)) s.links.items; sources = s.sources.items; ports = s.ports.items; doors = map door_of s.doors.items; tick_ms = s.tick_ms; ingest = s.ingest; serve = s.serve })) }
+    ensures found { IfOk result (λ s. setup_of text.now ≡ Some (settings s)) }
     ensures refused { IfErr result (λ r. (r ≡ Refusal.NoMemory) ⊎ ((r ≡ Refusal.BadSetup) × (setup_of text.now ≡ None))) }
 {
     match toml::table_from_str(alloc, text) {
@@ -84,39 +95,34 @@ pub fn read_setup(alloc: Global, text: &str) -> Result<Setup, Refusal>
     }
 }
 
+/// The keys of the file's own table.
+const TOP_KEYS: [&str; 8] = [
+    "tick_ms",
+    "ingest",
+    "serve",
+    "log",
+    "control",
+    "status",
+    "pmu",
+    "subscriber",
+];
+
 /// What the file's table asks for.
 fn setup_in(alloc: Global, table: &Table) -> Result<Setup, Refusal>
-    ensures ok { IfOk result (λ s. setup_in (table_view table.now) ≡ Some (record { edits = s.edits.items; links = map (λ l. (l.0, string_bytes l.1)) s.links.items; sources = s.sources.items; ports = s.ports.items; doors = map door_of s.doors.items; tick_ms = s.tick_ms; ingest = s.ingest; serve = s.serve })) }
+    ensures ok { IfOk result (λ s. setup_in (table_view table.now) ≡ Some (settings s)) }
     ensures err { IfErr result (λ r. (r ≡ Refusal.NoMemory) ⊎ ((r ≡ Refusal.BadSetup) × (setup_in (table_view table.now) ≡ None))) }
 {
-    if !table::keys_within(&["tick_ms", "ingest", "serve", "pmu", "subscriber"], table) {
+    if !table::keys_within(&TOP_KEYS, table) {
         return Err(Refusal::BadSetup);
     }
-    let Some(tick_ms) = table::optional(table, "tick_ms", 10, 1, 1000) else {
+    let Some(general) = general::general_at(table) else {
         return Err(Refusal::BadSetup);
     };
-    let Some(ingest) = table::optional(table, "ingest", 1, 1, 8) else {
-        return Err(Refusal::BadSetup);
-    };
-    let Some(serve) = table::optional(table, "serve", 1, 1, 8) else {
-        return Err(Refusal::BadSetup);
-    };
-    let pmus = match pmu::pmus_at(alloc, table) {
-        Ok(pmus) => pmus,
-        Err(refusal) => return Err(refusal),
-    };
-    let links = match pmu::links_of(alloc, pmus.as_slice()) {
-        Ok(links) => links,
-        Err(refusal) => return Err(refusal),
-    };
-    let sources = match source::sources_of(alloc, pmus.as_slice()) {
-        Ok(sources) => sources,
-        Err(refusal) => return Err(refusal),
-    };
-    let subscribers = match subscribers_at(alloc, table) {
-        Ok(subscribers) => subscribers,
-        Err(refusal) => return Err(refusal),
-    };
+    let pmus = pmu::pmus_at(alloc, table)?;
+    let links = pmu::links_of(alloc, pmus.as_slice())?;
+    let sources = source::sources_of(alloc, pmus.as_slice())?;
+    let subscribers = subscribers_at(alloc, table)?;
+    let control = general::own_text(alloc, general.control)?;
     let mut edits = pmu::edits_of(alloc, pmus.as_slice())?;
     let mut rest = subscribers.edits;
     edits.append(&mut rest)?;
@@ -126,9 +132,12 @@ fn setup_in(alloc: Global, table: &Table) -> Result<Setup, Refusal>
         sources,
         ports: subscribers.ports,
         doors: subscribers.doors,
-        tick_ms: tick_ms as u16,
-        ingest: ingest as u8,
-        serve: serve as u8,
+        tick_ms: general.tick_ms,
+        ingest: general.ingest,
+        serve: general.serve,
+        log: general.log,
+        control,
+        status: general.status,
     })
 }
 
@@ -276,7 +285,7 @@ fn entry_at(table: &Table) -> Option<Entry>
 }
 
 /// The number of a subscriber.
-fn subscriber_id(table: &Table) -> Option<SubId>
+pub(crate) fn subscriber_id(table: &Table) -> Option<SubId>
     ensures { result ≡ required (whole_in 1 65535) (codes "id") (table_view table.now) }
 {
     match table::required(table, "id", 1, 65535) {

@@ -225,7 +225,7 @@ stall = 3601
 [[subscriber.streams]]
 id = 101
 =>
-1: logging: is no key here; the keys here are tick_ms, ingest, serve, pmu, subscriber
+1: logging: is no key here; the keys here are tick_ms, ingest, serve, log, control, status, pmu, subscriber
 2: serve: is the number 9; it has to be a whole number from 1 to 8
 3: pmu.id: is missing; it has to be a whole number from 1 to 65534
 6: pmu.id: is the number 0; it has to be a whole number from 1 to 65534
@@ -247,6 +247,62 @@ subscriber = [{ id = 1, ring = 64, idle = -1 }]
 =>
 1: pmu: is the number 7; it has to be one table or more, each under [[pmu]]
 2: subscriber.idle: is the number -1; it has to be a whole number from 0 to 3600
+----
+log = \"debug\"
+control = \"/run/012345678901234567890123456789012345678901234567890123456789012345678901234567890123456789012345678901\"
+status = \"127.0.0.1:9100\"
+[[pmu]]
+id = 7
+[[subscriber]]
+id = 1
+ring = 64
+=>
+----
+log = \"loud\"
+control = \"\"
+status = \"localhost:80\"
+[[pmu]]
+id = 7
+[[subscriber]]
+id = 1
+ring = 64
+=>
+1: log: is the text \"loud\"; it has to be \"error\", \"warn\", \"info\" or \"debug\"
+2: control: is the text \"\"; it has to be the path of a socket, a text of 1 to 107 bytes without a zero byte
+3: status: is the text \"localhost:80\"; it has to be a text \"A.B.C.D:PORT\"
+----
+status = 9100
+
+# A path of 108 bytes.
+control = \"/run/012345678901234567890123456789012345678901234567890123456789012345678901234567890123456789012345678901x\"
+log = true
+[[pmu]]
+id = 7
+[[subscriber]]
+id = 1
+ring = 64
+=>
+1: status: is the number 9100; it has to be a text \"A.B.C.D:PORT\"
+4: control: is the text \"/run/012345678901234567890123456789012345678901234567890123456789012345678901234567890123456789012345678901x\"; it has to be the path of a socket, a text of 1 to 107 bytes without a zero byte
+5: log: is true; it has to be \"error\", \"warn\", \"info\" or \"debug\"
+----
+# Lines that end as on Windows.\r
+tick_ms = 10\r
+serve = 9\r
+[[pmu]]\r
+id = 7\r
+[[subscriber]]\r
+id = 1\r
+ring = 0\r
+=>
+3: serve: is the number 9; it has to be a whole number from 1 to 8
+8: subscriber.ring: is the number 0; it has to be a whole number from 1 to 1024
+----
+tick_ms = 10\r
+[[pmu]]\r
+id = = 7\r
+=>
+3: invalid value, expected a string, number, boolean, date-time, array or inline table; a setup file is TOML
 ";
 
 /// What is told, a line each.
@@ -274,5 +330,5 @@ fn wrong_setups(rt: HostRuntime) {
         }
         count = count.saturating_add(1);
     }
-    assert_eq!(rt; count, 22);
+    assert_eq!(rt; count, 27);
 }

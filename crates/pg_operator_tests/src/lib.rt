@@ -6,6 +6,10 @@ mod checking;
 #[cfg(test)]
 mod faults;
 #[cfg(test)]
+mod general;
+#[cfg(test)]
+mod lines;
+#[cfg(test)]
 mod steers;
 #[cfg(test)]
 mod tests;

@@ -910,7 +910,7 @@ fn doors_told(alloc: Global, setup: &Setup) -> Result<String, Fail> {
 }
 
 /// The keys, each in a line of its own.
-fn keys_in_lines(alloc: Global, keys: &str) -> Result<String, Fail> {
+pub(crate) fn keys_in_lines(alloc: Global, keys: &str) -> Result<String, Fail> {
     let mut text = String::new(alloc);
     for key in keys.split(';') {
         text = format!(in alloc; "{text}{key}\n")?;

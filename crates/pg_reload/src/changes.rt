@@ -7,7 +7,7 @@ ghost use Rattle.pg_reload.specs.Leading.{IsSound, LeadsFrom};
 ghost use Rattle.pg_reload.specs.Orders.{SameCalls, SamePorts, calls_by, is_about, is_of, orders_between, port_orders_between, told};
 ghost use Rattle.pg_reload.specs.Ports.{ports_by};
 ghost use Rattle.pg_operator.specs.Setups.{door_of};
-ghost use Rattle.pg_reload.specs.Restarts.{restarts_between};
+ghost use Rattle.pg_reload.specs.Restarts.{keys_of, restarts_between};
 
 use crate::orders::{self, Order};
 use crate::restarts::{self, Restart};
@@ -43,6 +43,8 @@ pub struct Changes {
 /// is called anew where its address, `silence` or `clock_ms` changed; a port is closed and opened anew where its number or a rule of it
 /// changed, and stays where its subscriber is dropped and added again.
 ///
+/// The keys that need a new start are told in the order `tick_ms`, `ingest`, `serve`, `control`, `status`; `log` needs none.
+///
 /// # Errors
 ///
 /// `NoMemory` alone.
@@ -68,9 +70,7 @@ pub fn changes_between(alloc: Global, old: &Setup, new: &Setup) -> Result<Change
         (calls_by (map (λ l. (l.0, string_bytes l.1)) new.now.links.items) new.now.sources.items)
         → SamePorts (λ port. true) (ports_by old.now.ports.items (map door_of old.now.doors.items)) (ports_by new.now.ports.items (map door_of new.now.doors.items))
         → map told c.orders.items ≡ []) }
-    ensures restarts { IfOk result (λ c. c.restarts.items ≡ restarts_between
-        (record { tick_ms = old.now.tick_ms; ingest = old.now.ingest; serve = old.now.serve })
-        (record { tick_ms = new.now.tick_ms; ingest = new.now.ingest; serve = new.now.serve })) }
+    ensures restarts { IfOk result (λ c. c.restarts.items ≡ restarts_between (keys_of old.now) (keys_of new.now)) }
     ensures refused { IfErr result (λ r. r ≡ Refusal.NoMemory) }
 {
     let edits = steps::edits_between(alloc, old.edits.as_slice(), new.edits.as_slice())?;

@@ -1,10 +1,14 @@
 //! Keys of a setup that need a new start.
-ghost use Rattle.std.specs.Prelude.{◌≡◌, ◌++◌, IfErr, OnOk, IfOk};
-ghost use Rattle.pg_reload.specs.Restarts.{restarts_between, told_of};
+ghost use Rattle.std.specs.Prelude.{◌≡◌, ◌++◌, IfErr, OnOk, IfOk, option_map, string_bytes};
+ghost use Rattle.std.specs.Option.{option_eq};
+ghost use Rattle.std.specs.Str.{bytes_eq};
+ghost use Rattle.pg_operator.specs.Addresses.{endpoint};
+ghost use Rattle.pg_reload.specs.Restarts.{endpoint_eq, keys_of, restarts_between, told_unless};
 
 use pg_operator::Setup;
 use pg_wire::Refusal;
 use std::alloc::Global;
+use std::net::SocketAddrV4;
 
 /// A key of the setup whose change needs a new start (own rule).
 #[derive(Clone, Copy, Debug, PartialEq, Eq)]
@@ -15,17 +19,45 @@ pub enum Restart {
     Ingest,
     /// `serve`.
     Serve,
+    /// `control`.
+    Control,
+    /// `status`.
+    Status,
 }
 
-/// Tells a key where its values differ.
-fn tell(keys: &mut Vec<Restart>, key: Restart, old: u16, new: u16) -> Result<(), Refusal>
-    ensures ok { OnOk result (keys.new.items ≡ keys.old.items ++ told_of key old new) }
+/// Tells a key, unless its values are the same.
+fn tell(keys: &mut Vec<Restart>, key: Restart, is_same: bool) -> Result<(), Refusal>
+    ensures ok { OnOk result (keys.new.items ≡ keys.old.items ++ told_unless is_same key) }
     ensures err { IfErr result (λ r. r ≡ Refusal.NoMemory) }
 {
-    if old != new {
+    if !is_same {
         keys.push(key)?;
     }
     Ok(())
+}
+
+/// Whether both are one path, or both none.
+fn is_same_path(one: &Option<String>, other: &Option<String>) -> bool
+    ensures { result ≡ option_eq bytes_eq (option_map (λ s. string_bytes s) one.now) (option_map (λ s. string_bytes s) other.now) }
+{
+    match (one, other) {
+        (None, None) => true,
+        (Some(one), Some(other)) => one.as_str() == other.as_str(),
+        _ => false,
+    }
+}
+
+/// Whether both are one address, or both none.
+fn is_same_address(one: Option<SocketAddrV4>, other: Option<SocketAddrV4>) -> bool
+    ensures { result ≡ option_eq endpoint_eq (option_map endpoint one) (option_map endpoint other) }
+{
+    match (one, other) {
+        (None, None) => true,
+        (Some(one), Some(other)) => {
+            one.ip().to_bits() == other.ip().to_bits() && one.port() == other.port()
+        }
+        _ => false,
+    }
 }
 
 /// The keys that differ.
@@ -34,24 +66,16 @@ pub(crate) fn restarts_between(
     old: &Setup,
     new: &Setup,
 ) -> Result<Vec<Restart>, Refusal>
-    ensures ok { IfOk result (λ v. v.items ≡ restarts_between
-        (record { tick_ms = old.now.tick_ms; ingest = old.now.ingest; serve = old.now.serve })
-        (record { tick_ms = new.now.tick_ms; ingest = new.now.ingest; serve = new.now.serve })) }
+    ensures ok { IfOk result (λ v. v.items ≡ restarts_between (keys_of old.now) (keys_of new.now)) }
     ensures err { IfErr result (λ r. r ≡ Refusal.NoMemory) }
 {
     let mut keys = Vec::new(alloc);
-    tell(&mut keys, Restart::TickMs, old.tick_ms, new.tick_ms)?;
-    tell(
-        &mut keys,
-        Restart::Ingest,
-        u16::from(old.ingest),
-        u16::from(new.ingest),
-    )?;
-    tell(
-        &mut keys,
-        Restart::Serve,
-        u16::from(old.serve),
-        u16::from(new.serve),
-    )?;
+    tell(&mut keys, Restart::TickMs, old.tick_ms == new.tick_ms)?;
+    tell(&mut keys, Restart::Ingest, old.ingest == new.ingest)?;
+    tell(&mut keys, Restart::Serve, old.serve == new.serve)?;
+    let is_same = is_same_path(&old.control, &new.control);
+    tell(&mut keys, Restart::Control, is_same)?;
+    let is_same = is_same_address(old.status, new.status);
+    tell(&mut keys, Restart::Status, is_same)?;
     Ok(keys)
 }

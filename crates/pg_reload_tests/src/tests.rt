@@ -89,6 +89,57 @@ ring = 64 => ring = 65 ==> dropsub 1; addsub 1 65 16777216; \n\
 { id = 1, port = 4800, ring = 64 }, => ==> dropsub 1; unlisten 1; \n\
 4800 => 4801 | 4801, address => 4800, address ==> unlisten 1; unlisten 2; listen 1 4801 0.0.0.0 - false 30 0; listen 2 4800 127.0.0.1 1 false 30 0; ";
 
+/// A setup with all keys of the file itself.
+const GENERAL: &str = "\
+tick_ms = 10\n\
+ingest = 1\n\
+serve = 1\n\
+log = \"info\"\n\
+control = \"/run/a.sock\"\n\
+status = \"127.0.0.1:9100\"\n\
+pmu = [{ id = 7 }]\n\
+subscriber = [{ id = 1, ring = 64 }]\n";
+
+/// Setups that differ from the one above, as with the rows before.
+const GENERAL_ROWS: &str = "\
+log = \"info\" => log = \"info\" ==> \n\
+log = \"info\" => log = \"debug\" ==> \n\
+log = \"info\" => ==> \n\
+a.sock => b.sock ==> restart control; \n\
+a.sock => a.soc ==> restart control; \n\
+a.sock => A.sock ==> restart control; \n\
+control = \"/run/a.sock\" => ==> restart control; \n\
+control = \"/run/a.sock\" => control = '/run/a.sock' ==> \n\
+9100 => 9101 ==> restart status; \n\
+127.0.0.1 => 127.0.0.2 ==> restart status; \n\
+127.0.0.1 => 128.0.0.1 ==> restart status; \n\
+127.0.0.1:9100 => 0.0.0.0:80 ==> restart status; \n\
+status = \"127.0.0.1:9100\" => ==> restart status; \n\
+status = \"127.0.0.1:9100\" => status = '127.0.0.1:9100' ==> \n\
+a.sock => b.sock | 9100 => 9101 ==> restart control; restart status; \n\
+status = \"127.0.0.1:9100\" => | control = \"/run/a.sock\" => | tick_ms = 10 => tick_ms = 11 ==> restart tick_ms; restart control; restart status; \n\
+a.sock => b.sock | serve = 1 => serve = 2 ==> restart serve; restart control; \n\
+9100 => 9101 | a.sock => b.sock | log = \"info\" => log = \"warn\" | serve = 1 => serve = 2 | ingest = 1 => ingest = 2 | tick_ms = 10 => tick_ms = 11 ==> restart tick_ms; restart ingest; restart serve; restart control; restart status; \n\
+{ id = 7 } => { id = 7 }, { id = 8 } | a.sock => b.sock ==> addpmu 8/8; restart control; ";
+
+/// A setup that leaves out what may have no value.
+const BARE: &str = "\
+tick_ms = 10\n\
+# log = \"info\"\n\
+# control = \"/run/a.sock\"\n\
+# status = \"127.0.0.1:9100\"\n\
+pmu = [{ id = 7 }]\n\
+subscriber = [{ id = 1, ring = 64 }]\n";
+
+/// Setups that differ from the one above, as with the rows before.
+const BARE_ROWS: &str = "\
+# log = \"info\" => log = \"info\" ==> \n\
+# log = \"info\" => log = \"error\" ==> \n\
+# control => control ==> restart control; \n\
+# status => status ==> restart status; \n\
+# status => status | # control => control ==> restart control; restart status; \n\
+# status => status | # control => control | tick_ms = 10 => tick_ms = 20 | # log = \"info\" => log = \"debug\" ==> restart tick_ms; restart control; restart status; ";
+
 /// A key as it is written.
 fn key(alloc: Global, key: &PmuKey) -> Result<String, AllocError> {
     format!(in alloc; "{}/{}", key.source.get(), key.pmu.get())
@@ -191,6 +242,8 @@ fn told(alloc: Global, changes: &Changes) -> Result<String, AllocError> {
             Restart::TickMs => "tick_ms",
             Restart::Ingest => "ingest",
             Restart::Serve => "serve",
+            Restart::Control => "control",
+            Restart::Status => "status",
         };
         text = format!(in alloc; "{}restart {}; ", text, key)?;
     }
@@ -285,4 +338,12 @@ fn reload_rows(rt: HostRuntime) -> Result<(), Fail> {
 fn reload_ports(rt: HostRuntime) -> Result<(), Fail> {
     assert_eq!(rt; PORT_ROWS.split('\n').count(), 15);
     check_rows(&rt, rt.alloc(), PORTS, PORT_ROWS)
+}
+
+#[test]
+fn reload_general(rt: HostRuntime) -> Result<(), Fail> {
+    assert_eq!(rt; GENERAL_ROWS.split('\n').count(), 19);
+    check_rows(&rt, rt.alloc(), GENERAL, GENERAL_ROWS)?;
+    assert_eq!(rt; BARE_ROWS.split('\n').count(), 6);
+    check_rows(&rt, rt.alloc(), BARE, BARE_ROWS)
 }

@@ -4,31 +4,39 @@ ghost use Rattle.std.specs.Prelude.{◌≡◌, IfOk, IfSome, IfNone, Some};
 ghost use Rattle.pg_serve.specs.Inputs.{edited, names};
 ghost use Rattle.pg_replay.specs.Lines.{asked_in, hands, nothing};
 
+use crate::patient::Patient;
 use crate::reloading::InForce;
 use crate::running::door_rules;
+use crate::seeing::seen_by;
 use mio::net::TcpListener as PortListener;
 use pg_gateway::{Edit, Gate, Reply};
 use pg_operator::{PortRules, Steer, parse_steer};
 use pg_replay::{Fault, Line, NotPrinted, print_refusal, print_reply, read_line, without_end};
 use pg_serve::{Input as Handed, Named, SharedGate, Work, event_of};
 use pg_service::{
-    After, Change, Dial, Mailbox, Neighbours, Notice, PortOrder, Registered, SourceOrder, Watched,
+    After, Change, Dial, Mailbox, Neighbours, Notice, PortOrder, Registered, Reports, SourceOrder,
+    Watched,
 };
+use pg_status::print_status;
 use pg_wire::{PmuId, Refusal, SubId};
 use std::alloc::Global;
-use std::io::{BufRead, BufReader, BufWriter, ErrorKind, Printer, StdinLock, Write};
+use std::io::{BufRead, BufReader, BufWriter, ErrorKind, Printer, Read, StdinLock, Write};
 use std::net::{Net, TcpStream};
 use std::rt::Clock;
-use std::sync::Wait;
 use std::sync::atomic::{AtomicBool, Ordering};
+use std::sync::{Mutex, Wait};
 
 /// Whom an operator's edits concern besides the gateway.
 #[derive(Clone, Copy)]
 pub struct Told<'a> {
     /// The mailboxes of the workers that call sources.
     pub sources: &'a [Mailbox<SourceOrder>],
-    /// The workers that serve subscribers, and the journal.
+    /// The workers that serve subscribers, the journal and the board.
     pub neighbours: Neighbours<'a>,
+    /// The PMUs and subscribers that are registered.
+    pub registered: &'a Mutex<Registered>,
+    /// The mailbox of the worker that serves the control socket and the page, if there is one.
+    pub window: Option<&'a Mailbox<()>>,
     /// Set where all workers are to end.
     pub stop: &'a AtomicBool,
 }
@@ -48,6 +56,9 @@ impl Told<'_> {
         }
         self.neighbours.wake_ports();
         self.neighbours.finder.wake(journal);
+        if let Some(mailbox) = self.window {
+            mailbox.wake(journal);
+        }
     }
 
     /// Tells workers what an edit asks of them.
@@ -66,6 +77,17 @@ impl Told<'_> {
             }
             After::HangUp(sub) => self.hang_up(rt, sub),
         }
+    }
+
+    /// What the workers tell of their sources and ports.
+    pub(crate) fn ask<R: Wait + Clock>(&self, rt: &R, alloc: Global) -> Reports {
+        let Neighbours {
+            ports,
+            journal,
+            board,
+            ..
+        } = self.neighbours;
+        board.ask(rt, alloc, self.sources, ports, journal)
     }
 
     /// The source is called no longer.
@@ -119,7 +141,7 @@ pub trait Steering {
     /// # Errors
     ///
     /// `Fault::Write` where an answer can't be written.
-    fn reload<W: Write, R: Wait, G: Gate>(
+    fn reload<W: Write, R: Wait + Clock, G: Gate>(
         &mut self,
         rt: &R,
         console: &mut Console<'_, W>,
@@ -131,7 +153,7 @@ pub trait Steering {
     /// # Errors
     ///
     /// `Fault::Write` where an answer can't be written.
-    fn steer<W: Write, R: Wait, G: Gate>(
+    fn steer<W: Write, R: Wait + Clock, G: Gate>(
         &mut self,
         rt: &R,
         console: &mut Console<'_, W>,
@@ -145,7 +167,7 @@ pub trait Steering {
 pub struct EditsAlone;
 
 impl Steering for EditsAlone {
-    fn reload<W: Write, R: Wait, G: Gate>(
+    fn reload<W: Write, R: Wait + Clock, G: Gate>(
         &mut self,
         _rt: &R,
         console: &mut Console<'_, W>,
@@ -155,7 +177,7 @@ impl Steering for EditsAlone {
         Ok(())
     }
 
-    fn steer<W: Write, R: Wait, G: Gate>(
+    fn steer<W: Write, R: Wait + Clock, G: Gate>(
         &mut self,
         _rt: &R,
         console: &mut Console<'_, W>,
@@ -174,6 +196,8 @@ enum Asked {
     Edit,
     /// Something about a source or a port.
     Steer(Steer),
+    /// How the service stands.
+    Status,
     /// The setup file is to be read again.
     Reload,
     /// All workers are to end.
@@ -185,19 +209,13 @@ enum Asked {
 pub struct Console<'a, W: Write> {
     pub(crate) alloc: Global,
     pub(crate) out: W,
-    registered: Registered,
     pub(crate) told: Told<'a>,
 }
 
 impl<'a, W: Write> Console<'a, W> {
-    /// Lines are answered by this writer, of a gateway that has these PMUs.
-    pub fn new(alloc: Global, out: W, registered: Registered, told: Told<'a>) -> Console<'a, W> {
-        Console {
-            alloc,
-            out,
-            registered,
-            told,
-        }
+    /// Lines are answered by this writer.
+    pub fn new(alloc: Global, out: W, told: Told<'a>) -> Console<'a, W> {
+        Console { alloc, out, told }
     }
 
     /// Where its answers are written.
@@ -206,7 +224,7 @@ impl<'a, W: Write> Console<'a, W> {
     }
 
     /// Answers a line, and tells whether it is `quit`.
-    fn answer<R: Wait, G: Gate, S: Steering>(
+    fn answer<R: Wait + Clock, G: Gate, S: Steering>(
         &mut self,
         rt: &R,
         gate: &mut Watched<G>,
@@ -216,6 +234,7 @@ impl<'a, W: Write> Console<'a, W> {
         match asked_by(self.alloc, line) {
             Ok(Asked::Edit) => self.edit(rt, gate, line)?,
             Ok(Asked::Steer(steer)) => steering.steer(rt, self, gate, steer)?,
+            Ok(Asked::Status) => self.status(rt, gate)?,
             Ok(Asked::Reload) => steering.reload(rt, self, gate)?,
             Ok(Asked::Quit) => return Ok(true),
             Err(refusal) => print_refusal(&mut self.out, "refused", refusal)?,
@@ -244,9 +263,28 @@ impl<'a, W: Write> Console<'a, W> {
         Ok(())
     }
 
+    /// Answers how the service stands: a line for each source, subscriber and stream.
+    fn status<R: Wait + Clock, G: Gate>(
+        &mut self,
+        rt: &R,
+        gate: &mut Watched<G>,
+    ) -> Result<(), Fault> {
+        match seen_by(rt, self.alloc, &self.told, gate) {
+            Ok((snapshot, _)) => match print_status(&mut self.out, &snapshot) {
+                Ok(()) => Ok(()),
+                Err(_) => Err(Fault::Write),
+            },
+            Err(_) => {
+                print_refusal(&mut self.out, "refused", Refusal::NoMemory)?;
+                Ok(())
+            }
+        }
+    }
+
     /// Whether a PMU of this source is registered.
-    pub(crate) fn has_source(&self, source: PmuId) -> bool {
-        self.registered.has(source)
+    pub(crate) fn has_source<R: Wait>(&self, rt: &R, source: PmuId) -> bool {
+        let registered = self.told.registered.lock(rt);
+        registered.has(source)
     }
 
     /// Posts an edit, and tells workers what it asks of them.
@@ -270,7 +308,10 @@ impl<'a, W: Write> Console<'a, W> {
         change: Change,
         reply: &Reply,
     ) {
-        match self.registered.note(change, reply) {
+        let mut registered = self.told.registered.lock(rt);
+        let noted = registered.note(change, reply);
+        drop(registered);
+        match noted {
             Ok(after) => self.told.tell(rt, after),
             Err(_) => self.told.note(Notice::MailFault),
         }
@@ -289,7 +330,7 @@ impl<'a, W: Write> Console<'a, W> {
     }
 
     /// Reads a line and answers it, and tells whether it was the last: `quit`, or the end of the lines.
-    fn take_line<B: BufRead, R: Wait, G: Gate, S: Steering>(
+    fn take_line<B: BufRead, R: Wait + Clock, G: Gate, S: Steering>(
         &mut self,
         rt: &R,
         gate: &mut Watched<G>,
@@ -319,7 +360,7 @@ impl<'a, W: Write> Console<'a, W> {
 /// Answers an operator's lines until `quit` comes, which ends all workers, or they end, which ends nothing (own rule). Each
 /// edit is posted and its reply printed; lines that ask for more are left to who does it; a line that asks for nothing of these is
 /// `BadLine`. Where no answer can be written any more it goes on without; where lines can't be read it ends. Both are noted.
-pub fn answer_lines<B: BufRead, W: Write, R: Wait, G: Gate, S: Steering>(
+pub fn answer_lines<B: BufRead, W: Write, R: Wait + Clock, G: Gate, S: Steering>(
     rt: &R,
     console: &mut Console<'_, W>,
     gate: &mut Watched<G>,
@@ -345,7 +386,7 @@ pub fn answer_lines<B: BufRead, W: Write, R: Wait, G: Gate, S: Steering>(
 #[derive(Drop)]
 pub(crate) enum Desk<'a, R: Print> {
     /// Standard input and output.
-    Standard(BufWriter<Printer<'a, R>>),
+    Standard(BufReader<Patient<'a>>, BufWriter<Printer<'a, R>>),
     /// A connection.
     Peer(BufReader<TcpStream>, TcpStream),
 }
@@ -353,8 +394,35 @@ pub(crate) enum Desk<'a, R: Print> {
 /// Where lines are answered.
 #[derive(Drop)]
 enum Answers<'a, R: Print> {
-    Standard(Console<'a, BufWriter<Printer<'a, R>>>),
-    Peer(Console<'a, TcpStream>),
+    Standard(Talk<'a, Patient<'a>, BufWriter<Printer<'a, R>>>),
+    Peer(Talk<'a, TcpStream, TcpStream>),
+}
+
+/// An operator's lines, and where they are answered.
+#[derive(Drop)]
+struct Talk<'a, B: Read, W: Write> {
+    reader: BufReader<B>,
+    console: Console<'a, W>,
+}
+
+impl<'a, B: Read, W: Write> Talk<'a, B, W> {
+    /// These lines are answered by this writer.
+    fn new(alloc: Global, reader: BufReader<B>, out: W, told: Told<'a>) -> Talk<'a, B, W> {
+        Talk {
+            reader,
+            console: Console::new(alloc, out, told),
+        }
+    }
+
+    /// Answers all lines.
+    fn answer<R: Wait + Clock, G: Gate, S: Steering>(
+        &mut self,
+        rt: &R,
+        gate: &mut Watched<G>,
+        steering: &mut S,
+    ) {
+        answer_lines(rt, &mut self.console, gate, &mut self.reader, steering);
+    }
 }
 
 /// A worker that answers an operator's lines. Its one turn takes all of them.
@@ -367,8 +435,6 @@ pub struct Operator<
     rt: &'a R,
     gate: Watched<SharedGate<'a, R, N>>,
     answers: Answers<'a, R>,
-    // The connection that lines come from, where they don't come from standard input.
-    peer: Option<BufReader<TcpStream>>,
     in_force: InForce<'a, R>,
 }
 
@@ -377,31 +443,25 @@ impl<'a, R: Wait + Input<Reader = StdinLock<'static>> + Print + Net + Clock, N: 
     R,
     N,
 > {
-    /// An operator at this desk, of a gateway that has these PMUs and runs by this setup.
+    /// An operator at this desk, of a gateway that runs by this setup.
     pub(crate) fn new(
         rt: &'a R,
         alloc: Global,
         gate: SharedGate<'a, R, N>,
         desk: Desk<'a, R>,
-        registered: Registered,
         told: Told<'a>,
         in_force: InForce<'a, R>,
     ) -> Operator<'a, R, N> {
-        let (answers, peer) = match desk {
-            Desk::Standard(out) => {
-                let console = Console::new(alloc, out, registered, told);
-                (Answers::Standard(console), None)
+        let answers = match desk {
+            Desk::Standard(reader, out) => {
+                Answers::Standard(Talk::new(alloc, reader, out, told))
             }
-            Desk::Peer(reader, out) => {
-                let console = Console::new(alloc, out, registered, told);
-                (Answers::Peer(console), Some(reader))
-            }
+            Desk::Peer(reader, out) => Answers::Peer(Talk::new(alloc, reader, out, told)),
         };
         Operator {
             rt,
             gate: Watched::new(gate),
             answers,
-            peer,
             in_force,
         }
     }
@@ -417,21 +477,8 @@ impl<R: Wait + Input<Reader = StdinLock<'static>> + Print + Net + Clock, N: Name
     for Operator<'_, R, N> {
     fn turn(&mut self) -> bool {
         match &mut self.answers {
-            Answers::Standard(console) => {
-                let mut reader = self.rt.reader();
-                answer_lines(
-                    self.rt,
-                    console,
-                    &mut self.gate,
-                    &mut reader,
-                    &mut self.in_force,
-                );
-            }
-            Answers::Peer(console) => {
-                if let Some(reader) = &mut self.peer {
-                    answer_lines(self.rt, console, &mut self.gate, reader, &mut self.in_force);
-                }
-            }
+            Answers::Standard(talk) => talk.answer(self.rt, &mut self.gate, &mut self.in_force),
+            Answers::Peer(talk) => talk.answer(self.rt, &mut self.gate, &mut self.in_force),
         }
         false
     }
@@ -463,6 +510,7 @@ fn asked_by(alloc: Global, line: &[u8]) -> Result<Asked, Refusal> {
     };
     match text.trim_matches(' ') {
         "quit" => return Ok(Asked::Quit),
+        "status" => return Ok(Asked::Status),
         "reload" => return Ok(Asked::Reload),
         _ => {}
     }

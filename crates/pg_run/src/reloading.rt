@@ -3,10 +3,11 @@
 use crate::operator::{Console, Told};
 use crate::running::dial_by;
 use crate::workers::told_as;
+use log::LevelFilter;
 use mio::net::TcpListener as PortListener;
 use pg_check::{check_setup, edit_name, reason};
 use pg_gateway::{Gate, Reply};
-use pg_operator::{PortRules, Setup, SourceRules, read_setup};
+use pg_operator::{LogLevel, Setup, SourceRules, read_setup};
 use pg_reload::{Call, Changes, Order, Port, Restart, changes_between};
 use pg_replay::{Fault, print_refusal};
 use pg_service::{Detail, Entry, Notice, Watched, Whom, system_words};
@@ -15,7 +16,7 @@ use std::alloc::{AllocError, Global};
 use std::io::{ErrorKind, Read, Write};
 use std::net::{Net, SocketAddr};
 use std::rt::Clock;
-use std::sync::Wait;
+use std::sync::{Mutex, Wait};
 use std::time::Duration;
 use std::{fs, io, thread};
 
@@ -33,12 +34,17 @@ pub struct InForce<'a, R: Net + Clock> {
     rt: &'a R,
     files: &'a HostRuntime,
     file: &'a str,
-    setup: Setup,
+    pub(crate) setup: &'a Mutex<Setup>,
 }
 
 impl<'a, R: Net + Clock> InForce<'a, R> {
-    /// The gateway runs by this setup of this file.
-    pub fn new(rt: &'a R, files: &'a HostRuntime, file: &'a str, setup: Setup) -> InForce<'a, R> {
+    /// The gateway runs by this setup of this file. Whoever changes it holds it while he does.
+    pub fn new(
+        rt: &'a R,
+        files: &'a HostRuntime,
+        file: &'a str,
+        setup: &'a Mutex<Setup>,
+    ) -> InForce<'a, R> {
         InForce {
             rt,
             files,
@@ -87,13 +93,12 @@ impl<R: Net + Clock> InForce<'_, R> {
         }
     }
 
-    /// Does what leads to this setup, and tells what was done.
+    /// Does what changes, and tells what was done.
     fn change<W: Write, Q: Wait, G: Gate>(
-        &mut self,
+        &self,
         rt: &Q,
         console: &mut Console<'_, W>,
         gate: &mut Watched<G>,
-        new: Setup,
         changes: Changes,
     ) -> Report {
         let Changes {
@@ -114,7 +119,6 @@ impl<R: Net + Clock> InForce<'_, R> {
         for restart in restarts {
             report.restarted(restart);
         }
-        self.setup = new;
         report
     }
 }
@@ -235,7 +239,7 @@ impl<R: Net + Clock> InForce<'_, R> {
     ///
     /// `Fault::Write` where an answer can't be written.
     pub(crate) fn renew<W: Write, Q: Wait, G: Gate>(
-        &mut self,
+        &self,
         rt: &Q,
         console: &mut Console<'_, W>,
         gate: &mut Watched<G>,
@@ -249,9 +253,14 @@ impl<R: Net + Clock> InForce<'_, R> {
             );
             return Ok(());
         };
-        match changes_between(alloc, &self.setup, &new) {
+        let mut setup = self.setup.lock(rt);
+        let changes = changes_between(alloc, &setup, &new);
+        match changes {
             Ok(changes) => {
-                let report = self.change(rt, console, gate, new, changes);
+                let report = self.change(rt, console, gate, changes);
+                journal.set_filter(rt, filter_of(new.log));
+                *setup = new;
+                drop(setup);
                 journal.tell(
                     rt,
                     Entry::new(Notice::Reloaded, Whom::Nobody, Detail::Nothing),
@@ -269,14 +278,10 @@ impl<R: Net + Clock> InForce<'_, R> {
         }
     }
 
-    /// The rules of the subscriber's port, if the setup has one for it.
-    pub(crate) fn door_of(&self, sub: SubId) -> Option<&PortRules> {
-        self.setup.doors.iter().find(|it| it.sub == sub)
-    }
-
     /// How a source is watched, by the setup; by its defaults, where it does not name it.
-    pub(crate) fn rules_of(&self, source: PmuId) -> SourceRules {
-        match self.setup.sources.iter().find(|it| it.source == source) {
+    pub(crate) fn rules_of<Q: Wait>(&self, rt: &Q, source: PmuId) -> SourceRules {
+        let setup = self.setup.lock(rt);
+        match setup.sources.iter().find(|it| it.source == source) {
             Some(rules) => *rules,
             None => SourceRules {
                 source,
@@ -295,11 +300,23 @@ pub(crate) fn write_all(written: io::Result<()>) -> Result<(), Fault> {
     }
 }
 
+/// What the log tells by a setup.
+pub(crate) fn filter_of(level: LogLevel) -> LevelFilter {
+    match level {
+        LogLevel::Error => LevelFilter::Error,
+        LogLevel::Warn => LevelFilter::Warn,
+        LogLevel::Info => LevelFilter::Info,
+        LogLevel::Debug => LevelFilter::Debug,
+    }
+}
+
 /// The key of a setup.
 fn key_of(restart: Restart) -> &'static str {
     match restart {
         Restart::TickMs => "tick_ms",
         Restart::Ingest => "ingest",
         Restart::Serve => "serve",
+        Restart::Control => "control",
+        Restart::Status => "status",
     }
 }

@@ -4,20 +4,23 @@ ghost use Rattle.std.specs.Prelude.{◌≡◌, IfOk, map, option_map};
 ghost use Rattle.std.specs.Duration.{as_nanos};
 ghost use Rattle.pg_run.specs.Limits.{limit_of};
 
+use crate::failure::{Failure, not_bound};
+use crate::opening::{Openings, window_worker};
 use crate::operator::{Desk, Operator, Told};
-use crate::reloading::InForce;
+use crate::patient::Patient;
+use crate::reloading::{InForce, filter_of};
 use crate::workers::{
     Worker, join_all, mailboxes, port_workers, share_ports, share_sources, source_workers, told_as,
 };
-use log::LevelFilter;
 use mio::net::TcpListener as PortListener;
 use pg_gateway::Gateway;
 use pg_limits::ClockGuard;
-use pg_operator::{PortRules, Setup, SourceRules, read_setup};
+use pg_operator::{BoundBy, PortRules, Setup, SourceRules, read_setup};
 use pg_serve::{Named, Seat, SeatGate, Shared, SharedGate, run_workers};
 use pg_service::{
-    Address, Detail, Dial, DoorRules, Entry, Finder, Journal, Logger, Lookup, Mailbox, Neighbours,
-    Notice, Port, PortOrder, Registered, SourceOrder, Ticker, Waiting, Whom, post_edits,
+    Address, Board, Detail, Dial, DoorRules, Entry, Finder, Journal, Logger, Lookup, Mailbox,
+    Neighbours, Notice, Port, PortOrder, Registered, SourceOrder, Ticker, Waiting, Whom,
+    post_edits,
 };
 use pg_wire::{PmuId, Refusal, SubId};
 use std::alloc::Global;
@@ -25,8 +28,8 @@ use std::io::{BufReader, BufWriter, StdinLock};
 use std::marker::Brand;
 use std::net::{Net, SocketAddr, SocketAddrV4, TcpListener, TcpStream};
 use std::rt::Clock;
-use std::sync::Wait;
 use std::sync::atomic::AtomicBool;
+use std::sync::{Mutex, Wait};
 use std::thread::Threads;
 use std::time::{Duration, Instant};
 use std::{fs, io};
@@ -36,7 +39,7 @@ use std::{fs, io};
 struct Plan {
     ports: Vec<Port>,
     dials: Vec<Dial>,
-    registered: Registered,
+    openings: Openings,
     tick: Duration,
     ingest: usize,
     serve: usize,
@@ -44,13 +47,14 @@ struct Plan {
 }
 
 /// The work of `pdcgw run`, with the lines of standard input, answered on standard output: reads the setup, posts its edits, listens
-/// on the subscribers' ports, and then serves until the line `quit` comes (own rule). The end of the lines ends nothing.
+/// on the subscribers' ports and where an operator is served, and then serves until the line `quit` comes (own rule). The end of the
+/// lines ends nothing.
 ///
 /// # Errors
 ///
 /// `ReadFault` where the file can't be read; `BadSetup` where it is no setup; that of the first edit that is refused;
-/// `ReadFault` where a port can't be bound; `NoMemory` before the workers have started.
-pub fn run<'a, R>(rt: &'a R, files: &'a HostRuntime, file: &'a str) -> Result<(), Refusal>
+/// `NotBound` where a port, the control socket or the page can't be bound; `NoMemory` before the workers have started.
+pub fn run<'a, R>(rt: &'a R, files: &'a HostRuntime, file: &'a str) -> Result<(), Failure>
 where
     R: Input<Reader = StdinLock<'static>>
         + Print
@@ -62,10 +66,19 @@ where
         + Sync
         + Alloc<A = Global>,
 {
-    let Ok(out) = BufWriter::new(rt.alloc(), io::writer(rt)) else {
-        return Err(Refusal::NoMemory);
+    let alloc = rt.alloc();
+    let stop = AtomicBool::new(false);
+    let Ok(out) = BufWriter::new(alloc, io::writer(rt)) else {
+        return Err(Failure::Refused(Refusal::NoMemory));
     };
-    run_at(rt, files, file, Desk::Standard(out))
+    let lines = match Patient::new(rt, alloc, &stop) {
+        Ok(lines) => lines,
+        Err(error) => return Err(Failure::Refused(told_as(error))),
+    };
+    match BufReader::new(alloc, lines) {
+        Ok(reader) => run_at(rt, files, file, Desk::Standard(reader, out), &stop),
+        Err(error) => Err(Failure::Refused(told_as(error))),
+    }
 }
 
 /// The same, with the lines of this connection, which are answered there.
@@ -78,7 +91,7 @@ pub fn run_for<'a, R>(
     files: &'a HostRuntime,
     file: &'a str,
     peer: TcpStream,
-) -> Result<(), Refusal>
+) -> Result<(), Failure>
 where
     R: Input<Reader = StdinLock<'static>>
         + Print
@@ -92,21 +105,23 @@ where
 {
     let out = match peer.try_clone() {
         Ok(out) => out,
-        Err(error) => return Err(told_as(error)),
+        Err(error) => return Err(Failure::Refused(told_as(error))),
     };
+    let stop = AtomicBool::new(false);
     match BufReader::new(rt.alloc(), peer) {
-        Ok(reader) => run_at(rt, files, file, Desk::Peer(reader, out)),
-        Err(error) => Err(told_as(error)),
+        Ok(reader) => run_at(rt, files, file, Desk::Peer(reader, out), &stop),
+        Err(error) => Err(Failure::Refused(told_as(error))),
     }
 }
 
-/// Serves by the setup of this file, with the lines of this desk.
+/// Serves by the setup of this file, with the lines of this desk, until it is to stop.
 fn run_at<'a, R>(
     rt: &'a R,
     files: &'a HostRuntime,
     file: &'a str,
     desk: Desk<'a, R>,
-) -> Result<(), Refusal>
+    stop: &'a AtomicBool,
+) -> Result<(), Failure>
 where
     R: Input<Reader = StdinLock<'static>>
         + Print
@@ -128,8 +143,11 @@ where
         tick_ms,
         ingest,
         serve,
+        log,
+        control,
+        status,
     } = setup_in(files, alloc, file)?;
-    let in_force = InForce::new(rt, files, file, setup_in(files, alloc, file)?);
+    let in_force = Mutex::new(setup_in(files, alloc, file)?);
     let (shared, seat) = Shared::new(alloc, Gateway::new(alloc)?)?;
     let mut registered = Registered::new(alloc)?;
     let mut gate = SeatGate::new(rt, &shared, seat);
@@ -138,18 +156,59 @@ where
     let seat = gate.into_seat();
     let now = match Instant::now(rt) {
         Ok(now) => now,
-        Err(error) => return Err(told_as(error)),
+        Err(error) => return Err(Failure::Refused(told_as(error))),
     };
     let plan = Plan {
         ports: ports_of(rt, alloc, port_plans(alloc, &ports, doors)?)?,
         dials: dials_of(alloc, &links, &sources)?,
-        registered,
+        openings: Openings::of(rt, files, &control, status)?,
         tick: Duration::from_millis(u64::from(tick_ms)),
         ingest: usize::from(ingest),
         serve: usize::from(serve),
         now,
     };
-    serve_all::<R, Brand>(rt, alloc, gateway, seat, plan, desk, in_force)
+    let journal = Journal::new(alloc)?;
+    journal.set_filter(rt, filter_of(log));
+    let known = Known {
+        journal,
+        board: Board::new(alloc),
+        registered: Mutex::new(registered),
+    };
+    let place = Place {
+        files,
+        file,
+        setup: &in_force,
+    };
+    let ended = serve_all::<R, Brand>(rt, alloc, gateway, seat, plan, desk, &known, place, stop);
+    if let Some(path) = control {
+        // Where it can't be removed, the next start replaces it.
+        let _ = fs::remove_file(files, path.as_str());
+    }
+    ended?;
+    Ok(())
+}
+
+/// What all workers know.
+#[derive(Drop)]
+struct Known {
+    journal: Journal,
+    board: Board,
+    registered: Mutex<Registered>,
+}
+
+/// Where the setup stands by which the service runs.
+#[derive(Clone, Copy)]
+pub(crate) struct Place<'a> {
+    files: &'a HostRuntime,
+    file: &'a str,
+    setup: &'a Mutex<Setup>,
+}
+
+impl<'a> Place<'a> {
+    /// For who answers lines.
+    pub(crate) fn in_force<R: Net + Clock>(self, rt: &'a R) -> InForce<'a, R> {
+        InForce::new(rt, self.files, self.file, self.setup)
+    }
 }
 
 /// The setup that a file has.
@@ -240,24 +299,28 @@ pub(crate) fn door_rules(rules: PortRules) -> DoorRules
 }
 
 /// Listens on a port.
-fn port_of<R: Net>(rt: &R, plan: PortPlan) -> Result<Port, Refusal>
+fn port_of<R: Net>(rt: &R, plan: PortPlan) -> Result<Port, Failure>
     ensures { IfOk result (λ port. port.sub ≡ plan.sub) }
 {
     let PortPlan { sub, port, rules } = plan;
     let address = SocketAddr::from((rules.address, port));
     match PortListener::bind(rt, address) {
         Ok(listener) => Ok(Port::new(sub, door_rules(rules), listener)),
-        Err(error) => Err(told_as(error)),
+        Err(error) => Err(not_bound(BoundBy::Port(sub), Some(address), error)),
     }
 }
 
 /// Listens on the subscribers' ports, in their order.
-fn ports_of<R: Net>(rt: &R, alloc: Global, plans: Vec<PortPlan>) -> Result<Vec<Port>, Refusal>
+fn ports_of<R: Net>(rt: &R, alloc: Global, plans: Vec<PortPlan>) -> Result<Vec<Port>, Failure>
     ensures { IfOk result (λ bound. map (λ p. p.sub) bound.items ≡ map (λ p. p.sub) plans.items) }
 {
     let mut bound = Vec::new(alloc);
     'plans: for plan in plans {
-        bound.push(port_of(rt, plan)?)?;
+        let port = port_of(rt, plan)?;
+        match bound.push(port) {
+            Ok(()) => {}
+            Err(_) => return Err(Failure::Refused(Refusal::NoMemory)),
+        }
     }
     Ok(bound)
 }
@@ -338,7 +401,7 @@ struct Boxes {
     sources: Vec<Mailbox<SourceOrder>>,
     ports: Vec<Mailbox<PortOrder>>,
     names: Vec<Mailbox<Lookup>>,
-    journal: Journal,
+    window: Option<Mailbox<()>>,
 }
 
 /// The waits of the workers of each kind.
@@ -347,6 +410,7 @@ struct Waits {
     sources: Vec<Waiting>,
     ports: Vec<Waiting>,
     names: Vec<Waiting>,
+    window: Option<Waiting>,
 }
 
 /// Serves by workers until they are stopped. Their seats are split from this one, and joined to it at the end.
@@ -367,30 +431,34 @@ fn serve_all<
     seat: Seat,
     plan: Plan,
     desk: Desk<'_, R>,
-    in_force: InForce<'_, R>,
+    known: &Known,
+    place: Place<'_>,
+    stop: &AtomicBool,
 ) -> Result<(), Refusal>
     requires shared { shared.now ≡ N.table }
     requires seat { seat.table ≡ N.table }
 {
-    let stop = AtomicBool::new(false);
     let (source_waits, sources) = mailboxes(rt, alloc, plan.ingest)?;
     let (port_waits, ports) = mailboxes(rt, alloc, plan.serve)?;
     let (name_waits, names) = mailboxes(rt, alloc, 1)?;
+    let windows = usize::from(plan.openings.is_any());
+    let (mut window_waits, mut window_boxes) = mailboxes(rt, alloc, windows)?;
     let waits = Waits {
         sources: source_waits,
         ports: port_waits,
         names: name_waits,
+        window: window_waits.pop(),
     };
     let boxes = Boxes {
         sources,
         ports,
         names,
-        journal: Journal::new(alloc)?,
+        window: window_boxes.pop(),
     };
     let (seat, workers) = make_workers::<R, N>(
-        rt, alloc, shared, seat, plan, waits, &boxes, desk, in_force, &stop,
+        rt, alloc, shared, seat, plan, waits, &boxes, desk, known, place, stop,
     )?;
-    let back = run_workers(rt, alloc, workers, u64::MAX, &stop)?;
+    let back = run_workers(rt, alloc, workers, u64::MAX, stop)?;
     join_all(shared, seat, back);
     Ok(())
 }
@@ -414,7 +482,8 @@ fn make_workers<
     waits: Waits,
     boxes: &'a Boxes,
     desk: Desk<'a, R>,
-    in_force: InForce<'a, R>,
+    known: &'a Known,
+    place: Place<'a>,
     stop: &'a AtomicBool,
 ) -> Result<(Seat, Vec<Worker<'a, R, N>>), Refusal>
     requires shared { shared.now ≡ N.table }
@@ -427,7 +496,15 @@ fn make_workers<
     let neighbours = Neighbours {
         ports: &boxes.ports,
         finder,
-        journal: &boxes.journal,
+        journal: &known.journal,
+        board: &known.board,
+    };
+    let told = Told {
+        sources: &boxes.sources,
+        neighbours,
+        registered: &known.registered,
+        window: boxes.window.as_ref(),
+        stop,
     };
     let mut workers = Vec::new(alloc);
     let (seat, mut callers) = source_workers::<R, N>(
@@ -453,38 +530,40 @@ fn make_workers<
         neighbours,
         plan.now,
     )?;
-    tell_ports(rt, &boxes.journal, &plan.ports);
+    tell_ports(rt, &known.journal, &plan.ports);
     share_ports(&mut servers, plan.ports)?;
     for worker in servers {
         workers.push(Worker::Subscribers(worker))?;
     }
     for waiting in waits.names {
-        let names = Finder::new(rt, alloc, waiting, finder, &boxes.sources, &boxes.journal);
+        let names = Finder::new(rt, alloc, waiting, finder, &boxes.sources, &known.journal);
         workers.push(Worker::Names(names))?;
+    }
+    let (seat, window) = window_worker::<R, N>(
+        rt,
+        alloc,
+        shared,
+        seat,
+        waits.window,
+        plan.openings,
+        told,
+        place,
+        plan.now,
+    )?;
+    if let Some(worker) = window {
+        workers.push(worker)?;
     }
     let (seat, own) = shared.split(seat);
     let gate = SharedGate::new(rt, shared, own);
     workers.push(Worker::Ticks(Ticker::new(rt, gate, plan.tick, neighbours)))?;
-    match Logger::new(rt, alloc, &boxes.journal, LevelFilter::Info, plan.now) {
+    match Logger::new(rt, alloc, &known.journal, plan.now) {
         Ok(log) => workers.push(Worker::Log(log))?,
         Err(error) => return Err(told_as(error)),
     }
     let (seat, own) = shared.split(seat);
     let gate = SharedGate::new(rt, shared, own);
-    let told = Told {
-        sources: &boxes.sources,
-        neighbours,
-        stop,
-    };
-    workers.push(Worker::Lines(Operator::new(
-        rt,
-        alloc,
-        gate,
-        desk,
-        plan.registered,
-        told,
-        in_force,
-    )))?;
+    let in_force = place.in_force(rt);
+    workers.push(Worker::Lines(Operator::new(rt, alloc, gate, desk, told, in_force)))?;
     Ok((seat, workers))
 }
 

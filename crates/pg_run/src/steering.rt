@@ -29,26 +29,28 @@ impl<R: Net + Clock> InForce<'_, R> {
         source: PmuId,
         address: SocketAddrV4,
     ) -> Result<(), Refusal> {
-        if !console.has_source(source) {
+        if !console.has_source(rt, source) {
             return Err(Refusal::NoSuchPmu);
         }
         let address = Address::Known(SocketAddr::V4(address));
         console.told.undial(rt, source);
         console
             .told
-            .dial(rt, dial_to(source, address, &self.rules_of(source)));
+            .dial(rt, dial_to(source, address, &self.rules_of(rt, source)));
         Ok(())
     }
 
     /// The rules of a subscriber's port on this address: else those of the setup, so that `allow` holds for this port too; where
     /// the setup has no port for it, those of a port of which it says nothing.
-    fn port_rules(
+    fn port_rules<Q: Wait>(
         &self,
+        rt: &Q,
         alloc: Global,
         sub: SubId,
         address: Ipv4Addr,
     ) -> Result<PortRules, Refusal> {
-        let Some(door) = self.door_of(sub) else {
+        let setup = self.setup.lock(rt);
+        let Some(door) = setup.doors.iter().find(|it| it.sub == sub) else {
             return Ok(PortRules {
                 sub,
                 address,
@@ -85,7 +87,7 @@ impl<R: Net + Clock> InForce<'_, R> {
         if let Reply::Refused(refusal) = gate.post(Event::Stats(sub)) {
             return Ok(Err(refusal));
         }
-        let rules = match self.port_rules(console.alloc, sub, host) {
+        let rules = match self.port_rules(rt, console.alloc, sub, host) {
             Ok(rules) => rules,
             Err(refusal) => return Ok(Err(refusal)),
         };
@@ -106,7 +108,7 @@ impl<R: Net + Clock> InForce<'_, R> {
 }
 
 impl<R: Net + Clock> Steering for InForce<'_, R> {
-    fn reload<W: Write, Q: Wait, G: Gate>(
+    fn reload<W: Write, Q: Wait + Clock, G: Gate>(
         &mut self,
         rt: &Q,
         console: &mut Console<'_, W>,
@@ -115,7 +117,7 @@ impl<R: Net + Clock> Steering for InForce<'_, R> {
         self.renew(rt, console, gate)
     }
 
-    fn steer<W: Write, Q: Wait, G: Gate>(
+    fn steer<W: Write, Q: Wait + Clock, G: Gate>(
         &mut self,
         rt: &Q,
         console: &mut Console<'_, W>,

@@ -3,12 +3,15 @@
 ghost use Rattle.std.specs.Prelude.{◌≡◌, ◌≢◌, IfOk};
 ghost use Rattle.std.specs.IoError.{error_kind};
 
+use crate::clerk::Counter;
 use crate::operator::Operator;
+use crate::reloading::InForce;
 use pg_serve::{Named, Seat, Shared, SharedGate, Work};
 use pg_service::{
     Dial, Finder, Logger, Mailbox, Neighbours, Port, PortOrder, PortWorker, SourceOrder,
     SourceWorker, Ticker, Waiting,
 };
+use pg_window::Window;
 use pg_wire::Refusal;
 use std::alloc::Global;
 use std::io;
@@ -35,6 +38,7 @@ pub enum Worker<
     Names(Finder<'a, R>),
     Ticks(Ticker<'a, R, N>),
     Lines(Operator<'a, R, N>),
+    Window(Window<'a, R, Counter<'a, R, N, InForce<'a, R>>>),
     Log(Logger<'a, R>),
 }
 
@@ -54,6 +58,7 @@ impl<
             Worker::Names(worker) => worker.turn(),
             Worker::Ticks(worker) => worker.turn(),
             Worker::Lines(worker) => worker.turn(),
+            Worker::Window(worker) => worker.turn(),
             Worker::Log(worker) => worker.turn(),
         }
     }
@@ -77,6 +82,7 @@ impl<
             Worker::Names(_) | Worker::Log(_) => None,
             Worker::Ticks(worker) => Some(worker.into_gate()),
             Worker::Lines(worker) => Some(worker.into_gate()),
+            Worker::Window(worker) => Some(worker.into_clerk().into_gate()),
         }
     }
 }
@@ -193,7 +199,8 @@ pub fn port_workers<'a, R: Wait + Net + Clock, N: Named>(
         let (next, own) = shared.split(rest);
         rest = next;
         let gate = SharedGate::new(rt, shared, own);
-        made.push(PortWorker::new(rt, alloc, gate, waiting, mailbox, neighbours.journal, now))?;
+        let Neighbours { journal, board, .. } = neighbours;
+        made.push(PortWorker::new(rt, alloc, gate, waiting, mailbox, journal, board, now))?;
         number += 1;
     }
     Ok((rest, made))

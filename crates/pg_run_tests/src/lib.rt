@@ -4,4 +4,8 @@
 #[cfg(test)]
 mod lines;
 #[cfg(test)]
+mod peers;
+#[cfg(test)]
 mod reloads;
+#[cfg(test)]
+mod windows;

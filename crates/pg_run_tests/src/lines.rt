@@ -3,16 +3,17 @@ use pg_gateway::{Event, Gate, Gateway, Reply};
 use pg_ingest::fakes::FakeWriter;
 use pg_run::{Console, EditsAlone, Told, answer_lines};
 use pg_service::{
-    Journal, Lookup, Mailbox, Neighbours, Notice, PortOrder, Registered, SourceOrder, Waiting,
-    Watched,
+    Board, Journal, Lookup, Mailbox, Neighbours, Notice, PortOrder, Registered, SourceOrder,
+    Waiting, Watched,
 };
 use pg_wire::{PmuId, PmuKey, Refusal};
 use std::alloc::Global;
 use std::io::ErrorKind;
 use std::net::Net;
 use std::process::Abort;
-use std::sync::Wait;
+use std::rt::Clock;
 use std::sync::atomic::{AtomicBool, Ordering};
+use std::sync::{Mutex, Wait};
 use std::test::*;
 
 /// The mailboxes of a source's worker, a port's worker and the finder.
@@ -22,6 +23,8 @@ struct Boxes {
     ports: Vec<Mailbox<PortOrder>>,
     names: Mailbox<Lookup>,
     journal: Journal,
+    board: Board,
+    registered: Mutex<Registered>,
     waits: [Waiting; 3],
 }
 
@@ -41,13 +44,15 @@ fn make_boxes<R: Net + Abort>(rt: &R, alloc: Global) -> Boxes {
         ports,
         names,
         journal: Journal::new(alloc).expect(rt, "memory"),
+        board: Board::new(alloc),
+        registered: Mutex::new(Registered::new(alloc).expect(rt, "memory")),
         waits: [source_wait, port_wait, name_wait],
     }
 }
 
 /// What a new gateway answers to lines, written by a writer whose call number `fails_at` fails; the gateway, whether all
 /// workers are to end, and the faults that were noted.
-fn answered<R: Net + Abort + Wait>(
+fn answered<R: Net + Abort + Wait + Clock>(
     rt: &R,
     alloc: Global,
     text: &str,
@@ -61,7 +66,10 @@ fn answered<R: Net + Abort + Wait>(
             ports: &boxes.ports,
             finder: &boxes.names,
             journal: &boxes.journal,
+            board: &boxes.board,
         },
+        registered: &boxes.registered,
+        window: None,
         stop: &stop,
     };
     let mut out = FakeWriter {
@@ -71,10 +79,9 @@ fn answered<R: Net + Abort + Wait>(
         fails_at,
         kind: ErrorKind::BrokenPipe,
     };
-    let registered = Registered::new(alloc).expect(rt, "memory");
     let mut gate = Watched::new(Gateway::new(alloc).expect(rt, "memory"));
     let mut reader = text.as_bytes();
-    let mut console = Console::new(alloc, &mut out, registered, told);
+    let mut console = Console::new(alloc, &mut out, told);
     answer_lines(rt, &mut console, &mut gate, &mut reader, &mut EditsAlone);
     drop(console);
     let faults = boxes.journal.count(Notice::ConsoleFault);

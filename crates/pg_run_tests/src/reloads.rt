@@ -1,8 +1,10 @@
 //! The line `reload`, and those about sources and ports, on a running service over loopback: what is asked for is done, and a
 //! neighbour gets the bytes that he gets from a service beside, which runs on by the first setup.
 
+use crate::peers::{
+    PATIENCE, command, config, data, ends, free_port, get, listen, pmu, second, stream, subscriber,
+};
 use pg_run::run_for;
-use pg_wire::{Head, Kind, end_frame, start_frame};
 use std::alloc::Global;
 use std::io::{Read, StdinLock, Write};
 use std::net::{Ipv4Addr, Net, SocketAddr, TcpListener, TcpStream};
@@ -11,11 +13,8 @@ use std::rt::Clock;
 use std::sync::Wait;
 use std::test::*;
 use std::thread::Threads;
-use std::time::{Duration, SystemTime};
+use std::time::Duration;
 use std::{env, fs, io, thread};
-
-/// For how long a byte is awaited, in seconds.
-const PATIENCE: u64 = 20;
 
 /// The peers of both services: source 7, which both call, and the others, which only one calls.
 #[derive(Drop)]
@@ -51,109 +50,11 @@ struct Places {
     third: u16,
 }
 
-/// A PMU with a source of its own.
-fn pmu(alloc: Global, number: u16, address: SocketAddr) -> io::Result<String> {
-    Ok(format!(in alloc; "[[pmu]]\nid = {number}\nconnect = \"{address}\"\n")?)
-}
-
-/// A subscriber with these grants.
-fn subscriber(
-    alloc: Global,
-    number: u16,
-    port: u16,
-    ring: u16,
-    grants: &str,
-) -> io::Result<String> {
-    Ok(format!(in alloc;
-        "[[subscriber]]\nid = {number}\nport = {port}\naddress = \"127.0.0.1\"\nring = {ring}\ngrants = [{grants}]\n"
-    )?)
-}
-
-/// A stream of the subscriber before, of one member.
-fn stream(alloc: Global, number: u16, rate: u16, member: u16) -> io::Result<String> {
-    Ok(format!(in alloc;
-        "[[subscriber.stream]]\nid = {number}\nrate = {rate}\nbase = 1000000\nwait = 1\nwindow = 4\nmembers = [{member}]\n"
-    )?)
-}
-
 /// Subscriber 1, whose table is never changed.
 fn neighbour_table(alloc: Global, port: u16) -> io::Result<String> {
     let sub = subscriber(alloc, 1, port, 16, "7")?;
     let own = stream(alloc, 101, 30, 7)?;
     Ok(format!(in alloc; "{sub}{own}")?)
-}
-
-/// CFG-2 of a source with one PMU of the same number: resolution 1,000,000, one phasor, rate 30.
-fn config(alloc: Global, number: u16) -> io::Result<Vec<u8>> {
-    let head = Head {
-        kind: Kind::CfgTwo,
-        version: 2,
-        size: 74,
-        id: number,
-        soc: 100,
-        quality: 0,
-        frac: 0,
-    };
-    let Ok(mut frame) = start_frame(alloc, &head) else {
-        return Err(io::Error::from(io::ErrorKind::OutOfMemory));
-    };
-    frame.extend_from_slice(b"\0\x0F\x42\x40\0\x01PMU             ")?;
-    frame.extend_from_slice(&number.to_be_bytes())?;
-    frame.extend_from_slice(b"\0\0\0\x01\0\0\0\0VA              \0\0\0\x01\0\0\0\0\0\x1E")?;
-    end_frame(&mut frame);
-    Ok(frame)
-}
-
-/// A data frame of such a source: its phasor tells which it is.
-fn data(alloc: Global, number: u16, soc: u32, place: u32) -> io::Result<Vec<u8>> {
-    let head = Head {
-        kind: Kind::Measured,
-        version: 2,
-        size: 26,
-        id: number,
-        soc,
-        quality: 0,
-        frac: (place % 30) * 33_333,
-    };
-    let Ok(mut frame) = start_frame(alloc, &head) else {
-        return Err(io::Error::from(io::ErrorKind::OutOfMemory));
-    };
-    frame.extend_from_slice(b"\0\0")?;
-    frame.extend_from_slice(&place.to_be_bytes())?;
-    frame.extend_from_slice(b"\0\0\0\0")?;
-    end_frame(&mut frame);
-    Ok(frame)
-}
-
-/// A command to a stream: word 2 starts it, word 5 asks for its CFG-2.
-fn command(alloc: Global, number: u16, word: u16) -> io::Result<Vec<u8>> {
-    let head = Head {
-        kind: Kind::Cmd,
-        version: 2,
-        size: 18,
-        id: number,
-        soc: 100,
-        quality: 0,
-        frac: 0,
-    };
-    let Ok(mut frame) = start_frame(alloc, &head) else {
-        return Err(io::Error::from(io::ErrorKind::OutOfMemory));
-    };
-    frame.extend_from_slice(&word.to_be_bytes())?;
-    end_frame(&mut frame);
-    Ok(frame)
-}
-
-/// So many bytes that come.
-fn get(alloc: Global, stream: &TcpStream, size: usize) -> io::Result<Vec<u8>> {
-    stream.set_read_timeout(Some(Duration::from_secs(PATIENCE)))?;
-    let mut got = Vec::new(alloc);
-    let mut piece = [0u8; 1];
-    for _ in 0..size {
-        (&*stream).read_exact(&mut piece)?;
-        got.push(piece[0])?;
-    }
-    Ok(got)
 }
 
 /// Whether a data frame has the block of this one.
@@ -480,48 +381,6 @@ fn serve_both<
         peers.play().expect(rt, "what a peer waits for");
         (first.join(rt), second.join(rt))
     })
-}
-
-/// A listener on this host, and where it is.
-fn listen<R: Net<Listener = TcpListener, Stream = TcpStream> + Abort>(
-    rt: &R,
-) -> (TcpListener, SocketAddr) {
-    let here = SocketAddr::from((Ipv4Addr::LOCALHOST, 0));
-    let listener = TcpListener::bind(rt, here).expect(rt, "a port");
-    let address = listener.local_addr().expect(rt, "an address");
-    (listener, address)
-}
-
-/// A port that is free, and stays so: the system gives none below 32,768 to who connects.
-fn free_port<R: Net<Listener = TcpListener, Stream = TcpStream> + Abort>(rt: &R) -> u16 {
-    for _ in 0..100 {
-        let (_, address) = listen(rt);
-        let port = 10_000 + address.port() % 20_000;
-        let here = SocketAddr::from((Ipv4Addr::LOCALHOST, port));
-        if TcpListener::bind(rt, here).is_ok() {
-            return port;
-        }
-    }
-    panic!(rt; "no port is free");
-}
-
-/// Both ends of a connection.
-fn ends<R: Net<Listener = TcpListener, Stream = TcpStream> + Abort>(
-    rt: &R,
-) -> (TcpStream, TcpStream) {
-    let (listener, address) = listen(rt);
-    let one = TcpStream::connect(rt, address).expect(rt, "a connection");
-    let (other, _) = listener.accept().expect(rt, "a connection");
-    (one, other)
-}
-
-/// This second, as the services' ticks tell it too.
-fn second<R: Clock + Abort>(rt: &R) -> u32 {
-    let now = SystemTime::now(rt).expect(rt, "a clock");
-    let since = now
-        .duration_since(SystemTime::UNIX_EPOCH)
-        .expect(rt, "a clock after 1970");
-    u32::try_from(since.as_secs()).expect(rt, "a clock before 2106")
 }
 
 #[test]

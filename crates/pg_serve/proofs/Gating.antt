@@ -1,5 +1,5 @@
 -- What a gate that holds a seat has posted, call after call.
-use Rattle.std.proofs.Common.{◌≡◌, ◌∙◌, ◌<◌, zero, suc, Bool, cond, eqb, eq-eqb, ap, ap₂, refl, arith, ℕ, List, [], ◌∷◌, ◌++◌, length, append_assoc, Some}
+use Rattle.std.proofs.Common.{◌≡◌, ◌∙◌, ◌<◌, zero, suc, Bool, cond, eqb, eq-eqb, ap, ap₂, refl, inr, arith, ℕ, List, [], ◌∷◌, ◌++◌, length, append_assoc, length-append, Some}
 use Rattle.std.specs.Prelude.{slice_get}
 use Rattle.std.proofs.lemmas.Grind.{flat_map-append}
 use Rattle.std.proofs.lemmas.List.Sums.{sum_by-cons}
@@ -8,6 +8,8 @@ use Rattle.pg_gateway.specs.declared.event.Event.{Event}
 use Rattle.pg_gateway.specs.declared.event.Reply.{Reply}
 use Rattle.pg_gateway.specs.Histories.{said}
 use Rattle.pg_serve.specs.Sharing.{Call, Posted}
+use Rattle.pg_serve.specs.Onward.{GoesOn}
+use Rattle.pg_serve.specs.Continuing.{answered_more}
 use Rattle.pg_serve.specs.Gates.{said_by, said_at}
 
 get_here : (xs : List Call) (x : Call) → slice_get (xs ++ x ∷ []) (length xs) ≡ Some x
@@ -47,3 +49,15 @@ said_more v w e r posted =
     ap₂ said_at posted.seen posted.own
     ∙ flat_map-append (λ place. said_by (slice_get (before ++ (e, r) ∷ []) place)) v.own (length before ∷ [])
     ∙ ap₂ (λ x y. x ++ (y ++ [])) old here
+
+-- a call makes a seat go on
+pub goes_on_posted : (v w : Known Event Reply) (e : Event) (r : Reply) → Posted v e r w → w.table ≡ v.table → GoesOn v w
+goes_on_posted v w e r posted table = record {
+  table = table;
+  pieces = (posted.between, (e, r)) ∷ [];
+  seen = posted.seen ∙ append_assoc v.seen posted.between ((e, r) ∷ []);
+  own = posted.own ∙ ap (λ n. v.own ++ n ∷ []) (length-append v.seen posted.between);
+  said = said_more v w e r posted;
+  answered = answered_more posted.between ((e, r) ∷ []) posted.between_answers (posted.answers, tt);
+  legal = inr posted.legal;
+}

@@ -13,7 +13,7 @@ use Rattle.pg_gateway.specs.Views.{Lossless, AllLossless, handed_to, full_answer
 use Rattle.pg_gateway.proofs.ViewLaws.{own-run}
 use Rattle.pg_gateway.proofs.AnswerLaws.{handed-run, lossless_full}
 use Rattle.pg_gateway.proofs.RunLaws.{full_history, own_reply}
-use Rattle.pg_serve.specs.Sharing.{Call, history_of, Posted, HandsByViews, AnswersByView}
+use Rattle.pg_serve.specs.Sharing.{Call, AreAnswered, history_of, Posted, HandsByViews, AnswersByView}
 use Rattle.pg_serve.proofs.Doing.{state_after-append}
 
 -- the state after one call more
@@ -40,6 +40,16 @@ last_after before [] x legal = subst (λ h. MayCall h x.0 x.1) (sym (append-nil 
 last_after before (y ∷ calls) x legal = subst (λ h. MayCall h x.0 x.1) (append_assoc before (y ∷ []) calls)
     (last_after (before ++ y ∷ []) calls x legal.1)
 
+-- each call of a legal history is answered by its event's form
+answered_after : (before calls : List Call) (x : Call) → IsLegalAfter MayCall before (calls ++ x ∷ []) → AreAnswered calls
+answered_after before [] x legal = tt
+answered_after before (y ∷ calls) x legal = (legal.0.answers, answered_after (before ++ y ∷ []) calls x legal.1)
+
+-- and so those behind the first ones
+answered_behind : (before first calls : List Call) (x : Call) → IsLegalAfter MayCall before ((first ++ calls) ++ x ∷ []) → AreAnswered calls
+answered_behind before [] calls x legal = answered_after before calls x legal
+answered_behind before (y ∷ first) calls x legal = answered_behind (before ++ y ∷ []) first calls x legal.1
+
 pub posts : (v : Known Event Reply) (e : Event) (r : Reply) (w : Known Event Reply) → Called MayCall v e r w → Posted v e r w
 posts v e r w called =
     let last = last_after [] (v.seen ++ called.0) (e, r) (subst (λ h. IsLegal MayCall h) called.1 called.3) in record {
@@ -50,6 +60,7 @@ posts v e r w called =
       legal = legal_calls w.seen called.3;
       may = last.may;
       answers = last.answers;
+      between_answers = answered_behind [] v.seen called.0 (e, r) (subst (λ h. IsLegal MayCall h) called.1 called.3);
     }
 
 pub hands_by_views : (h : List (Occurrence × Answer)) → Legal opening h → HandsByViews h

@@ -13,3 +13,4 @@ pub mod Besides
 pub mod Legally
 pub mod Sessions
 pub mod Gating
+pub mod Delivering

@@ -22,6 +22,11 @@ Call = Event × Reply
 abbrev pub history_of : List Call → List (Occurrence × Answer)
 history_of calls = map said calls
 
+-- each reply is one that may come to its event, by its form
+abbrev pub AreAnswered : List Call → Type 0
+AreAnswered [] = Unit {0}
+AreAnswered (call ∷ calls) = Answers call.0 call.1 × AreAnswered calls
+
 -- The call (e, r) is the last of a legal history of the gateway that begins with all that the caller had seen. Its place is one
 -- more of the caller's own, and the others stand in what the caller had seen, so that the calls in between are those of others
 pub record Posted (v : Known Event Reply) (e : Event) (r : Reply) (w : Known Event Reply) : Type 0 where
@@ -33,6 +38,7 @@ pub record Posted (v : Known Event Reply) (e : Event) (r : Reply) (w : Known Eve
   -- the reply is one that the gateway of one thread gives after the calls before it
   pub may : May (state_after opening (history_of (v.seen ++ between))) (occurrence e) (told r)
   pub answers : Answers e r
+  pub between_answers : AreAnswered between
 
 -- Where no answer of the history tells a loss or want of memory, its drains hand to each subscriber, all told, what a private
 -- gateway of that subscriber's view hands out: bytes, frames begun, gaps

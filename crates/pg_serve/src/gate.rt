@@ -5,6 +5,8 @@ ghost use Rattle.atomic_table.specs.Seated.{TableId};
 ghost use Rattle.pg_gateway.specs.Occurrences.{occurrence, told};
 ghost use Rattle.pg_gateway.specs.Posting.{Answers, Notes};
 ghost use Rattle.pg_serve.specs.Gates.{said_at};
+ghost use Rattle.pg_serve.specs.Continuing.{goes_on_same, goes_on_more};
+ghost use Rattle.pg_serve.specs.Onward.{GoesOn};
 ghost use Rattle.pg_serve.specs.Sharing.{history_of, Posted, HandsByViews, AnswersByView};
 
 use crate::seat_gate::SeatGate;
@@ -70,6 +72,12 @@ impl<'a, R: Wait, N: Named> SharedGate<'a, R, N> {
 impl<R: Wait, N: Named> Gate for SharedGate<'_, R, N> {
     ghost posts = { λ g. Some (said_at g.seen g.own) };
 
+    ghost goes_on = { λ g h. GoesOn g h };
+
+    ghost stays = { λ g. goes_on_same g };
+
+    ghost joins = { λ g h k. goes_on_more g h k };
+
     /// Posts at its seat. It waits by parking, and what is promised holds if it returns.
     fn post(&mut self, event: Event) -> Reply
         // All that `Shared::post` promises of the seat.
@@ -79,6 +87,7 @@ impl<R: Wait, N: Named> Gate for SharedGate<'_, R, N> {
         ensures answers { Answers event result }
         ensures posted { Notes (Some (said_at self.old.seen self.old.own)) (Some (said_at self.new.seen self.new.own))
             ((occurrence event, told result) ∷ []) }
+        ensures goes_on { GoesOn self.old self.new }
     {
         self.gate.post(event)
     }

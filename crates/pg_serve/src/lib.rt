@@ -20,7 +20,8 @@ pub use asked::event_of;
 pub use gate::{Named, SharedGate};
 pub use input::{Input, Note, Output};
 pub use laws::{
-    equal_views_queue_alike, neighbours_change_nothing, own_blocks_alone, serving_goes_on,
+    deliveries_go_on, equal_views_queue_alike, links_tell_on, neighbours_change_nothing,
+    own_blocks_alone, serving_goes_on,
 };
 pub use seat_gate::SeatGate;
 pub use serve::serve_session;

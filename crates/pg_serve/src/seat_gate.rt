@@ -4,6 +4,8 @@ ghost use Rattle.std.specs.Prelude.{◌≡◌, [], ◌∷◌, Some};
 ghost use Rattle.pg_gateway.specs.Occurrences.{occurrence, told};
 ghost use Rattle.pg_gateway.specs.Posting.{Answers, Notes};
 ghost use Rattle.pg_serve.specs.Gates.{said_at};
+ghost use Rattle.pg_serve.specs.Continuing.{goes_on_same, goes_on_more};
+ghost use Rattle.pg_serve.specs.Onward.{GoesOn};
 ghost use Rattle.pg_serve.specs.Sharing.{history_of, Posted, HandsByViews, AnswersByView};
 
 use crate::shared::{Seat, Shared};
@@ -68,6 +70,12 @@ impl<'a, R: Wait> SeatGate<'a, R> {
 impl<R: Wait> Gate for SeatGate<'_, R> {
     ghost posts = { λ g. Some (said_at g.seen g.own) };
 
+    ghost goes_on = { λ g h. GoesOn g h };
+
+    ghost stays = { λ g. goes_on_same g };
+
+    ghost joins = { λ g h k. goes_on_more g h k };
+
     /// Posts at its seat. It waits by parking, and what is promised holds if it returns.
     fn post(&mut self, event: Event) -> Reply
         ensures table { self.new.table ≡ self.old.table }
@@ -78,6 +86,7 @@ impl<R: Wait> Gate for SeatGate<'_, R> {
         ensures answers { Answers event result }
         ensures posted { Notes (Some (said_at self.old.seen self.old.own)) (Some (said_at self.new.seen self.new.own))
             ((occurrence event, told result) ∷ []) }
+        ensures goes_on { GoesOn self.old self.new }
     {
         let Some(seat) = self.seat.take() else {
             unreachable!();

@@ -42,6 +42,7 @@ fn post_commands<G: Gate>(session: &mut Session, gate: &mut G) -> Option<Refusal
     ensures breaks { BreaksBy result session.new }
     ensures room { length session.new.bytes.held < 65535 }
     ensures left { session.new.left ≡ session.old.left }
+    ensures onward { G.goes_on gate.old gate.new }
 {
     'commands: loop {
         match session.next_command() {
@@ -70,6 +71,7 @@ fn post_drain<G: Gate>(session: &mut Session, gate: &mut G)
     requires left { session.old.left ≡ [] }
     ensures ran { (r w : Option (List ℕ)) → Turned (Some End.Quiet) session.old session.new r r w w (G.posts gate.old) (G.posts gate.new) }
     ensures same { session.new ≡ record session.old { left = session.new.left } }
+    ensures onward { G.goes_on gate.old gate.new }
 {
     let buffer = session.take_buffer();
     let Reply::Drained { buf, out } = gate.post(Event::Drain(session.sub(), buffer)) else {
@@ -115,6 +117,7 @@ fn turn<R: Read, W: Write, G: Gate>(
     ensures goes { result ≡ None → session.new.left ≡ [] }
     ensures ends { IfSome result (λ end. EndsBy end session.new) }
     ensures closed { result ≡ Some End.Closed → IsAtEnd (R.remaining reader.new) }
+    ensures onward { G.goes_on gate.old gate.new }
 {
     if let Some(end) = push_left(session, writer) {
         return Some(end);
@@ -152,6 +155,7 @@ fn serve_turns<R: Read, W: Write, G: Gate>(
     ensures given { HasGivenAll session.new }
     ensures ends { 0 < turns → EndsBy result session.new }
     ensures closed { result ≡ End.Closed → IsAtEnd (R.remaining reader.new) }
+    ensures onward { G.goes_on gate.old gate.new }
 {
     // What it was fed by others comes first, so that there is room. A break shows again in a turn.
     post_commands(session, gate);
@@ -166,6 +170,7 @@ fn serve_turns<R: Read, W: Write, G: Gate>(
 /// Posts that the subscriber hangs up.
 fn hang_up<G: Gate>(session: &Session, gate: &mut G)
     ensures posted { HangsUp session.now (G.posts gate.old) (G.posts gate.new) }
+    ensures onward { G.goes_on gate.old gate.new }
 {
     gate.post(Event::Hangup(session.sub()));
 }
@@ -187,6 +192,7 @@ pub fn serve_session<R: Read, W: Write, G: Gate>(
     // All is written, but where a write was cut short; and nothing broke, but where the call ends by the break.
     ensures ends { 0 < turns → EndsBy result session.new }
     ensures closed { result ≡ End.Closed → IsAtEnd (R.remaining reader.new) }
+    ensures onward { G.goes_on gate.old gate.new }
 {
     let end = serve_turns(session, reader, writer, gate, turns);
     match end {

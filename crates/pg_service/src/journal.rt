@@ -1,6 +1,6 @@
 //! What the service notes of what it meets.
 
-use log::Level;
+use log::{Level, LevelFilter};
 use pg_ingest::End;
 use pg_wire::{PmuId, Refusal, SubId};
 use std::alloc::Global;
@@ -77,19 +77,26 @@ pub enum Notice {
     Reloaded = 30,
     /// The setup was to be read again and could not be, or had a fault: nothing changed.
     NotReloaded = 31,
+    /// A worker did not tell in time how its sources or ports stand.
+    Unanswered = 32,
+    /// The page and the metrics are served.
+    Shown = 33,
+    /// Lines are taken at the control socket.
+    Opened = 34,
 }
 
 /// How many kinds of notices there are.
-const KINDS: usize = 32;
+const KINDS: usize = 35;
 
 impl Notice {
     /// The kinds that are counted where nobody is named, so that the log tells how often they were met.
-    pub(crate) const UNNAMED: [Notice; 5] = [
+    pub(crate) const UNNAMED: [Notice; 6] = [
         Notice::PollFault,
         Notice::ClockFault,
         Notice::MailFault,
         Notice::ConsoleFault,
         Notice::Untold,
+        Notice::Unanswered,
     ];
 
     /// How much it matters (own rule): an error is a fault of this machine, a warning what an operator may have to mend.
@@ -113,6 +120,7 @@ impl Notice {
             | Notice::Ignored
             | Notice::Gap
             | Notice::Untold
+            | Notice::Unanswered
             | Notice::NotReloaded => Level::Warn,
             Notice::Called
             | Notice::Made
@@ -125,6 +133,8 @@ impl Notice {
             | Notice::Listening
             | Notice::Undialed
             | Notice::Unlistened
+            | Notice::Shown
+            | Notice::Opened
             | Notice::Reloaded => Level::Info,
         }
     }
@@ -201,15 +211,16 @@ impl Entry {
 /// As many entries wait for the log at most.
 const WAITING: usize = 1_024;
 
-/// What the service met, which all its workers share: its counts, and what waits for the log.
+/// What the service met, which all its workers share: its counts, what waits for the log, and what the log tells of it.
 #[derive(Drop)]
 pub struct Journal {
     counts: Vec<AtomicU64>,
     entries: Mutex<Vec<Entry>>,
+    filter: Mutex<LevelFilter>,
 }
 
 impl Journal {
-    /// Nothing was met.
+    /// Nothing was met. The log tells what is of the level Info or graver.
     ///
     /// # Errors
     ///
@@ -222,7 +233,19 @@ impl Journal {
         Ok(Journal {
             counts,
             entries: Mutex::new(Vec::new(alloc)),
+            filter: Mutex::new(LevelFilter::Info),
         })
+    }
+
+    /// From now on the log tells what this allows.
+    pub fn set_filter<R: Wait>(&self, rt: &R, filter: LevelFilter) {
+        let mut held = self.filter.lock(rt);
+        *held = filter;
+    }
+
+    /// What the log tells.
+    pub fn filter<R: Wait>(&self, rt: &R) -> LevelFilter {
+        *self.filter.lock(rt)
     }
 
     /// Counts what was met, and keeps it for the log. Where too much waits there, it is counted alone.

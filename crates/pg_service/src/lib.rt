@@ -3,6 +3,7 @@
 //! clocks, by state machines over any reader, writer, gate and time. All of it is a rule of this project.
 #![tactic(auto)]
 
+mod board;
 mod counted;
 mod digest;
 mod door;
@@ -19,11 +20,13 @@ mod ports;
 mod registered;
 mod source;
 mod sources;
+mod stamps;
 mod ticker;
 mod waiting;
 mod watched;
 mod words;
 
+pub use board::{Board, PortReport, Reach, Reports, SourceReport};
 pub use counted::{Counted, Never};
 pub use digest::Digest;
 pub use door::{Door, DoorRules, Knock};
@@ -38,7 +41,8 @@ pub use plan::{CallPlan, Due, Phase};
 pub use ports::{Port, PortWorker};
 pub use registered::{After, Change, Registered};
 pub use source::{SourceLine, Turn};
-pub use sources::{Address, Dial, Neighbours, SourceWorker};
+pub use sources::{Address, Dial, Neighbours, REASONS, SourceWorker};
+pub use stamps::Stamps;
 pub use ticker::Ticker;
 pub use waiting::Waiting;
 pub use watched::{Guarding, Seen, Watched};

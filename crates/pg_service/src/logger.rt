@@ -4,7 +4,6 @@ use crate::digest::Digest;
 use crate::journal::{Detail, Entry, Journal, Notice, Whom};
 use crate::outlet::Outlet;
 use jiff::Timestamp;
-use log::LevelFilter;
 use pg_serve::Work;
 use std::alloc::Global;
 use std::net::Net;
@@ -26,16 +25,15 @@ pub struct Logger<'a, R: Wait + Clock + Eprint + Net> {
     rt: &'a R,
     alloc: Global,
     journal: &'a Journal,
-    filter: LevelFilter,
     digest: Digest,
     outlet: Outlet,
     started: Instant,
     // How often each kind without a name was met before.
-    counted: [u64; 5],
+    counted: [u64; 6],
 }
 
 impl<'a, R: Wait + Clock + Eprint + Net> Logger<'a, R> {
-    /// A log of what this journal keeps, as far as the filter allows it.
+    /// A log of what this journal keeps, as far as its filter allows it.
     ///
     /// # Errors
     ///
@@ -44,25 +42,23 @@ impl<'a, R: Wait + Clock + Eprint + Net> Logger<'a, R> {
         rt: &'a R,
         alloc: Global,
         journal: &'a Journal,
-        filter: LevelFilter,
         now: Instant,
     ) -> io::Result<Logger<'a, R>> {
         Ok(Logger {
             rt,
             alloc,
             journal,
-            filter,
             digest: Digest::new(alloc),
             outlet: Outlet::new(rt, alloc)?,
             started: now,
-            counted: [0; 5],
+            counted: [0; 6],
         })
     }
 
     /// Writes a line, if standard error takes it now, and tells whether nothing was left out.
     fn write(&mut self, entry: &Entry) -> bool {
         let level = entry.notice.level();
-        if !self.filter.allows(level) {
+        if !self.journal.filter(self.rt).allows(level) {
             return true;
         }
         if !self.outlet.takes_a_line() {

@@ -28,6 +28,8 @@ pub enum SourceOrder {
     Rest(PmuId),
     /// The address of this source's name was found, or it has none.
     Found(PmuId, Option<SocketAddr>),
+    /// Its worker tells at the board how its sources stand, in answer to this asking.
+    Report(u64),
 }
 
 /// What a worker that serves subscribers is told.
@@ -46,6 +48,8 @@ pub enum PortOrder {
     Close(SubId),
     /// Who has connected is hung up.
     HangUp(SubId),
+    /// Its worker tells at the board how its ports stand, in answer to this asking.
+    Report(u64),
 }
 
 /// What one worker is told, by whichever thread (own rule), and how it is woken. Wakes that come together count as one.
@@ -91,7 +95,7 @@ impl<O: Drop> Mailbox<O> {
     }
 
     /// All orders that were left, in the order in which they came. From now on the worker can be woken again.
-    pub(crate) fn take<R: Wait>(&self, rt: &R, alloc: Global) -> Vec<O> {
+    pub fn take<R: Wait>(&self, rt: &R, alloc: Global) -> Vec<O> {
         self.pending.store(false, Ordering::SeqCst);
         let mut held = self.orders.lock(rt);
         mem::replace(&mut *held, Vec::new(alloc))

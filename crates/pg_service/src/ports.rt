@@ -2,6 +2,7 @@
 
 ghost use Rattle.std.specs.Prelude.{◌≡◌, None, option_map};
 
+use crate::board::{Board, PortReport};
 use crate::counted::Counted;
 use crate::door::{Door, DoorRules, Knock};
 use crate::guest::{Gone, Stay};
@@ -9,6 +10,7 @@ use crate::journal::{Detail, Entry, Journal, Notice, Whom};
 use crate::mail::{Mailbox, PortOrder};
 use crate::patience::Overdue;
 use crate::sources::READS;
+use crate::stamps::{Aged, Stamps};
 use crate::waiting::{PATIENCE_MS, Waiting, sooner};
 use crate::watched::Watched;
 use mio::net::{TcpListener, TcpStream};
@@ -17,6 +19,7 @@ use pg_command::Word;
 use pg_gateway::Gate;
 use pg_limits::Budget;
 use pg_serve::{Named, SharedGate, Work};
+use pg_status::Histogram;
 use pg_wire::SubId;
 use std::alloc::Global;
 use std::io::ErrorKind;
@@ -44,6 +47,13 @@ pub struct Port {
     is_asked: bool,
     // When it is tried again to accept, where the system could not; None where it could.
     retry: Option<Instant>,
+    // From where who has connected came, and since when somebody or nobody has; None before the port is served.
+    peer: Option<SocketAddr>,
+    since: Option<Instant>,
+    // The frames that were dropped before those that were handed out.
+    gaps: u64,
+    // What goes out to who has connected.
+    stamps: Stamps,
 }
 
 impl Model for Port {
@@ -68,6 +78,10 @@ impl Port {
             is_ready: false,
             is_asked: false,
             retry: None,
+            peer: None,
+            since: None,
+            gaps: 0,
+            stamps: Stamps::new(),
         }
     }
 
@@ -99,7 +113,10 @@ pub struct PortWorker<'a, R: Wait + Net + Clock, N: Named> {
     waiting: Waiting,
     mailbox: &'a Mailbox<PortOrder>,
     journal: &'a Journal,
+    board: &'a Board,
     ports: Vec<Option<Port>>,
+    // How old the data frames were that its ports handed out.
+    ages: Histogram,
     // The places of ports that are served in this turn, and of those that have more to do in the next.
     ready: Vec<usize>,
     serving: Vec<usize>,
@@ -117,6 +134,7 @@ impl<'a, R: Wait + Net + Clock, N: Named> PortWorker<'a, R, N> {
         waiting: Waiting,
         mailbox: &'a Mailbox<PortOrder>,
         journal: &'a Journal,
+        board: &'a Board,
         now: Instant,
     ) -> PortWorker<'a, R, N> {
         PortWorker {
@@ -126,7 +144,9 @@ impl<'a, R: Wait + Net + Clock, N: Named> PortWorker<'a, R, N> {
             waiting,
             mailbox,
             journal,
+            board,
             ports: Vec::new(alloc),
+            ages: Histogram::new(),
             ready: Vec::new(alloc),
             serving: Vec::new(alloc),
             due: None,
@@ -148,6 +168,7 @@ impl<'a, R: Wait + Net + Clock, N: Named> PortWorker<'a, R, N> {
             .poll()
             .registry()
             .register(&mut port.listener, listening(place), Interest::READABLE)?;
+        port.since = Some(self.now);
         match self.ports.get_mut(place) {
             Some(free) => *free = Some(port),
             None => self.ports.push(Some(port))?,
@@ -210,7 +231,20 @@ impl<'a, R: Wait + Net + Clock, N: Named> PortWorker<'a, R, N> {
             }
             PortOrder::Close(sub) => self.close(sub),
             PortOrder::HangUp(sub) => self.hang_up(sub),
+            PortOrder::Report(asking) => self.report(asking),
         }
+    }
+
+    /// Tells at the board how its ports stand.
+    fn report(&self, asking: u64) {
+        let mut told = Vec::new(self.alloc);
+        for port in self.ports.iter().flatten() {
+            if told.push(port.report(self.now)).is_err() {
+                self.journal.note(Notice::MailFault);
+            }
+        }
+        self.board
+            .tell_ports(self.rt, self.journal, asking, told, &self.ages);
     }
 
     /// Serves this port too, and tells the log.
@@ -250,7 +284,7 @@ impl<'a, R: Wait + Net + Clock, N: Named> PortWorker<'a, R, N> {
     fn hang_up(&mut self, sub: SubId) {
         for port in self.ports.iter_mut().flatten() {
             if port.door.sub() == sub && port.door.hang_up(&mut self.gate) {
-                port.stream = None;
+                port.part(self.now);
                 let entry = port.entry(Notice::HungUp, Detail::Nothing);
                 self.journal.tell(self.rt, entry);
             }
@@ -265,7 +299,7 @@ impl<'a, R: Wait + Net + Clock, N: Named> PortWorker<'a, R, N> {
                 continue;
             };
             if let Some(overdue) = port.door.expire(&mut self.gate, self.now) {
-                port.stream = None;
+                port.part(self.now);
                 let entry = port.entry(notice_of(Gone::Overdue(overdue)), Detail::Nothing);
                 self.journal.tell(self.rt, entry);
             }
@@ -297,7 +331,13 @@ impl<'a, R: Wait + Net + Clock, N: Named> PortWorker<'a, R, N> {
             return;
         };
         port.is_ready = false;
-        let mut is_more = port.serve(self.rt, &mut self.gate, self.journal, self.now);
+        let mut is_more = port.serve(
+            self.rt,
+            &mut self.gate,
+            self.journal,
+            &mut self.ages,
+            self.now,
+        );
         if port.is_asked && port.retry.is_none() {
             is_more |= port.accept(
                 self.rt,
@@ -332,7 +372,13 @@ impl<'a, R: Wait + Net + Clock, N: Named> PortWorker<'a, R, N> {
             if port.is_ready {
                 continue;
             }
-            let is_more = port.hand_out(self.rt, &mut self.gate, self.journal, self.now);
+            let is_more = port.hand_out(
+                self.rt,
+                &mut self.gate,
+                self.journal,
+                &mut self.ages,
+                self.now,
+            );
             self.after(place, is_more);
         }
     }
@@ -374,39 +420,75 @@ impl Port {
         sooner(waited, self.retry)
     }
 
+    /// Its connection is closed.
+    fn part(&mut self, now: Instant) {
+        self.stream = None;
+        self.peer = None;
+        self.since = Some(now);
+        self.stamps.restart();
+    }
+
+    /// How it stands.
+    fn report(&self, now: Instant) -> PortReport {
+        let since = match self.since {
+            Some(since) => now.saturating_duration_since(since),
+            None => Duration::ZERO,
+        };
+        PortReport {
+            sub: self.door.sub(),
+            address: self.address().ok(),
+            peer: self.peer,
+            since,
+            frames: self.stamps.frames(),
+            gaps: self.gaps,
+        }
+    }
+
     /// Serves who has connected, and tells whether more is to be done.
-    fn serve<R: Wait, G: Gate>(
+    fn serve<R: Wait + Clock, G: Gate>(
         &mut self,
         rt: &R,
         gate: &mut Watched<G>,
         journal: &Journal,
+        ages: &mut Histogram,
         now: Instant,
     ) -> bool {
         let Some(stream) = &self.stream else {
             return false;
         };
         let mut reader = Budget::new(Counted::new(stream), READS);
-        let mut writer = Counted::new(stream);
+        let mut writer = Counted::new(Aged {
+            rt,
+            inner: stream,
+            stamps: &mut self.stamps,
+            ages,
+        });
         let stay = self.door.serve(&mut reader, &mut writer, gate, now);
         self.tell_seen(rt, gate, journal);
-        self.leave(rt, stay, journal)
+        self.leave(rt, stay, journal, now)
     }
 
     /// Hands out what waits for who has connected, and tells whether more is to be done.
-    fn hand_out<R: Wait, G: Gate>(
+    fn hand_out<R: Wait + Clock, G: Gate>(
         &mut self,
         rt: &R,
         gate: &mut Watched<G>,
         journal: &Journal,
+        ages: &mut Histogram,
         now: Instant,
     ) -> bool {
         let Some(stream) = &self.stream else {
             return false;
         };
-        let mut writer = Counted::new(stream);
+        let mut writer = Counted::new(Aged {
+            rt,
+            inner: stream,
+            stamps: &mut self.stamps,
+            ages,
+        });
         let stay = self.door.hand_out(&mut writer, gate, now);
         self.tell_seen(rt, gate, journal);
-        self.leave(rt, stay, journal)
+        self.leave(rt, stay, journal, now)
     }
 
     /// What is told of it.
@@ -415,9 +497,10 @@ impl Port {
     }
 
     /// Tells what was met while who has connected was served.
-    fn tell_seen<R: Wait, G: Gate>(&self, rt: &R, gate: &mut Watched<G>, journal: &Journal) {
+    fn tell_seen<R: Wait, G: Gate>(&mut self, rt: &R, gate: &mut Watched<G>, journal: &Journal) {
         let seen = gate.take_seen();
         if seen.gap > 0 {
+            self.gaps = self.gaps.saturating_add(seen.gap);
             let mut entry = self.entry(Notice::Gap, Detail::Nothing);
             entry.times = seen.gap;
             journal.tell(rt, entry);
@@ -433,12 +516,12 @@ impl Port {
     }
 
     /// Closes the connection where it ended, and tells whether more is to be done.
-    fn leave<R: Wait>(&mut self, rt: &R, stay: Stay, journal: &Journal) -> bool {
+    fn leave<R: Wait>(&mut self, rt: &R, stay: Stay, journal: &Journal, now: Instant) -> bool {
         match stay {
             Stay::Waits => false,
             Stay::More => true,
             Stay::Gone(gone) => {
-                self.stream = None;
+                self.part(now);
                 let detail = match gone {
                     Gone::Ended(end) => Detail::Ended(end),
                     Gone::Overdue(_) => Detail::Nothing,
@@ -495,7 +578,7 @@ impl Port {
     ) {
         match self.door.knock(alloc, gate, host_of(address), now) {
             Knock::Welcome { .. } => {
-                self.stream = None;
+                self.part(now);
                 let both = Interest::READABLE | Interest::WRITABLE;
                 let token = connected(place);
                 if poll.registry().register(&mut stream, token, both).is_err() {
@@ -507,6 +590,7 @@ impl Port {
                     journal.tell(rt, self.entry(Notice::SocketFault, Detail::Nothing));
                 }
                 self.stream = Some(stream);
+                self.peer = Some(address);
                 journal.tell(rt, self.entry(Notice::Connected, Detail::At(address)));
             }
             Knock::Foreign => {
@@ -514,7 +598,7 @@ impl Port {
             }
             Knock::Refused { refusal, replaced } => {
                 if replaced {
-                    self.stream = None;
+                    self.part(now);
                 }
                 journal.tell(rt, self.entry(Notice::Refused, Detail::Because(refusal)));
             }

@@ -7,6 +7,9 @@ use std::alloc::Global;
 /// As many PMUs as a gateway has at most.
 const MOST: usize = 256;
 
+/// As many subscribers as a gateway has at most.
+const MOST_SUBS: usize = 64;
+
 /// What workers are to be told after an edit that was done (own rule).
 #[derive(Clone, Copy, Debug, PartialEq, Eq)]
 pub enum After {
@@ -27,6 +30,8 @@ pub enum Change {
     Adds(PmuKey),
     /// A PMU leaves the registry.
     Drops(PmuKey),
+    /// A subscriber is added.
+    Enters(SubId),
     /// A subscriber leaves.
     Leaves(SubId),
     /// Something else.
@@ -39,16 +44,18 @@ impl Change {
         match edit {
             Edit::AddPmu(key) => Change::Adds(*key),
             Edit::DropPmu(key) => Change::Drops(*key),
+            Edit::AddSub(sub, ..) => Change::Enters(*sub),
             Edit::DropSub(sub) => Change::Leaves(*sub),
             _ => Change::Other,
         }
     }
 }
 
-/// The PMUs that are registered at the gateway, by the edits that were done (own rule).
+/// The PMUs and subscribers that are registered at the gateway, by the edits that were done (own rule).
 #[derive(Drop)]
 pub struct Registered {
     keys: Vec<PmuKey>,
+    subs: Vec<SubId>,
 }
 
 impl Registered {
@@ -60,7 +67,18 @@ impl Registered {
     pub fn new(alloc: Global) -> Result<Registered, Refusal> {
         Ok(Registered {
             keys: Vec::with_capacity(alloc, MOST)?,
+            subs: Vec::with_capacity(alloc, MOST_SUBS)?,
         })
+    }
+
+    /// The PMUs, in no order.
+    pub fn pmus(&self) -> &[PmuKey] {
+        self.keys.as_slice()
+    }
+
+    /// The subscribers, in no order.
+    pub fn subscribers(&self) -> &[SubId] {
+        self.subs.as_slice()
     }
 
     /// Whether a PMU of this source is registered.
@@ -75,11 +93,18 @@ impl Registered {
         }
     }
 
+    /// A subscriber is there no more.
+    fn drop_sub(&mut self, gone: SubId) {
+        if let Some(place) = self.subs.iter().position(|sub| *sub == gone) {
+            self.subs.swap_remove(place);
+        }
+    }
+
     /// Keeps what an edit changed that was answered so, and tells what workers are to be told.
     ///
     /// # Errors
     ///
-    /// `NoMemory`, where more PMUs are registered than a gateway has.
+    /// `NoMemory`, where more PMUs or subscribers are registered than a gateway has.
     pub fn note(&mut self, change: Change, reply: &Reply) -> Result<After, Refusal> {
         let Reply::Done { .. } = reply else {
             return Ok(After::Nothing);
@@ -99,7 +124,14 @@ impl Registered {
                     Ok(After::Rest(source))
                 }
             }
-            Change::Leaves(sub) => Ok(After::HangUp(sub)),
+            Change::Enters(sub) => {
+                self.subs.push(sub)?;
+                Ok(After::Nothing)
+            }
+            Change::Leaves(sub) => {
+                self.drop_sub(sub);
+                Ok(After::HangUp(sub))
+            }
             Change::Other => Ok(After::Nothing),
         }
     }

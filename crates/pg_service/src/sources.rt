@@ -1,5 +1,6 @@
 //! Workers that call sources.
 
+use crate::board::{Board, Reach, SourceReport};
 use crate::finder::Lookup;
 use crate::journal::{Detail, Entry, Journal, Notice, Whom};
 use crate::mail::{Mailbox, PortOrder, SourceOrder};
@@ -26,7 +27,7 @@ use std::time::{Duration, Instant, SystemTime};
 pub(crate) const READS: u32 = 16;
 
 /// Each reason for which a frame can be ignored.
-const REASONS: [Refusal; 40] = [
+pub const REASONS: [Refusal; 40] = [
     Refusal::NoMemory,
     Refusal::BadFirst,
     Refusal::BadSecond,
@@ -102,6 +103,9 @@ struct Source {
     has_announced: bool,
     // What its link had counted when the log was told of it last.
     told: PmuStats,
+    // The measurements that were too far from the clock, and when the last event came.
+    far: u64,
+    heard: Option<Instant>,
 }
 
 /// Whom a worker tells what: the subscribers' workers, whom it wakes where frames were made, and who looks up names.
@@ -113,6 +117,8 @@ pub struct Neighbours<'a> {
     pub finder: &'a Mailbox<Lookup>,
     /// Where it is noted what was met.
     pub journal: &'a Journal,
+    /// Where workers tell how their sources and ports stand.
+    pub board: &'a Board,
 }
 
 impl Neighbours<'_> {
@@ -204,6 +210,8 @@ impl<'a, R: Wait + Net + Clock, N: Named> SourceWorker<'a, R, N> {
             old.address = Some(address);
             old.stream = None;
             old.told = PmuStats::new();
+            old.far = 0;
+            old.heard = None;
             return Ok(());
         }
         self.sources.push(Source {
@@ -213,6 +221,8 @@ impl<'a, R: Wait + Net + Clock, N: Named> SourceWorker<'a, R, N> {
             is_ready: false,
             has_announced: false,
             told: PmuStats::new(),
+            far: 0,
+            heard: None,
         })?;
         Ok(())
     }
@@ -299,7 +309,24 @@ impl<'a, R: Wait + Net + Clock, N: Named> SourceWorker<'a, R, N> {
                 }
             }
             SourceOrder::Found(id, address) => self.connect_found(id, address),
+            SourceOrder::Report(asking) => self.report(asking),
         }
+    }
+
+    /// Tells at the board how its sources stand.
+    fn report(&self, asking: u64) {
+        let mut told = Vec::new(self.alloc);
+        for source in &self.sources {
+            let is_told = match source.report(self.alloc, self.now) {
+                Ok(report) => told.push(report).is_ok(),
+                Err(_) => false,
+            };
+            if !is_told {
+                self.note(Notice::MailFault);
+            }
+        }
+        let Neighbours { journal, board, .. } = self.neighbours;
+        board.tell_sources(self.rt, journal, asking, told);
     }
 
     /// A source's name was looked up.
@@ -388,6 +415,10 @@ impl<'a, R: Wait + Net + Clock, N: Named> SourceWorker<'a, R, N> {
         if seen.made > 0 {
             self.neighbours.wake_ports();
         }
+        if seen.events > 0 {
+            source.heard = Some(self.now);
+        }
+        source.far = source.far.saturating_add(seen.far);
         source.tell_seen(self.rt, self.neighbours.journal, &seen);
         match turn {
             Turn::Waits => {}
@@ -416,6 +447,35 @@ impl Source {
     /// What is told of it.
     fn entry(&self, notice: Notice, detail: Detail) -> Entry {
         Entry::new(notice, Whom::Source(self.line.source()), detail)
+    }
+
+    /// How it stands.
+    fn report(&self, alloc: Global, now: Instant) -> Result<SourceReport, AllocError> {
+        let address = match &self.address {
+            Some(Address::Known(address)) => Some(format!(in alloc; "{address}")?),
+            Some(Address::Name(name)) => Some(String::from_str(alloc, name.as_str())?),
+            None => None,
+        };
+        let reach = match self.line.plan().phase() {
+            Phase::Up { .. } => Reach::Up,
+            Phase::Calling => Reach::Calling,
+            Phase::Resting => match self.line.plan().left(now) {
+                Some(left) => Reach::Pause(left),
+                None => Reach::Rests,
+            },
+        };
+        let last = match self.heard {
+            Some(heard) => Some(now.saturating_duration_since(heard)),
+            None => None,
+        };
+        Ok(SourceReport {
+            source: self.line.source(),
+            address,
+            reach,
+            counts: *self.line.link().stats(),
+            far: self.far,
+            last,
+        })
     }
 
     /// Tells what was met while it was served.

@@ -50,7 +50,7 @@ impl Waiting {
 
     /// Waits until a socket is ready or the worker is woken, so long at most. Where the system can't
     /// wait, that is noted, and nothing is ready for a while.
-    pub(crate) fn wait<R: Clock>(&mut self, rt: &R, journal: &Journal, most: Duration) {
+    pub fn wait<R: Clock>(&mut self, rt: &R, journal: &Journal, most: Duration) {
         self.named.clear();
         self.is_woken = false;
         match self.poll.poll(&mut self.events, Some(most)) {
@@ -74,12 +74,12 @@ impl Waiting {
     }
 
     /// Whether the last wait was ended by a wake.
-    pub(crate) fn is_woken(&self) -> bool {
+    pub fn is_woken(&self) -> bool {
         self.is_woken
     }
 
     /// The sockets that the last wait named.
-    pub(crate) fn named(&self) -> &[usize] {
+    pub fn named(&self) -> &[usize] {
         &self.named
     }
 }

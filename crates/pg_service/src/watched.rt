@@ -165,6 +165,12 @@ impl<G: Gate> Watched<G> {
 impl<G: Gate> Gate for Watched<G> {
     ghost posts = { λ w. through w.guarding (G.posts w.gate) };
 
+    ghost goes_on = { λ v w. G.goes_on v.gate w.gate };
+
+    ghost stays = { λ w. G.stays w.gate };
+
+    ghost joins = { λ v w x. G.joins v.gate w.gate x.gate };
+
     fn post(&mut self, event: Event) -> Reply {
         if self.refuses(&event) {
             return Reply::Refused(Refusal::FarClock);

@@ -69,7 +69,11 @@ fn said(notice: Notice) -> &'static str {
         Notice::Untold => "more was met than the log keeps",
         Notice::Undialed => "called no longer",
         Notice::Unlistened => "its port is closed",
+        Notice::Shown => "page and metrics are served",
+        Notice::Opened => "lines are taken at the control socket",
         Notice::Reloaded => "the setup was read again, and what changed is done",
+        Notice::Unanswered =>
+            "a worker did not tell within a second how its sources or ports stand",
         Notice::NotReloaded => "the setup was read again; nothing changes",
     }
 }
@@ -84,7 +88,7 @@ fn write_detail<W: fmt::Write>(
         Detail::Nothing => Ok(()),
         Detail::At(address) => {
             let joined = match notice {
-                Notice::Called | Notice::Listening => " at ",
+                Notice::Called | Notice::Listening | Notice::Shown => " at ",
                 Notice::Connected => " from ",
                 _ => ": ",
             };

@@ -21,6 +21,8 @@ mod setups;
 #[cfg(test)]
 mod sources;
 #[cfg(test)]
+mod stamping;
+#[cfg(test)]
 mod ticking;
 #[cfg(test)]
 mod turns;

@@ -9,8 +9,8 @@ use pg_limits::Allow;
 use pg_ring::{RingBytes, RingSize};
 use pg_serve::{Named, Seat, Shared, SharedGate, Work, run_workers};
 use pg_service::{
-    Address, Dial, DoorRules, Entry, Journal, Lookup, Mailbox, Neighbours, Notice, Port, PortOrder,
-    PortWorker, SourceOrder, SourceWorker, Waiting, Whom,
+    Address, Board, Dial, DoorRules, Entry, Journal, Lookup, Mailbox, Neighbours, Notice, Port,
+    PortOrder, PortWorker, SourceOrder, SourceWorker, Waiting, Whom,
 };
 use pg_stream::{Definition, HeaderText, Members};
 use pg_wire::{PmuKey, StreamId};
@@ -81,6 +81,7 @@ struct Boxes {
     ports: Vec<Mailbox<PortOrder>>,
     names: Mailbox<Lookup>,
     journal: Journal,
+    board: Board,
 }
 
 /// Reads so many bytes.
@@ -287,11 +288,13 @@ fn talked<
         ports,
         names: Mailbox::new(alloc, name_waits.poll()).expect(rt, "a mailbox"),
         journal: Journal::new(alloc).expect(rt, "memory"),
+        board: Board::new(alloc),
     };
     let neighbours = Neighbours {
         ports: &boxes.ports,
         finder: &boxes.names,
         journal: &boxes.journal,
+        board: &boxes.board,
     };
     let (one, other) = shared.split(seat);
     let gate = SharedGate::<R, N>::new(rt, shared, one);
@@ -317,6 +320,7 @@ fn talked<
         port_waits,
         &boxes.ports[0],
         &boxes.journal,
+        &boxes.board,
         now,
     );
     let (first, second) = (port(rt, 1), port(rt, 20));

@@ -8,7 +8,7 @@ use pg_gateway::{Event, Gate, Gateway, Reply};
 use pg_ingest::fakes::{FakeReader, FakeWriter};
 use pg_ingest::{Link, run_link};
 use pg_serve::{Named, Seat, Shared, SharedGate, Work};
-use pg_service::{Journal, Lookup, Mailbox, Neighbours, Notice, Ticker, Waiting};
+use pg_service::{Board, Journal, Lookup, Mailbox, Neighbours, Notice, Ticker, Waiting};
 use std::alloc::Global;
 use std::io::ErrorKind;
 use std::marker::Brand;
@@ -68,10 +68,12 @@ fn tick<R: Abort + Eprint + Wait + Net + Clock, N: Named>(
     let waiting = Waiting::new(rt, alloc).expect(rt, "a poll");
     let finder = Mailbox::<Lookup>::new(alloc, waiting.poll()).expect(rt, "a mailbox");
     let journal = Journal::new(alloc).expect(rt, "memory");
+    let board = Board::new(alloc);
     let neighbours = Neighbours {
         ports: &[],
         finder: &finder,
         journal: &journal,
+        board: &board,
     };
     let gate = SharedGate::<R, N>::new(rt, shared, seat);
     let mut ticker = Ticker::new(rt, gate, Duration::from_millis(1), neighbours);

@@ -9,7 +9,7 @@ use pg_gateway::Gateway;
 use pg_limits::Allow;
 use pg_serve::{Named, Seat, Shared, SharedGate, Work};
 use pg_service::{
-    Address, Dial, DoorRules, Journal, Lookup, Mailbox, Neighbours, Notice, Port, PortOrder,
+    Address, Board, Dial, DoorRules, Journal, Lookup, Mailbox, Neighbours, Notice, Port, PortOrder,
     PortWorker, SourceOrder, SourceWorker, Waiting,
 };
 use std::alloc::Global;
@@ -82,8 +82,9 @@ fn reconnect<
     let waiting = Waiting::new(rt, alloc).expect(rt, "a poll");
     let mailbox = Mailbox::new(alloc, waiting.poll()).expect(rt, "a mailbox");
     let journal = Journal::new(alloc).expect(rt, "memory");
+    let board = Board::new(alloc);
     let gate = SharedGate::<R, N>::new(rt, shared, seat);
-    let mut worker = PortWorker::new(rt, alloc, gate, waiting, &mailbox, &journal, now);
+    let mut worker = PortWorker::new(rt, alloc, gate, waiting, &mailbox, &journal, &board, now);
     let listener = PortListener::bind(rt, here()).expect(rt, "a port");
     let other = PortListener::bind(rt, here()).expect(rt, "a port");
     let address = listener.local_addr().expect(rt, "an address");
@@ -158,10 +159,12 @@ fn follow<
     let mailbox = Mailbox::new(alloc, waiting.poll()).expect(rt, "a mailbox");
     let finder = Mailbox::<Lookup>::new(alloc, names.poll()).expect(rt, "a mailbox");
     let journal = Journal::new(alloc).expect(rt, "memory");
+    let board = Board::new(alloc);
     let neighbours = Neighbours {
         ports: &[],
         finder: &finder,
         journal: &journal,
+        board: &board,
     };
     let gate = SharedGate::<R, N>::new(rt, shared, seat);
     let mut worker = SourceWorker::new(rt, alloc, gate, waiting, 0, &mailbox, neighbours, now);

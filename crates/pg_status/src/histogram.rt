@@ -3,9 +3,6 @@
 ghost use Rattle.std.specs.Prelude.{◌≡◌, ◌+◌, ◌<◌, IfSome, length, min, slice_index, slice_set};
 ghost use Rattle.pg_status.specs.Ages.{beyond_after, bucket_of, no_ages, one_more, with_one_more};
 
-use std::alloc::{AllocError, Global};
-use std::sync::atomic::{AtomicU64, Ordering};
-
 /// How many bounds there are.
 pub const BUCKETS: usize = 12;
 
@@ -66,53 +63,13 @@ impl Histogram {
         }
         self.micros = self.micros.saturating_add(micros);
     }
-}
 
-/// A histogram that threads share (own rule): a worker counts in one of its own, and adds it once a turn.
-#[derive(Drop)]
-pub struct SharedHistogram {
-    counts: Vec<AtomicU64>,
-    beyond: AtomicU64,
-    micros: AtomicU64,
-}
-
-impl SharedHistogram {
-    /// No age was seen.
-    ///
-    /// # Errors
-    ///
-    /// There is no memory.
-    pub fn new(alloc: Global) -> Result<SharedHistogram, AllocError> {
-        let mut counts = Vec::with_capacity(alloc, BUCKETS)?;
-        for _ in 0..BUCKETS {
-            counts.push(AtomicU64::new(0))?;
+    /// Counts all ages that were counted elsewhere too.
+    pub fn add(&mut self, seen: &Histogram) {
+        for (count, more) in self.counts.iter_mut().zip(seen.counts.iter()) {
+            *count = (*count).saturating_add(*more);
         }
-        Ok(SharedHistogram {
-            counts,
-            beyond: AtomicU64::new(0),
-            micros: AtomicU64::new(0),
-        })
-    }
-
-    /// Adds what was counted elsewhere.
-    pub fn add(&self, seen: &Histogram) {
-        for (count, more) in self.counts.iter().zip(seen.counts.iter()) {
-            if *more > 0 {
-                count.fetch_add(*more, Ordering::Relaxed);
-            }
-        }
-        self.beyond.fetch_add(seen.beyond, Ordering::Relaxed);
-        self.micros.fetch_add(seen.micros, Ordering::Relaxed);
-    }
-
-    /// What was added so far.
-    pub fn read(&self) -> Histogram {
-        let mut seen = Histogram::new();
-        for (count, told) in self.counts.iter().zip(seen.counts.iter_mut()) {
-            *told = count.load(Ordering::Relaxed);
-        }
-        seen.beyond = self.beyond.load(Ordering::Relaxed);
-        seen.micros = self.micros.load(Ordering::Relaxed);
-        seen
+        self.beyond = self.beyond.saturating_add(seen.beyond);
+        self.micros = self.micros.saturating_add(seen.micros);
     }
 }

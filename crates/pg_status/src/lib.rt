@@ -19,7 +19,7 @@ mod status;
 pub use contents::contents_of;
 pub use dialogue::{Answer, Dialogue, OWED_BYTES, Turned};
 pub use exchange::{Exchange, Step};
-pub use histogram::{BOUNDS, BUCKETS, Histogram, SharedHistogram};
+pub use histogram::{BOUNDS, BUCKETS, Histogram};
 pub use history::{Frames, History, Past, SECONDS, Total};
 pub use json::state_json;
 pub use lines::{LINE_BYTES, Lines};

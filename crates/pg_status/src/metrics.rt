@@ -64,6 +64,7 @@ enum SubscriberFigure {
     Late,
     Twice,
     Handed,
+    Frames,
     Gaps,
     QueueFrames,
     QueueBytes,
@@ -80,6 +81,7 @@ impl SubscriberFigure {
             SubscriberFigure::Late => "pdcgw_subscriber_late_blocks_total",
             SubscriberFigure::Twice => "pdcgw_subscriber_twice_blocks_total",
             SubscriberFigure::Handed => "pdcgw_subscriber_handed_bytes_total",
+            SubscriberFigure::Frames => "pdcgw_subscriber_handed_frames_total",
             SubscriberFigure::Gaps => "pdcgw_subscriber_gap_frames_total",
             SubscriberFigure::QueueFrames => "pdcgw_subscriber_queue_frames",
             SubscriberFigure::QueueBytes => "pdcgw_subscriber_queue_bytes",
@@ -108,6 +110,7 @@ impl SubscriberFigure {
             SubscriberFigure::Late => "Blocks that came for a slot that had left.",
             SubscriberFigure::Twice => "Blocks that came a second time.",
             SubscriberFigure::Handed => "Bytes handed out to the subscriber.",
+            SubscriberFigure::Frames => "Data frames handed out to the subscriber.",
             SubscriberFigure::Gaps => {
                 "Data frames that are missing before one that was handed out to the subscriber."
             }
@@ -132,6 +135,7 @@ impl SubscriberFigure {
             SubscriberFigure::Late => subscriber.late,
             SubscriberFigure::Twice => subscriber.twice,
             SubscriberFigure::Handed => subscriber.handed,
+            SubscriberFigure::Frames => subscriber.frames,
             SubscriberFigure::Gaps => subscriber.gaps,
             SubscriberFigure::QueueFrames => subscriber.queue.frames,
             SubscriberFigure::QueueBytes => subscriber.queue.bytes,
@@ -263,6 +267,7 @@ fn print_subscribers<W: Write>(out: &mut W, subscribers: &[SubscriberState]) -> 
         SubscriberFigure::Late,
         SubscriberFigure::Twice,
         SubscriberFigure::Handed,
+        SubscriberFigure::Frames,
         SubscriberFigure::Gaps,
         SubscriberFigure::QueueFrames,
         SubscriberFigure::QueueBytes,

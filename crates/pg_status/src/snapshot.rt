@@ -82,6 +82,8 @@ pub struct SubscriberState {
     pub twice: u64,
     /// Bytes handed out.
     pub handed: u64,
+    /// Data frames handed out since its port was opened.
+    pub frames: u64,
     /// The sum of the gaps that were handed out: data frames that are missing before one that was handed out.
     pub gaps: u64,
     /// What waits for it.

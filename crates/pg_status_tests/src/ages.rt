@@ -1,6 +1,6 @@
 //! Histograms.
 
-use pg_status::{Histogram, SharedHistogram};
+use pg_status::Histogram;
 use std::test::*;
 
 #[test]
@@ -22,16 +22,17 @@ fn ages_at_their_bounds(rt: HostRuntime) {
 
 /// What two workers saw is added.
 #[test]
-fn shared_ages(rt: HostRuntime) {
-    let shared = SharedHistogram::new(rt.alloc()).expect(&rt, "memory");
+fn ages_are_added(rt: HostRuntime) {
     let mut one = Histogram::new();
     one.observe(7_000);
     one.observe(60_000_000);
-    shared.add(&one);
-    assert_eq!(rt; shared.read(), one);
     let mut two = Histogram::new();
     two.observe(8_000);
-    shared.add(&two);
-    one.observe(8_000);
-    assert_eq!(rt; shared.read(), one);
+    two.observe(40_000);
+    one.add(&two);
+    assert_eq!(rt; one.counts, [0, 2, 0, 1, 0, 0, 0, 0, 0, 0, 0, 0]);
+    assert!(rt; one.beyond == 1 && one.micros == 60_055_000);
+    two.micros = u64::MAX;
+    one.add(&two);
+    assert!(rt; one.micros == u64::MAX);
 }

@@ -32,6 +32,7 @@ pub fn subscriber(rt: &impl Abort, number: u16, presence: Presence) -> Subscribe
         late: 0,
         twice: 0,
         handed: 0,
+        frames: 0,
         gaps: 0,
         queue: Queue {
             frames: 0,
@@ -94,6 +95,7 @@ pub fn snapshot(rt: &impl Abort, alloc: Global) -> Snapshot {
     busy.late = 3;
     busy.twice = 5;
     busy.handed = 9360;
+    busy.frames = 84;
     busy.gaps = 6;
     busy.queue = Queue {
         frames: 2,

@@ -83,6 +83,10 @@ pdcgw_subscriber_twice_blocks_total{subscriber=\"65535\"} 0
 # TYPE pdcgw_subscriber_handed_bytes_total counter
 pdcgw_subscriber_handed_bytes_total{subscriber=\"1\"} 9360
 pdcgw_subscriber_handed_bytes_total{subscriber=\"65535\"} 0
+# HELP pdcgw_subscriber_handed_frames_total Data frames handed out to the subscriber.
+# TYPE pdcgw_subscriber_handed_frames_total counter
+pdcgw_subscriber_handed_frames_total{subscriber=\"1\"} 84
+pdcgw_subscriber_handed_frames_total{subscriber=\"65535\"} 0
 # HELP pdcgw_subscriber_gap_frames_total Data frames that are missing before one that was handed out to the subscriber.
 # TYPE pdcgw_subscriber_gap_frames_total counter
 pdcgw_subscriber_gap_frames_total{subscriber=\"1\"} 6

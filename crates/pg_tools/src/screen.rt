@@ -141,12 +141,14 @@ struct Page {
     text: String,
     line: String,
     lines: usize,
+    /// The lines that it has at most.
+    most: usize,
 }
 
 impl Page {
     /// Ends the line that is written, cut to the columns; the rest of it is wiped. Past the last line nothing is added.
     fn end_line(&mut self) -> Result<(), AllocError> {
-        if self.lines < LINES {
+        if self.lines < self.most {
             for letter in self.line.chars().take(COLUMNS) {
                 self.text.push(letter)?;
             }
@@ -165,17 +167,13 @@ pub fn draw(alloc: Global, view: &View<'_>, before: Before) -> Result<(String, u
         text: String::new(alloc),
         line: String::new(alloc),
         lines: 0,
+        most: LINES.saturating_sub(view.notes.lines().count()),
     };
     draw_head(&mut page, view)?;
     if let Some(frame) = view.frame {
-        let count = frame.count();
-        for (i, part) in frame.config.parts.iter().enumerate() {
-            if i < count {
-                let reading = Reading::new(part, frame.block(i));
-                draw_pmu(&mut page, part, &reading, view.histories.get(i), count)?;
-            }
-        }
+        draw_pmus(&mut page, view, frame)?;
     }
+    page.most = LINES;
     for note in view.notes.lines() {
         page.line.push_str(note)?;
         page.end_line()?;
@@ -248,13 +246,42 @@ fn draw_head(page: &mut Page, view: &View<'_>) -> Result<(), AllocError> {
     page.end_line()
 }
 
+/// The PMUs of a frame, as far as there are lines for whole ones; of the first one as much as there is room for. Where that is
+/// not all, the last line tells so.
+fn draw_pmus(page: &mut Page, view: &View<'_>, frame: &DataFrame) -> Result<(), AllocError> {
+    let count = frame.count();
+    let rows = if count == 1 { 4 } else { 1 };
+    for (i, part) in frame.config.parts.iter().enumerate() {
+        if i >= count {
+            return Ok(());
+        }
+        // A line is kept to tell of those that do not fit.
+        let kept = if i.saturating_add(1) < count { 1 } else { 0 };
+        let phasor_lines = usize::from(part.phasors).div_ceil(2);
+        let needed = (2 + usize::from(rows) + kept).saturating_add(phasor_lines);
+        let fits = needed <= page.most.saturating_sub(page.lines);
+        if fits || i == 0 {
+            let reading = Reading::new(part, frame.block(i));
+            page.most = page.most.saturating_sub(usize::from(!fits));
+            draw_pmu(page, part, &reading, view.histories.get(i), rows)?;
+            page.most = page.most.saturating_add(usize::from(!fits));
+        }
+        if !fits {
+            page.line
+                .push_str("there is no room for more here; --csv has all of it")?;
+            return page.end_line();
+        }
+    }
+    Ok(())
+}
+
 /// One PMU: its name and state, the last minute of its frequency, its channels.
 fn draw_pmu(
     page: &mut Page,
     part: &PmuConfig,
     reading: &Reading<'_>,
     history: Option<&History>,
-    count: usize,
+    rows: u8,
 ) -> Result<(), AllocError> {
     let station = reading.station();
     let status = Status(reading.stat());
@@ -272,7 +299,7 @@ fn draw_pmu(
     }
     page.end_line()?;
     if let Some(history) = history {
-        draw_history(page, history, if count == 1 { 4 } else { 1 })?;
+        draw_history(page, history, rows)?;
     }
     draw_phasors(page, reading, usize::from(part.phasors))?;
     draw_others(

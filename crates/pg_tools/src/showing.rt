@@ -20,8 +20,11 @@ use std::sync::Arc;
 use std::time::Duration;
 use std::{fs, io};
 
-/// How long one wait for bytes is at most, in milliseconds: a screen is drawn so often.
+/// How long one wait for bytes is at most, in milliseconds.
 const TURN: u64 = 100;
+
+/// A tenth of a second, in microseconds. A screen is drawn once in each.
+const TENTH: u64 = 100_000;
 
 /// How many turns a connection is waited for.
 const CONNECTING: u32 = 50;
@@ -190,6 +193,8 @@ struct Show {
     delay: Option<i64>,
     trouble: Option<Trouble>,
     lines: usize,
+    /// The tenth of a second, counted from 1970, in which the screen was drawn last.
+    drawn: u64,
     is_over: bool,
 }
 
@@ -246,11 +251,12 @@ where
             show.end_second(rt, watched, at.micros.saturating_sub(start.micros))?;
         }
         let goes_on = audience.turn(&show.watcher);
-        if watched.style == Style::Screen {
-            show.draw(rt, watched, audience)?;
-        }
         let micros = at.micros.saturating_sub(start.micros);
-        if show.is_over || !goes_on || has_all(&show, watched, micros) {
+        let is_last = show.is_over || !goes_on || has_all(&show, watched, micros);
+        if watched.style == Style::Screen {
+            show.draw(rt, watched, audience, at, is_last)?;
+        }
+        if is_last {
             break;
         }
     }
@@ -392,6 +398,7 @@ impl Show {
             delay: None,
             trouble: None,
             lines: 0,
+            drawn: 0,
             is_over: false,
         })
     }
@@ -547,13 +554,20 @@ impl Show {
         Ok(())
     }
 
-    /// Draws the screen.
+    /// Draws the screen, unless that was done in this tenth of a second. The last screen is drawn in any case.
     fn draw<R: Print, A: Audience>(
         &mut self,
         rt: &R,
         watched: &Watched<'_>,
         audience: &mut A,
+        at: Moment,
+        is_last: bool,
     ) -> Result<(), Fault> {
+        let tenth = at.micros / TENTH;
+        if tenth == self.drawn && !is_last {
+            return Ok(());
+        }
+        self.drawn = tenth;
         let before = Before {
             lines: self.lines,
             typed: audience.take_typed(),
@@ -576,7 +590,7 @@ impl Show {
         written(print!(rt; "{text}"))
     }
 
-    /// Tells at the end what was counted.
+    /// Tells at the end what was counted: on standard error, where values stand on standard output.
     fn end<R: Print + Eprint>(&mut self, rt: &R, watched: &Watched<'_>) -> Result<(), Fault> {
         let tally = self.watcher.tally();
         let frames = tally.frames;
@@ -586,12 +600,18 @@ impl Show {
         let wrong = tally.wrong_checks;
         let order = tally.not_rising;
         let misfits = tally.misfits;
-        if let Style::Csv | Style::Quiet = watched.style {
-            return Ok(());
-        }
-        written(println!(rt;
+        let counted = made(format!(in self.alloc;
             "{frames} frames, {missing} missing, {fillers} fillers, {troubles} troubles ({wrong} CHK, {order} order, {misfits} misfit)"
-        ))
+        ))?;
+        match watched.style {
+            Style::Quiet => Ok(()),
+            Style::Csv => {
+                // Where standard error can't be written either, the status still tells.
+                let _ = eprintln!(rt; "pdcgw: {counted}");
+                Ok(())
+            }
+            Style::Screen | Style::Plain => written(println!(rt; "{counted}")),
+        }
     }
 }
 

@@ -25,7 +25,7 @@ const PIECE: usize = 4_096;
 /// The reads of a turn at most.
 const READS: u32 = 64;
 
-/// The most bytes that wait for a slow peer. Data frames that come due behind them are left out.
+/// The most bytes that wait for a slow peer. Behind them no command is read, and data frames that come due are left out.
 const WAITING: usize = 1_048_576;
 
 /// What happened at a simulated source, to be told.
@@ -37,7 +37,7 @@ pub enum Happening {
     Closed,
     /// This was heard from the peer.
     Heard(Heard),
-    /// Frames were left out, since the peer does not read.
+    /// Frames are left out from here on, since the peer does not read.
     Stalled,
 }
 
@@ -47,6 +47,8 @@ struct Connection {
     stream: TcpStream,
     out: Vec<u8>,
     begun: usize,
+    /// Whether frames are left out, since too much waits.
+    is_stalled: bool,
 }
 
 /// A simulated source that listens on a port, and serves one connection after another.
@@ -184,16 +186,21 @@ impl Simulator {
         Ok(())
     }
 
-    /// Adds the data frames that are due to what waits for the peer. Where too much waits they are left out.
+    /// Adds the data frames that are due to what waits for the peer. Where too much waits they are left out, which is told once
+    /// until the peer reads again.
     fn play(&mut self, at: Moment, happened: &mut Vec<Happening>) -> io::Result<()> {
         let Some(connection) = &mut self.connection else {
             return Ok(());
         };
         if connection.out.len() <= WAITING {
+            connection.is_stalled = false;
             return told(self.source.due(at, &mut connection.out));
         }
         self.source.pass(at);
-        happened.push(Happening::Stalled)?;
+        if !connection.is_stalled {
+            connection.is_stalled = true;
+            happened.push(Happening::Stalled)?;
+        }
         Ok(())
     }
 
@@ -213,12 +220,14 @@ impl Simulator {
             stream,
             out: Vec::new(self.alloc),
             begun: 0,
+            is_stalled: false,
         });
         happened.push(Happening::Connected(peer))?;
         Ok(())
     }
 
-    /// Reads the peer's bytes and obeys them, and tells whether the connection stays open.
+    /// Reads the peer's bytes and obeys them, and tells whether the connection stays open. Who does not take its answers is not
+    /// read any further.
     fn read(
         &mut self,
         at: Moment,
@@ -226,6 +235,9 @@ impl Simulator {
         happened: &mut Vec<Happening>,
     ) -> io::Result<bool> {
         for _ in 0..READS {
+            if connection.out.len() > WAITING {
+                break;
+            }
             let mut piece = [0; PIECE];
             match (&connection.stream).read(&mut piece) {
                 Ok(0) => return Ok(false),

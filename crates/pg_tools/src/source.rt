@@ -213,10 +213,7 @@ impl Source {
             return Ok(());
         };
         let rate = self.settings.rate;
-        let end = self
-            .clock(now)
-            .earlier(self.settings.faults.late)
-            .slot(rate);
+        let end = self.last_due(now);
         let first = first_due(last, end, rate);
         if first <= end {
             self.sending = Some(end);
@@ -227,13 +224,21 @@ impl Source {
         Ok(())
     }
 
+    /// The last slot that is due at an instant: the fault `late` puts it off.
+    fn last_due(&self, now: Moment) -> u64 {
+        self.clock(now)
+            .earlier(self.settings.faults.late)
+            .slot(self.settings.rate)
+    }
+
     /// Passes the data frames that are due at an instant over: the peer does not take them.
     pub fn pass(&mut self, now: Moment)
         ensures { self.old.sending ≡ None → self.new.sending ≡ None }
     {
-        if self.sending.is_some() {
-            self.sending = Some(self.clock(now).slot(self.settings.rate));
-        }
+        let Some(last) = self.sending else {
+            return;
+        };
+        self.sending = Some(self.last_due(now).max(last));
     }
 
     /// Adds the data frame of a slot, unless a fault leaves it out.

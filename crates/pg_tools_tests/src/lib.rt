@@ -13,4 +13,6 @@ mod playing;
 #[cfg(test)]
 mod signals;
 #[cfg(test)]
+mod unread;
+#[cfg(test)]
 mod watching;

@@ -242,3 +242,33 @@ fn two_frames(
         .expect(rt, "memory");
     read_by(link, &out)
 }
+
+// Frames that are passed over are those that were due, and no later ones: with the fault `late` the others still come.
+#[test]
+fn passed_frames(rt: HostRuntime) {
+    let alloc = rt.alloc();
+    let faults = Faults {
+        late: 1_000,
+        ..Faults::NONE
+    };
+    let mut source = source(&rt, alloc, 1, faults);
+    let mut out = Vec::new(alloc);
+    let start = write_command(number(&rt, 7), SOC, 2);
+    hear(&rt, &mut source, Moment::new(SOC, 0), &start, &mut out);
+    // Of the slots 1 to 60 behind the start those up to 30 were due.
+    source.pass(Moment::new(SOC + 2, 0));
+    source
+        .due(Moment::new(SOC + 2, 0), &mut out)
+        .expect(&rt, "memory");
+    assert!(rt; out.is_empty());
+    source
+        .due(Moment::new(SOC + 3, 0), &mut out)
+        .expect(&rt, "memory");
+    assert_eq!(rt; source.counts().sent, 30);
+    // Its clock was set back: nothing is sent twice.
+    source.pass(Moment::new(SOC + 1, 0));
+    source
+        .due(Moment::new(SOC + 3, 0), &mut out)
+        .expect(&rt, "memory");
+    assert_eq!(rt; source.counts().sent, 30);
+}

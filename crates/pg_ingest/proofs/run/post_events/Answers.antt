@@ -6,13 +6,14 @@ use Rattle.pg_ingest.proofs.Turns.{Posted, posted_none, posted_more, ran_told, r
 use Rattle.pg_ingest.proofs.run.post_events.Goals as goal
 
 pub events-init : goal.events-init
-events-init g c = record { ran = λ r w. ran_as Nothing Posted posted_none _ _ _ _ _ _ _ _ (ran_nothing _ r w _); left = refl }
+events-init g c = record { ran = λ r w. ran_as Nothing Posted posted_none _ _ _ _ _ _ _ _ (ran_nothing _ r w _); onward = g.met.G.Gate.stays _; left = refl }
 
 pub events-preserved-in-Announce-2 : goal.events-preserved-in-Announce-2
 events-preserved-in-Announce-2 g c = record {
   ran = λ r w.
       ran_more Posted Posted Posted posted_more _ _ _ _ _ _ _ _ _ _ _ _ (c.events.invariant.ran r w)
       (ran_told _ _ r w _ _ (announces (arc_value c.in-Announce.config)) _ c.in-Announce.ensures.gives c.post.ensures.posted refl c.next_event.ensures.left);
+  onward = g.met.G.Gate.joins _ _ _ c.events.invariant.onward c.post.ensures.goes_on;
   left = c.next_event.ensures.left ∙ c.events.invariant.left;
 }
 
@@ -21,6 +22,7 @@ events-preserved-in-Measure-2 g c = record {
   ran = λ r w.
       ran_more Posted Posted Posted posted_more _ _ _ _ _ _ _ _ _ _ _ _ (c.events.invariant.ran r w)
       (ran_told _ _ r w _ _ (measures (arc_value c.in-Measure.frame)) _ c.in-Measure.ensures.gives c.post-in-Measure.ensures.posted refl c.next_event.ensures.left);
+  onward = g.met.G.Gate.joins _ _ _ c.events.invariant.onward c.post-in-Measure.ensures.goes_on;
   left = c.next_event.ensures.left ∙ c.events.invariant.left;
 }
 
@@ -29,6 +31,7 @@ events-preserved g c = record {
   ran = λ r w.
       ran_more Posted Posted Posted posted_more _ _ _ _ _ _ _ _ _ _ _ _ (c.events.invariant.ran r w)
       (ran_ignored _ _ r w _ c.in-Ignored.field-0 c.in-Ignored.ensures.gives c.next_event.ensures.left);
+  onward = c.events.invariant.onward;
   left = c.next_event.ensures.left ∙ c.events.invariant.left;
 }
 

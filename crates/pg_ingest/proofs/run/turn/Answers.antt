@@ -26,3 +26,6 @@ returns-in-None-clause-ran g c =
     turn_as _ _ (ends_or_goes c.read_piece-size.result.1 c.post_events.new.link.left xs size left c.read_piece-size.ensures.within c.read_piece-size.ensures.some c.read_piece-size.ensures.end) _ _ _ _ _ _ _ _
     (turn_done _ _ _ _ _ left _ _ _ _ (take size xs) None (c.write_owed.ensures.ran _ _) (c.write_owed.ensures.none c.in_default.is) small c.read_piece-size.ensures.read
     c.feed.ensures.shows (ap (λ (v : Linking). v.left) c.feed.ensures.state) (c.in-None.ensures.ran _ _))
+
+pub returns-in-Some-clause-onward : goal.returns-in-Some-clause-onward
+returns-in-Some-clause-onward g c = g.met.G.Gate.stays _

@@ -10,4 +10,5 @@ returns g c = record {
     told c.post.result,
     subst (λ u. Notes (g.G.Gate.posts c.args.gate.now) (g.G.Gate.posts c.post.new.self) ((asks u hangup, told c.post.result) ∷ [])) c.sub.ensures.value c.post.ensures.posted,
   );
+  onward = c.post.ensures.goes_on;
 }

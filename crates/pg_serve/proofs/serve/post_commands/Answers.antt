@@ -7,7 +7,7 @@ use Rattle.pg_serve.proofs.Sessions.{turned_nothing, turned_more, turned_passed,
 use Rattle.pg_serve.proofs.serve.post_commands.Goals as goal
 
 pub commands-init : goal.commands-init
-commands-init g c = record { ran = λ r w. turned_nothing _ r w _; left = refl }
+commands-init g c = record { ran = λ r w. turned_nothing _ r w _; onward = g.met.G.Gate.stays _; left = refl }
 
 pub commands-preserved-in-Cmd-2 : goal.commands-preserved-in-Cmd-2
 commands-preserved-in-Cmd-2 g c =
@@ -18,6 +18,7 @@ commands-preserved-in-Cmd-2 g c =
       ran = λ r w.
           turned_more _ _ _ _ _ _ _ _ _ _ _ _ _ (c.commands.invariant.ran r w)
           (turned_passed _ _ r w _ _ asked _ c.in-Cmd.ensures.gives posted c.next_command.ensures.same c.next_command.ensures.buffer c.next_command.ensures.left);
+      onward = g.met.G.Gate.joins _ _ _ c.commands.invariant.onward c.post.ensures.goes_on;
       left = c.next_command.ensures.left ∙ c.commands.invariant.left;
     }
 
@@ -26,6 +27,7 @@ commands-preserved g c = record {
   ran = λ r w.
       turned_more _ _ _ _ _ _ _ _ _ _ _ _ _ (c.commands.invariant.ran r w)
       (turned_ignored _ _ r w _ c.in-Ignored.field-0 c.in-Ignored.ensures.gives c.next_command.ensures.same c.next_command.ensures.buffer c.next_command.ensures.left);
+  onward = c.commands.invariant.onward;
   left = c.next_command.ensures.left ∙ c.commands.invariant.left;
 }
 

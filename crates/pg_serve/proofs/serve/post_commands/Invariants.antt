@@ -5,6 +5,7 @@ use Rattle.pg_serve.proofs.serve.post_commands.Given as goal
 abbrev pub invariant-commands : goal.invariant-commands
 invariant-commands g l = record {
   ran : (r w : Option (List ℕ)) → Turned None l.fn.session l.session r r w w (g.G.Gate.posts l.initial.gate) (g.G.Gate.posts l.gate);
+  onward : g.G.Gate.goes_on l.initial.gate l.gate;
   left : l.session.left ≡ l.fn.session.left;
 }
 

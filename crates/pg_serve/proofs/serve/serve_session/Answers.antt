@@ -10,3 +10,6 @@ pub returns-in-Quiet-clause-served : goal.returns-in-Quiet-clause-served
 returns-in-Quiet-clause-served g c =
     served_as c.serve_turns-end.result _ _ _ _ _ _ _ _ c.serve_turns-end.ensures.ran c.serve_turns-end.ensures.given
     (does_not_hang_up _ c.in-Quiet.is)
+
+pub returns-in-Closed-clause-onward : goal.returns-in-Closed-clause-onward
+returns-in-Closed-clause-onward g c = g.met.G.Gate.joins _ _ _ c.serve_turns-end.ensures.onward c.hang_up.ensures.onward

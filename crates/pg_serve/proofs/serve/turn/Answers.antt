@@ -66,3 +66,15 @@ returns-in-None-clause-ends g c =
     ends_read c.in-Some-read_piece.end _ c.in-Some-read_piece.ensures.kind
     (breaks_same None _ _ c.push_left-2.ensures.same (breaks_same None _ _ c.post_drain.ensures.same c.in_default-post_commands.ensures.breaks))
     (c.push_left-2.ensures.whole c.in-None.is)
+
+pub returns-in-Some-clause-onward : goal.returns-in-Some-clause-onward
+returns-in-Some-clause-onward g c = g.met.G.Gate.stays _
+
+pub returns-in_default-read_piece-clause-onward : goal.returns-in_default-read_piece-clause-onward
+returns-in_default-read_piece-clause-onward g c = g.met.G.Gate.stays _
+
+pub returns-in-Some-push_left-clause-onward : goal.returns-in-Some-push_left-clause-onward
+returns-in-Some-push_left-clause-onward g c = g.met.G.Gate.joins _ _ _ c.post_commands.ensures.onward c.post_drain.ensures.onward
+
+pub returns-in-None-clause-onward : goal.returns-in-None-clause-onward
+returns-in-None-clause-onward g c = g.met.G.Gate.joins _ _ _ c.post_commands.ensures.onward c.post_drain.ensures.onward

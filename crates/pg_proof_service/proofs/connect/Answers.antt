@@ -1,0 +1,20 @@
+use Rattle.std.proofs.Common.{◌≡◌, ◌∙◌, sym, subst, [], ◌∷◌}
+use Rattle.std.proofs.lemmas.List.{append_cancel_left}
+use Rattle.pg_session.specs.Events.{connect}
+use Rattle.pg_gateway.specs.Occurrences.{asks, told}
+use Rattle.pg_gateway.specs.Posting.{Posted}
+use Rattle.pg_serve.specs.Gates.{said_at}
+use Rattle.pg_serve.specs.Onward.{own_in}
+use Rattle.pg_serve.specs.Delivery.{NoneDrains}
+use Rattle.pg_proof_service.proofs.connect.Goals as goal
+
+pub returns : goal.returns
+returns g c =
+    let u = c.args.sub in
+    let v = c.args.gate.now in
+    let on = c.post.ensures.goes_on in
+    let post : Posted = (asks u connect, told c.post.result) in
+    let said : own_in on.pieces ≡ post ∷ [] =
+    append_cancel_left (said_at v.seen v.own) (own_in on.pieces) (post ∷ []) (sym on.said ∙ c.post.ensures.posted) in
+    let none : NoneDrains u (post ∷ []) = (λ size is_drain. let other = is_drain in cc, tt) in
+    record { delivers = λ w. c.deliveries_go_on.ensures.meanwhile u v c.post.new.self [] w on (subst (NoneDrains u) (sym said) none) }

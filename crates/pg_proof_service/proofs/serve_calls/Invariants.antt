@@ -1,0 +1,11 @@
+use Rattle.std.proofs.Common.{◌≡◌, []}
+use Rattle.pg_serve.specs.Delivery.{Delivers}
+use Rattle.pg_proof_service.specs.Fed.{IsFed}
+use Rattle.pg_proof_service.proofs.serve_calls.Given as goal
+
+abbrev pub invariant-calls : goal.invariant-calls
+invariant-calls g l = record {
+  fed : IsFed l.session;
+  sub : l.session.sub ≡ l.fn.sub;
+  delivers : Delivers l.fn.sub l.fn.gate l.gate [] l.session.left (g.W.Write.contents l.fn.writer) (g.W.Write.contents l.writer);
+}

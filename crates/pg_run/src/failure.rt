@@ -1,0 +1,51 @@
+//! Why the service does not run.
+
+use pg_operator::BoundBy;
+use pg_wire::Refusal;
+use std::io;
+use std::io::ErrorKind;
+use std::net::SocketAddr;
+
+/// Why the service does not run, or has ended.
+#[derive(Clone, Copy, Debug, PartialEq, Eq)]
+pub enum Failure {
+    /// It is refused.
+    Refused(Refusal),
+    /// What a key of the setup names can't be bound.
+    NotBound {
+        /// Which key.
+        by: BoundBy,
+        /// The address, where it is one.
+        address: Option<SocketAddr>,
+        /// What the system said.
+        kind: ErrorKind,
+    },
+}
+
+impl Failure {
+    /// The reason by which the program ends: want of memory, or that what it listens to can't be had.
+    pub fn refusal(&self) -> Refusal {
+        match self {
+            Failure::Refused(refusal) => *refusal,
+            Failure::NotBound { kind, .. } => match kind {
+                ErrorKind::OutOfMemory => Refusal::NoMemory,
+                _ => Refusal::ReadFault,
+            },
+        }
+    }
+}
+
+impl From<Refusal> for Failure {
+    fn from(refusal: Refusal) -> Failure {
+        Failure::Refused(refusal)
+    }
+}
+
+/// What a key of the setup names can't be bound.
+pub(crate) fn not_bound(by: BoundBy, address: Option<SocketAddr>, error: io::Error) -> Failure {
+    Failure::NotBound {
+        by,
+        address,
+        kind: error.kind(),
+    }
+}

@@ -1,0 +1,161 @@
+//! Who writes lines at the control socket.
+
+use crate::clerk::Clerk;
+use crate::entrance::{ACCEPTED, Entrance};
+use mio::net::{UnixListener, UnixStream};
+use mio::{Interest, Poll, Token};
+use pg_service::{Detail, Entry, Journal, Notice, Whom};
+use pg_status::{Dialogue, Turned};
+use std::alloc::Global;
+use std::io;
+use std::io::ErrorKind;
+use std::sync::Wait;
+use std::time::{Duration, Instant};
+
+/// How many may write lines at a time (own rule).
+pub(crate) const SPEAKERS: usize = 8;
+
+/// Who writes lines.
+#[derive(Drop)]
+struct Speaker {
+    stream: UnixStream,
+    dialogue: Dialogue,
+    is_ready: bool,
+}
+
+impl Speaker {
+    /// Has its lines answered, and tells whether it stays.
+    fn serve<C: Clerk>(&mut self, clerk: &mut C) -> bool {
+        let mut reader = &self.stream;
+        let mut writer = &self.stream;
+        match self.dialogue.serve(&mut reader, &mut writer, clerk) {
+            Turned::Waits => {
+                self.is_ready = false;
+                true
+            }
+            Turned::More => true,
+            Turned::Gone => false,
+        }
+    }
+}
+
+/// The control socket, and who writes lines there.
+#[derive(Drop)]
+pub(crate) struct Desk {
+    alloc: Global,
+    entrance: Option<Entrance<UnixListener>>,
+    speakers: [Option<Speaker>; SPEAKERS],
+    // The token of the listener; those of the connections follow it.
+    first: usize,
+}
+
+impl Desk {
+    /// No lines are taken.
+    pub(crate) fn new(alloc: Global, first: usize) -> Desk {
+        Desk {
+            alloc,
+            entrance: None,
+            speakers: [None, None, None, None, None, None, None, None],
+            first,
+        }
+    }
+
+    /// From now on lines are taken at this socket.
+    pub(crate) fn open(&mut self, mut listener: UnixListener, poll: &Poll) -> io::Result<()> {
+        poll.registry()
+            .register(&mut listener, Token(self.first), Interest::READABLE)?;
+        self.entrance = Some(Entrance::new(listener));
+        Ok(())
+    }
+
+    /// The system names this token.
+    pub(crate) fn call(&mut self, token: usize) {
+        if token == self.first {
+            if let Some(entrance) = &mut self.entrance {
+                entrance.call();
+            }
+            return;
+        }
+        let place = token.wrapping_sub(self.first).wrapping_sub(1);
+        if let Some(Some(speaker)) = self.speakers.get_mut(place) {
+            speaker.is_ready = true;
+        }
+    }
+
+    /// How long until there is something to do though no socket is ready, if there is.
+    pub(crate) fn left(&self, now: Instant) -> Option<Duration> {
+        if self.speakers.iter().flatten().any(|it| it.is_ready) {
+            return Some(Duration::ZERO);
+        }
+        match &self.entrance {
+            Some(entrance) => entrance.left(now),
+            None => None,
+        }
+    }
+
+    /// Accepts who wants to connect, and serves each that is ready once.
+    pub(crate) fn turn<R: Wait, C: Clerk>(
+        &mut self,
+        rt: &R,
+        poll: &Poll,
+        clerk: &mut C,
+        journal: &Journal,
+        now: Instant,
+    ) {
+        self.accept(rt, poll, journal, now);
+        for place in self.speakers.iter_mut() {
+            let stays = match place {
+                Some(speaker) if speaker.is_ready => speaker.serve(clerk),
+                _ => true,
+            };
+            if !stays {
+                *place = None;
+            }
+        }
+    }
+
+    /// Accepts who wants to connect.
+    fn accept<R: Wait>(&mut self, rt: &R, poll: &Poll, journal: &Journal, now: Instant) {
+        for _ in 0..ACCEPTED {
+            let Some(entrance) = &mut self.entrance else {
+                return;
+            };
+            if !entrance.is_due(now) {
+                return;
+            }
+            match entrance.listener.accept() {
+                Ok((stream, _)) => {
+                    entrance.go_on();
+                    self.admit(rt, poll, journal, stream);
+                }
+                Err(error) if error.kind() == ErrorKind::WouldBlock => entrance.rest(),
+                Err(error) => {
+                    entrance.put_off(now);
+                    let detail = Detail::System(error.kind());
+                    journal.tell(rt, Entry::new(Notice::NotAccepted, Whom::Nobody, detail));
+                }
+            }
+        }
+    }
+
+    /// Lets a connection in, or closes it where there is no place.
+    fn admit<R: Wait>(&mut self, rt: &R, poll: &Poll, journal: &Journal, mut stream: UnixStream) {
+        let Some(place) = self.speakers.iter().position(|it| it.is_none()) else {
+            return;
+        };
+        let token = Token(self.first.saturating_add(1).saturating_add(place));
+        let both = Interest::READABLE | Interest::WRITABLE;
+        if poll.registry().register(&mut stream, token, both).is_err() {
+            let entry = Entry::new(Notice::SocketFault, Whom::Nobody, Detail::Nothing);
+            journal.tell(rt, entry);
+            return;
+        }
+        if let Some(free) = self.speakers.get_mut(place) {
+            *free = Some(Speaker {
+                stream,
+                dialogue: Dialogue::new(self.alloc),
+                is_ready: true,
+            });
+        }
+    }
+}

@@ -1,0 +1,206 @@
+//! Who looks at the page or reads the metrics.
+
+use crate::entrance::{ACCEPTED, Entrance};
+use crate::sight::Sight;
+use mio::net::{TcpListener, TcpStream};
+use mio::{Interest, Poll, Token};
+use pg_service::{Detail, Entry, Journal, Notice, Whom};
+use pg_status::{Exchange, Step};
+use std::alloc::Global;
+use std::io;
+use std::io::ErrorKind;
+use std::net::Shutdown;
+use std::sync::Wait;
+use std::time::{Duration, Instant};
+
+/// How many may look at a time (own rule).
+pub(crate) const VISITORS: usize = 16;
+
+/// The steps of one connection in one turn: what it asks for, and the answer.
+const STEPS: u32 = 2;
+
+/// Who looks.
+#[derive(Drop)]
+struct Visitor {
+    stream: TcpStream,
+    exchange: Exchange,
+    is_ready: bool,
+}
+
+impl Visitor {
+    /// Serves it, and tells whether it stays.
+    fn serve(&mut self, sight: &Sight, now: Instant) -> bool {
+        for _ in 0..STEPS {
+            let mut reader = &self.stream;
+            let mut writer = &self.stream;
+            match self.exchange.serve(&mut reader, &mut writer, now) {
+                Step::Waits => {
+                    self.is_ready = false;
+                    return true;
+                }
+                Step::More => return true,
+                Step::Asks(shown) => {
+                    let answered = match sight.contents(shown) {
+                        Ok(body) => self.exchange.answer(&body),
+                        Err(error) => Err(error),
+                    };
+                    if answered.is_err() {
+                        return false;
+                    }
+                }
+                Step::Sent => return self.stream.shutdown(Shutdown::Write).is_ok(),
+                Step::Gone => return false,
+            }
+        }
+        true
+    }
+
+    /// How long until it has lasted as long as it may, or is served again.
+    fn left(&self, now: Instant) -> Duration {
+        if self.is_ready {
+            Duration::ZERO
+        } else {
+            self.exchange.left(now)
+        }
+    }
+}
+
+/// The page's listener, and who looks there.
+#[derive(Drop)]
+pub(crate) struct Hall {
+    alloc: Global,
+    entrance: Option<Entrance<TcpListener>>,
+    visitors: Vec<Option<Visitor>>,
+    // The token of the listener; those of the connections follow it.
+    first: usize,
+}
+
+impl Hall {
+    /// Nothing is shown.
+    pub(crate) fn new(alloc: Global, first: usize) -> io::Result<Hall> {
+        let mut visitors = Vec::with_capacity(alloc, VISITORS)?;
+        for _ in 0..VISITORS {
+            visitors.push(None)?;
+        }
+        Ok(Hall {
+            alloc,
+            entrance: None,
+            visitors,
+            first,
+        })
+    }
+
+    /// From now on the page is served here.
+    pub(crate) fn open(&mut self, mut listener: TcpListener, poll: &Poll) -> io::Result<()> {
+        poll.registry()
+            .register(&mut listener, Token(self.first), Interest::READABLE)?;
+        self.entrance = Some(Entrance::new(listener));
+        Ok(())
+    }
+
+    /// Whether the page is served.
+    pub(crate) fn is_open(&self) -> bool {
+        self.entrance.is_some()
+    }
+
+    /// The system names this token.
+    pub(crate) fn call(&mut self, token: usize) {
+        if token == self.first {
+            if let Some(entrance) = &mut self.entrance {
+                entrance.call();
+            }
+            return;
+        }
+        let place = token.wrapping_sub(self.first).wrapping_sub(1);
+        if let Some(Some(visitor)) = self.visitors.get_mut(place) {
+            visitor.is_ready = true;
+        }
+    }
+
+    /// How long until there is something to do though no socket is ready, if there is.
+    pub(crate) fn left(&self, now: Instant) -> Option<Duration> {
+        let waited = match &self.entrance {
+            Some(entrance) => entrance.left(now),
+            None => None,
+        };
+        let visited = self.visitors.iter().flatten().map(|it| it.left(now)).min();
+        match (waited, visited) {
+            (Some(waited), Some(visited)) => Some(waited.min(visited)),
+            (waited, None) => waited,
+            (None, visited) => visited,
+        }
+    }
+
+    /// Accepts who wants to connect, and serves each that is ready or overdue once.
+    pub(crate) fn turn<R: Wait>(
+        &mut self,
+        rt: &R,
+        poll: &Poll,
+        sight: &Sight,
+        journal: &Journal,
+        now: Instant,
+    ) {
+        self.accept(rt, poll, journal, now);
+        for place in self.visitors.iter_mut() {
+            let stays = match place {
+                Some(visitor) if visitor.left(now).is_zero() => visitor.serve(sight, now),
+                _ => true,
+            };
+            if !stays {
+                *place = None;
+            }
+        }
+    }
+
+    /// Accepts who wants to connect.
+    fn accept<R: Wait>(&mut self, rt: &R, poll: &Poll, journal: &Journal, now: Instant) {
+        for _ in 0..ACCEPTED {
+            let Some(entrance) = &mut self.entrance else {
+                return;
+            };
+            if !entrance.is_due(now) {
+                return;
+            }
+            match entrance.listener.accept() {
+                Ok((stream, _)) => {
+                    entrance.go_on();
+                    self.admit(rt, poll, journal, stream, now);
+                }
+                Err(error) if error.kind() == ErrorKind::WouldBlock => entrance.rest(),
+                Err(error) => {
+                    entrance.put_off(now);
+                    let detail = Detail::System(error.kind());
+                    journal.tell(rt, Entry::new(Notice::NotAccepted, Whom::Nobody, detail));
+                }
+            }
+        }
+    }
+
+    /// Lets a connection in, or closes it where there is no place.
+    fn admit<R: Wait>(
+        &mut self,
+        rt: &R,
+        poll: &Poll,
+        journal: &Journal,
+        mut stream: TcpStream,
+        now: Instant,
+    ) {
+        let Some(place) = self.visitors.iter().position(|it| it.is_none()) else {
+            return;
+        };
+        let token = Token(self.first.saturating_add(1).saturating_add(place));
+        let both = Interest::READABLE | Interest::WRITABLE;
+        if poll.registry().register(&mut stream, token, both).is_err() {
+            let entry = Entry::new(Notice::SocketFault, Whom::Nobody, Detail::Nothing);
+            journal.tell(rt, entry);
+            return;
+        }
+        if let Some(free) = self.visitors.get_mut(place) {
+            *free = Some(Visitor {
+                stream,
+                exchange: Exchange::new(self.alloc, now),
+                is_ready: true,
+            });
+        }
+    }
+}

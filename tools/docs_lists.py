@@ -1,0 +1,224 @@
+#!/usr/bin/env python3
+"""Compares the lists of the pages with those of the program, taken from its sources: keys of a setup, lines of `run`, metrics,
+texts of the log, reasons; and looks at each link, command and path that the pages name. What is missing is printed, a line
+each; status 1 where something is. Run it anywhere: it finds the repository by its own place."""
+import glob
+import os
+import re
+import sys
+
+ROOT = os.path.dirname(os.path.dirname(os.path.abspath(__file__)))
+found = []
+looked = 0
+
+
+def text_of(path):
+    with open(f"{ROOT}/{path}", encoding="utf-8") as f:
+        return f.read()
+
+
+def source(crate, file):
+    return text_of(f"crates/{crate}/src/{file}.rt")
+
+
+def between(text, start, end):
+    """The text from one mark to the next other one."""
+    _, mark, rest = text.partition(start)
+    if not mark:
+        sys.exit(f"docs_lists: {start!r} stands nowhere; this script has to follow the source that changed")
+    return rest.partition(end)[0]
+
+
+def expect(holds, what):
+    global looked
+    looked += 1
+    if not holds:
+        found.append(what)
+
+
+def section(page, heading):
+    """A section of a page, to the next heading of the same depth."""
+    depth = heading.split(" ")[0]
+    return between(f"\n{text_of(page)}\n{depth} ", f"\n{heading}", f"\n{depth} ")
+
+
+def rows(text):
+    """The rows of a page's tables, as lists of cells."""
+    return [[cell.strip() for cell in line.strip("|").split(" | ")] 
+            for line in text.splitlines() if line.startswith("|") and not line.startswith("|--")]
+
+
+def spans(text):
+    """What stands in code quotes."""
+    return [double or single for double, single in re.findall(r"``\s?(.+?)\s?``|`([^`]+)`", " ".join(text.split()))]
+
+
+TABLES = {"TOP": "## The file itself", "PMU": "## `[[pmu]]`", "SUBSCRIBER": "## `[[subscriber]]`", "STREAM": "## `[[subscriber.stream]]`"}
+# The ranges of these stand in the definition of a stream, in pg_stream.
+DEFINED = {"rate", "base", "wait", "window"}
+
+
+def keys():
+    rules = source("pg_operator", "kind")
+    words = between(source("pdcgw", "help"), "A setup file is TOML", "A subscriber sends commands")
+    for table, heading in TABLES.items():
+        told = {cells[0].strip("| `"): cells for cells in rows(section("docs/SETUP.md", heading)) if "`" in cells[0]}
+        rule = re.compile(r'(required|optional)!\("(\w+)", Kind::(\w+)(?:\(([\d_]+), ([\d_]+)\))?')
+        listed = rule.findall(between(rules, f"const {table}:", "];"))
+        expect(listed, f"pg_operator kind.rt: no keys of {table} were found")
+        for need, name, kind, least, most in listed:
+            if kind == "Tables":
+                continue
+            expect(re.search(rf"\b{name}\b", words), f"`pdcgw run --help`: the key {name} is missing")
+            expect(name in told, f"docs/SETUP.md, {heading}: the key {name} is missing")
+            if name not in told:
+                continue
+            values, absent = told[name][1], told[name][2]
+            is_told = (need == "required") == (absent == "required")
+            expect(is_told, f"docs/SETUP.md, {heading}: {name} is {need}, and the page says otherwise")
+            for bound in (least, most):
+                plain = bound.replace("_", "")
+                if plain and name not in DEFINED:
+                    is_told = re.search(rf"\b{plain}\b", values)
+                    expect(is_told, f"docs/SETUP.md, {heading}: {name} may be {least} to {most}, and the page says otherwise")
+        for name in set(told) - {name for _, name, *_ in listed}:
+            expect(False, f"docs/SETUP.md, {heading}: no setup has the key {name}")
+
+
+def lines():
+    verbs = re.findall(r'"(\w+)"', between(source("pg_operator", "verb"), "const VERBS", "];"))
+    ways = re.findall(r'"(\w+)" => Way::', source("pg_operator", "steer"))
+    own = re.findall(r'"(\w+)" => return Ok\(Asked::', source("pg_run", "operator"))
+    table = rows(section("docs/OPERATING.md", "## Lines"))[1:]
+    told = {span.split(" ")[0] for cells in table for span in spans(cells[0])}
+    words = source("pdcgw", "help")
+    for word in verbs + ways + own:
+        expect(word in told, f"docs/OPERATING.md, Lines: the line {word} is missing")
+        expect(re.search(rf"\b{word}\b", words), f"`pdcgw run --help`: the line {word} is missing")
+    expect(verbs and ways and own, "the words of lines were not found in the sources")
+    for word in told - set(verbs + ways + own):
+        expect(False, f"docs/OPERATING.md, Lines: there is no line {word}")
+
+
+def metrics():
+    listed = set(re.findall(r'"(pdcgw_\w+)"', source("pg_status", "metrics")))
+    told = set()
+    for cells in rows(section("docs/OPERATING.md", "## The page and the metrics")):
+        start = ""
+        for span in spans(cells[0]):
+            if span.startswith("pdcgw_"):
+                start = "_".join(span.split("_")[:2])
+            told.add(span.replace("..", start, 1))
+    told = {name for name in told if name.startswith("pdcgw_")}
+    for name in listed - told:
+        expect(False, f"docs/OPERATING.md, metrics: {name} is missing")
+    for name in told - listed:
+        expect(False, f"docs/OPERATING.md, metrics: there is no {name}")
+    expect(len(listed) > 20, "the metrics were not found in the sources")
+
+
+def log():
+    page = " ".join(section("docs/OPERATING.md", "## The log").split())
+    table_rows = rows(section("docs/OPERATING.md", "## The log"))
+    levels = {}
+    arms = between(source("pg_service", "journal"), "fn level(", "\n    }")
+    for arm, level in re.findall(r"((?:Notice::\w+[\s|{]*)+)(?:=> )?\{?\s*(?:=>\s*\{?\s*)?Level::(\w+)", arms):
+        levels.update({name: level.upper() for name in re.findall(r"Notice::(\w+)", arm)})
+    words = source("pg_service", "words")
+    texts = re.findall(r'Notice::(\w+) =>\s*"([^"]+)"', between(words, "fn said(", "\n    }"))
+    for notice, text in texts:
+        expect(notice in levels, f"pg_service journal.rt: no level of {notice} was found")
+        # What is known beside may follow: an address, a stream, a reason.
+        told = re.compile(re.escape(text) + r"(?:[ :,].*)?")
+        table = [cells for cells in table_rows if any(told.fullmatch(it) for it in spans(cells[1]))]
+        for cells in table:
+            level = levels.get(notice)
+            expect(cells[0].strip("| ") == level, f"docs/OPERATING.md, the log: {text!r} is logged as {level}")
+        expect(table, f"docs/OPERATING.md, the log: no row has {text!r}")
+    expect(len(texts) > 30, "the texts of the log were not found in the sources")
+    for start, end in (("fn write_end", "\n}"), ("fn system_words", "\n}"), ("End::Closed", ",")):
+        for text in re.findall(r'(?:=> |str\()"(?:: )?([^"]+)"', between(words, start, end)):
+            expect(text in page, f"docs/OPERATING.md, the log: the reason {text!r} is missing")
+
+
+def reasons():
+    enum = between(source("pg_wire", "refusal"), "pub enum Refusal {", "\n}")
+    listed = {int(number): name for name, number in re.findall(r"(\w+) = (\d+),", enum)}
+    told = {}
+    for cells in rows(section("docs/OPERATING.md", "## Reasons by number")):
+        numbers = [int(it) for it in re.findall(r"\d+", cells[0])]
+        told.update(zip(numbers, cells[1].split(", ")))
+    expect(len(listed) == 40, "the reasons were not found in the sources")
+    for number, name in listed.items():
+        expect(told.get(number) == name, f"docs/OPERATING.md, reasons: {number} {name} is missing")
+    for number in set(told) - set(listed):
+        expect(False, f"docs/OPERATING.md, reasons: there is no {number}")
+    for page in PAGES:
+        for number, name in re.findall(r"\b(\d{1,2}) ([A-Z][a-z]+[A-Z]\w+)", text_of(page)):
+            if name in listed.values():
+                expect(listed.get(int(number)) == name, f"{page}: {number} is not {name}")
+
+
+def anchor(heading):
+    """The anchor that a heading has on the page."""
+    plain = re.sub(r"[^\w\- ]", "", re.sub(r"\[([^\]]*)\]\([^)]*\)", r"\1", heading).lower())
+    return plain.strip().replace(" ", "-")
+
+
+def without_blocks(text):
+    return re.sub(r"^```.*?^```", "", text, flags=re.S | re.M)
+
+
+def links():
+    anchors = {page: {anchor(it) for it in re.findall(r"^#+ (.*)$", without_blocks(text_of(page)), re.M)} for page in PAGES}
+    for page in PAGES:
+        for to in re.findall(r"\]\(([^)\s]+)\)", re.sub(r"`[^`\n]*`", "", without_blocks(text_of(page)))):
+            if re.match(r"\w+:", to):
+                continue
+            file, _, place = to.partition("#")
+            target = os.path.normpath(os.path.join(os.path.dirname(page), file)) if file else page
+            expect(os.path.exists(f"{ROOT}/{target}"), f"{page}: {to} leads to no file")
+            if place and target in anchors:
+                expect(place in anchors[target], f"{page}: {to} leads to no heading")
+
+
+def options():
+    """The options of each word of the program."""
+    texts = {name: source("pdcgw", name) for name in ("main", "tools", "ctl")}
+    words = {word: set() for word in re.findall(r'Command::new\(alloc, "(\w+)"\)', "".join(texts.values()))}
+    of = {word: between(texts["tools"], f"fn {word}_words", "\n}") for word in ("simulate", "watch", "demo")}
+    of["ctl"] = between(texts["ctl"], "fn words", "\n}")
+    for word, text in of.items():
+        words[word] = set(re.findall(r'long\("([\w-]+)"\)', text)) | set(re.findall(r'option\(\s*alloc,\s*"([\w-]+)"', text))
+    for word in ("run", "check"):
+        words[word] = {"setup"}
+    return words
+
+
+def commands():
+    words = options()
+    expect(len(words["simulate"]) >= 9 and len(words["watch"]) == 6, "the options were not found in the sources")
+    for page in PAGES:
+        text = text_of(page)
+        blocks = re.findall(r"^```\w*\n(.*?)^```", text, re.S | re.M)
+        code = spans(without_blocks(text)) + [line for block in blocks for line in block.splitlines()]
+        for line in code:
+            said = re.match(r"(?:rt (?:try|run) -- |pdcgw )(\w+)(.*)", line.strip())
+            # What a header of the simulation says is no command.
+            if said and not said[2].startswith(":"):
+                expect(said[1] in words, f"{page}: the program has no word {said[1]}")
+                for option in re.findall(r"\s--([\w-]+)", said[2]):
+                    known = words.get(said[1], set()) | {"help"}
+                    expect(option in known, f"{page}: `pdcgw {said[1]}` has no option --{option}")
+            for path in re.findall(r"\b(?:sh|python3) ([\w./-]+\.(?:sh|py))", line):
+                expect(os.path.exists(f"{ROOT}/{path}"), f"{page}: there is no {path}")
+            is_path = re.fullmatch(r"(?:docs|tools|bench|crates|package)/[\w./-]+", line)
+            if is_path and "/out/" not in line and "CRATE" not in line:
+                expect(os.path.exists(f"{ROOT}/{line}"), f"{page}: there is no {line}")
+
+
+PAGES = [os.path.relpath(path, ROOT) for path in sorted(glob.glob(f"{ROOT}/*.md") + glob.glob(f"{ROOT}/docs/*.md"))]
+for look in (keys, lines, metrics, log, reasons, links, commands):
+    look()
+print("\n".join(found + [f"{looked} places looked at, {len(found)} wrong"]))
+sys.exit(1 if found else 0)
