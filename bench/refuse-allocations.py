@@ -37,11 +37,10 @@ class Program:
     def run(self, lines, refused=0):
         """The status, what was told, the answers to each line, and how many allocations were made."""
         told, tell = os.pipe()
-        os.set_inheritable(tell, True)
         script = "".join(line + "\n?\n" for line in lines)
-        env = {"LD_PRELOAD": self.library, "REFUSE": str(refused)}
-        work = subprocess.run(["/bin/sh", "-c", f'exec "$0" replay 3>&{tell}', self.path], input=script, env=env, text=True,
-                              capture_output=True, timeout=60, pass_fds=[tell])
+        env = {"LD_PRELOAD": self.library, "REFUSE": str(refused), "TELL": str(tell)}
+        work = subprocess.run([self.path, "replay"], input=script, env=env, text=True, capture_output=True, timeout=60,
+                              pass_fds=[tell])
         os.close(tell)
         with os.fdopen(told) as f:
             counts = f.read().split()
@@ -158,7 +157,9 @@ def main():
         for script in scripts:
             with open(script) as f:
                 lines = [line for line in f.read().splitlines() if line]
-            count = program.run(lines)[3]
+            status, said, _, count = program.run(lines)
+            if status or not count:
+                sys.exit(f"{script}: status {status} with memory, {count} allocations seen: {said}")
             came = {}
             for at in range(1, count + 1):
                 fault, kind = judge(program, lines, at)

@@ -1,7 +1,9 @@
-/* Lets the allocation number REFUSE fail, and tells on descriptor 3, where there is one, how many there were. */
+#define _GNU_SOURCE
+/* Lets the allocation number REFUSE fail, and tells on the descriptor TELL how many there were. */
 #include <errno.h>
 #include <stdio.h>
 #include <stdlib.h>
+#include <sys/syscall.h>
 #include <unistd.h>
 
 extern void *__libc_malloc(size_t size);
@@ -36,8 +38,11 @@ int posix_memalign(void **out, size_t align, size_t size) {
     return *out ? 0 : ENOMEM;
 }
 
-__attribute__((destructor)) static void tell(void) {
+/* The program ends by this call, which runs no destructor. */
+void _exit(int status) {
     char text[32];
     int size = snprintf(text, sizeof text, "%lu\n", made);
-    if (write(3, text, (size_t)size) < 0) return;
+    const char *tell = getenv("TELL");
+    if (tell && write(atoi(tell), text, (size_t)size) < 0) status = status ? status : 3;
+    for (;;) syscall(SYS_exit_group, status);
 }

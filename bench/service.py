@@ -4,7 +4,9 @@ bound.
 
     python3 bench/service.py PROGRAM [CASE..]      CASE: direct latency idle flood reader throughput address name descriptors; none: all of them
 
-PROGRAM is `pdcgw` as `rt run` left it in crates/pdcgw/out. Nothing beside Python's standard library is needed (and `strace` or
+A latency is from the moment before the last source's frame of a slot is written to the moment at which the kernel has the
+subscriber's frame at its socket; behind it the same up to the end of the read, so with the readers' Python, which takes those that
+came at once one after another. PROGRAM is `pdcgw` as `rt run` left it in crates/pdcgw/out. Nothing beside Python's standard library is needed (and `strace` or
 `perf` for system calls, where one of them is there). The status is 1 where a figure is past its bound.
 """
 import binascii
@@ -22,6 +24,8 @@ import time
 BASE = 1_000_000
 FIRST_SOURCE_PORT = 20_100
 FIRST_PORT = 20_300
+SO_TIMESTAMPNS = 35
+P50_P99 = "p50, p99 ms at the socket; read"
 
 
 def frame(kind, idcode, soc, frac, body):
@@ -143,7 +147,7 @@ def run_sources(sources, rate, seconds, phasors, told):
             if wait > 0:
                 time.sleep(wait)
             bytes_out = data(numbers[at], len(sources[numbers[at]]), soc, frac, phasors)
-            sent.append((numbers[at], soc, frac, time.monotonic_ns()))
+            sent.append((numbers[at], soc, frac, time.time_ns()))
             peer.sendall(bytes_out)
     told.put(sent)
     time.sleep(1.5)
@@ -166,12 +170,31 @@ class Told:
         return self.go.get()
 
 
+def connect_stamped(port):
+    """A connection whose pieces the kernel stamps as they come in."""
+    made = socket.create_connection(("127.0.0.1", port))
+    made.setsockopt(socket.IPPROTO_TCP, socket.TCP_NODELAY, 1)
+    made.setsockopt(socket.SOL_SOCKET, SO_TIMESTAMPNS, 1)
+    return made
+
+
+def read_stamped(peer):
+    """A piece, when its last byte came to the socket by the kernel's stamp, and when it was read; nanoseconds of the clock."""
+    piece, told, _, _ = peer.recvmsg(1 << 18, 64)
+    now = time.time_ns()
+    came = now
+    for level, kind, stamp in told:
+        if level == socket.SOL_SOCKET and kind == SO_TIMESTAMPNS:
+            seconds, nanoseconds = struct.unpack("qq", stamp)
+            came = seconds * 1_000_000_000 + nanoseconds
+    return piece, came, now
+
+
 def run_subscribers(subscribers, seconds, told):
-    """Plays all subscribers: starts each stream and notes when each data frame came."""
+    """Plays all subscribers: starts each stream and notes when each data frame came to its socket, and when it was read."""
     chosen = selectors.DefaultSelector()
     for sub, _, streams in subscribers:
-        made = socket.create_connection(("127.0.0.1", FIRST_PORT + sub))
-        made.setsockopt(socket.IPPROTO_TCP, socket.TCP_NODELAY, 1)
+        made = connect_stamped(FIRST_PORT + sub)
         for stream, _, _ in streams:
             made.sendall(command(stream, 2))
         made.setblocking(False)
@@ -182,17 +205,16 @@ def run_subscribers(subscribers, seconds, told):
     while time.monotonic() < end:
         for key, _ in chosen.select(0.1):
             sub, buffer = key.data
-            piece = key.fileobj.recv(1 << 18)
-            now = time.monotonic_ns()
+            piece, came, now = read_stamped(key.fileobj)
             if not piece:
                 chosen.unregister(key.fileobj)
-                got.append((sub, 0, 0, 0, now))
+                got.append((sub, 0, 0, 0, came, now))
                 continue
             buffer += piece
             for it in frames_in(buffer):
                 if it[1] >> 4 == 0:
                     stream, soc, frac = struct.unpack(">HII", it[4:14])
-                    got.append((sub, stream, soc, frac & 0xFFFFFF, now))
+                    got.append((sub, stream, soc, frac & 0xFFFFFF, came, now))
     told.put(got)
 
 
@@ -230,48 +252,57 @@ def percentile(values, part):
 
 
 def latencies(sent, got, streams):
-    """Milliseconds from the last of a frame's blocks that was sent to its coming, and how many are missing."""
+    """Milliseconds from the moment before the last of a frame's blocks was sent to its coming to the subscriber's socket, the
+    same to its having been read, and how many are missing."""
     at = {}
     for source, soc, frac, when in sent:
         at[source, soc, frac] = when
     slots = sorted({(soc, frac) for _, soc, frac, _ in sent})
-    came = {(sub, stream, soc, frac): when for sub, stream, soc, frac, when in got}
-    found, missing = [], 0
+    all_got = {(sub, stream, soc, frac): (came, now) for sub, stream, soc, frac, came, now in got}
+    found, read, missing = [], [], 0
     for sub, stream, members in streams:
         for soc, frac in slots:
-            when = came.get((sub, stream, soc, frac))
-            if when is None:
+            if (sub, stream, soc, frac) not in all_got:
                 missing += 1
-            else:
-                found.append((when - max(at[s, soc, frac] for s, _ in members)) / 1e6)
-    return found, missing
+                continue
+            came, now = all_got[sub, stream, soc, frac]
+            begun = max(at[s, soc, frac] for s, _ in members)
+            found.append((came - begun) / 1e6)
+            read.append((now - begun) / 1e6)
+    return found, read, missing
+
+
+def told_of(found, read, missing):
+    came, seen = ([percentile(it, part) for part in (0.5, 0.99)] for it in (found, read))
+    return f"{came[0]:.2f}, {came[1]:.2f}; {seen[0]:.2f}, {seen[1]:.2f} ({missing} lost)"
 
 
 failures = []
 
 
 def tell(what, figure, bound, is_met):
-    print(f"{what:58} {figure:>24}   {bound:20} {'ok' if is_met else 'PAST IT'}", flush=True)
+    print(f"{what:88} {figure:>36}   {bound:18} {'ok' if is_met else 'PAST IT'}", flush=True)
     if not is_met:
         failures.append(what)
 
 
 def read_directly(seconds, told):
     """Plays the one subscriber of the first source itself."""
-    made = socket.create_connection(("127.0.0.1", FIRST_SOURCE_PORT))
-    made.setsockopt(socket.IPPROTO_TCP, socket.TCP_NODELAY, 1)
+    made = connect_stamped(FIRST_SOURCE_PORT)
     made.sendall(command(100, 2))
     made.settimeout(0.1)
     told.put("started")
     end, got, buffer = time.monotonic() + seconds, [], bytearray()
     while time.monotonic() < end:
         try:
-            buffer += made.recv(1 << 18)
+            piece, came, now = read_stamped(made)
         except socket.timeout:
             continue
-        now = time.monotonic_ns()
-        got += [(1, 100, *struct.unpack(">II", it[6:14]), now) for it in frames_in(buffer)]
-    told.put([(sub, stream, soc, frac & 0xFFFFFF, now) for sub, stream, soc, frac, now in got])
+        buffer += piece
+        for it in frames_in(buffer):
+            soc, frac = struct.unpack(">II", it[6:14])
+            got.append((1, 100, soc, frac & 0xFFFFFF, came, now))
+    told.put(got)
 
 
 def case_direct(_program):
@@ -284,9 +315,7 @@ def case_direct(_program):
     time.sleep(0.3)
     of_sources.go.put("go")
     sent, got = of_sources.get(), of_reader.get()
-    found, missing = latencies(sent, got, [(1, 100, [(100, 100)])])
-    tell("no gateway, source to reader at 60/s: p50, p99 ms",
-         f"{percentile(found, 0.5):.2f}, {percentile(found, 0.99):.2f} ({missing} lost)", "(no bound)", True)
+    tell(f"no gateway, source to reader at 60/s: {P50_P99}", told_of(*latencies(sent, got, [(1, 100, [(100, 100)])])), "(no bound)", True)
 
 
 def case_latency(program):
@@ -300,10 +329,9 @@ def case_latency(program):
             subscribers.append((at + 1, 64, [(1000 + at, 60, listed)]))
         sent, got, _ = measure(program, sources, subscribers, 60, 8, tick_ms=tick_ms, ingest=1, serve=serve)
         streams = [(sub, stream, listed) for sub, _, defined in subscribers for stream, _, listed in defined]
-        found, missing = latencies(sent, got, streams)
-        name = f"{count} x {count} x {members} at 60/s, tick_ms {tick_ms}, serve {serve}: p50, p99 ms"
-        p99 = percentile(found, 0.99)
-        tell(name, f"{percentile(found, 0.5):.2f}, {p99:.2f} ({missing} lost)", "p99 < 1, 0 lost", p99 < 1 and missing == 0)
+        found, read, missing = latencies(sent, got, streams)
+        name = f"{count} x {count} x {members} at 60/s, tick_ms {tick_ms}, serve {serve}: {P50_P99}"
+        tell(name, told_of(found, read, missing), "p99 < 1, 0 lost", percentile(found, 0.99) < 1 and missing == 0)
 
 
 def send_all(peer, junk, rest):
@@ -369,10 +397,9 @@ def case_flood(program):
         sent, got = of_sources.get(), of_readers.get()
         flooding.kill()
         gateway.quit()
-        found, missing = latencies(sent, got, [(1, 1000, [(100, 100)])])
-        p99 = percentile(found, 0.99)
-        tell(f"flood of {kind}, neighbour at 60/s: p50, p99 ms", f"{percentile(found, 0.5):.2f}, {p99:.2f} ({missing} lost)",
-             "p99 < 20, 0 lost", p99 < 20 and missing == 0)
+        found, read, missing = latencies(sent, got, [(1, 1000, [(100, 100)])])
+        tell(f"flood of {kind}, neighbour at 60/s: {P50_P99}", told_of(found, read, missing), "p99 < 20, 0 lost",
+             percentile(read, 0.99) < 20 and missing == 0)
 
 
 def case_reader(program):
@@ -381,9 +408,8 @@ def case_reader(program):
     members = [(100, pmu) for pmu in sources[100]]
     subscribers = [(1, 64, [(1000 + at, 120, members) for at in range(8)])]
     sent, got, _ = measure(program, sources, subscribers, 120, 8, phasors=26)
-    found, missing = latencies(sent, got, [(1, 1000 + at, [(100, 100)]) for at in range(8)])
-    tell("8 streams of some 1,800 bytes at 120/s, healthy reader: p99 ms", f"{percentile(found, 0.99):.2f} ({missing} lost)",
-         "0 lost", missing == 0)
+    found, read, missing = latencies(sent, got, [(1, 1000 + at, [(100, 100)]) for at in range(8)])
+    tell(f"8 streams of some 1,800 bytes at 120/s, healthy reader: {P50_P99}", told_of(found, read, missing), "0 lost", missing == 0)
 
 
 def system_calls(process, seconds):
@@ -431,7 +457,7 @@ def burst_source(told):
     told.get_go()
     first = int(time.time()) - 28
     pieces = b"".join(data(100, 1, first + slot // 120, slot % 120 * BASE // 120) for slot in range(56 * 120))
-    told.put(time.monotonic_ns())
+    told.put(time.time_ns())
     peer.sendall(pieces)
     time.sleep(20)
 
@@ -452,7 +478,7 @@ def case_throughput(program):
     gateway.quit()
     source.kill()
     wanted = 56 * 120 * 64
-    last = max(when for *_, when in got) if got else begun + 1
+    last = max(read for *_, read in got) if got else begun + 1
     tell("a burst of one PMU to 64 subscribers: frames a second out", f"{len(got) / ((last - begun) / 1e9):,.0f}", "(no bound)", True)
     print(f"    {len(got):,} of {wanted:,} came, {(last - begun) / 1e6:.0f} ms")
 

@@ -35,6 +35,7 @@ gzip -9n "$root/usr/share/doc/pdcgw/changelog" "$root/usr/share/man/man8/pdcgw.8
 # Side by side as here, so that their links hold.
 put "$top/README.md" usr/share/doc/pdcgw/README.md
 put "$top/CHANGELOG.md" usr/share/doc/pdcgw/CHANGELOG.md
+put "$top/LICENSE" usr/share/doc/pdcgw/LICENSE
 for page in "$top"/docs/*.md "$top"/docs/*.toml "$top"/docs/*.svg "$top"/docs/*.png; do
     [ ! -e "$page" ] || put "$page" "usr/share/doc/pdcgw/docs/$(basename "$page")"
 done

@@ -189,7 +189,7 @@ def options():
     of = {word: between(texts["tools"], f"fn {word}_words", "\n}") for word in ("simulate", "watch", "demo")}
     of["ctl"] = between(texts["ctl"], "fn words", "\n}")
     for word, text in of.items():
-        words[word] = set(re.findall(r'long\("([\w-]+)"\)', text)) | set(re.findall(r'option\(\s*alloc,\s*"([\w-]+)"', text))
+        words[word] = set(re.findall(r'long\("([\w-]+)"\)', text)) | set(re.findall(r'(?:option|valued|flag)\(\s*alloc,\s*"([\w-]+)"', text))
     for word in ("run", "check"):
         words[word] = {"setup"}
     return words
@@ -198,6 +198,9 @@ def options():
 def commands():
     words = options()
     expect(len(words["simulate"]) >= 9 and len(words["watch"]) == 6, "the options were not found in the sources")
+    # The one word of pdcgw_demo.
+    if '"plain"' in source("pdcgw_demo", "main"):
+        words["plain"] = set()
     for page in PAGES:
         text = text_of(page)
         blocks = re.findall(r"^```\w*\n(.*?)^```", text, re.S | re.M)

@@ -22,6 +22,8 @@ def kind_of(words, folder):
     """The crate and the kind of work of a process, or None where it is none of the gate's."""
     if not words or "rattle" not in os.path.basename(words[0]):
         return None
+    if "rt-edit-" not in folder and not folder.startswith(os.getcwd() + "/"):
+        return None
     name = words[words.index("--crate-name") + 1] if "--crate-name" in words[:-1] else "?"
     if "rt-edit-" in folder:
         return name, "edits"

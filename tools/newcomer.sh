@@ -91,7 +91,7 @@ fi
 awk '/^```/ { inside = !inside; if (inside) plain = ($0 == "```"); next } inside && plain && NF' "$readme" > "$scratch/commands"
 while read -r command <&3; do
     case $command in
-    "rt try "*) timed "$command" "cd '$clone/crates/pdcgw' && $command" 0 ;;
+    "rt try "*) timed "$command" "cd '$clone/crates/pdcgw_demo' && $command" 0 ;;
     "rt run "*)
         if [ -n "$prove" ]; then
             timed "$command" "cd '$clone/crates/pdcgw' && $command" 0

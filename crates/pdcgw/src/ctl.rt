@@ -12,22 +12,24 @@ use std::io::{BufWriter, ErrorKind};
 
 /// The words of `ctl`.
 pub fn words<'a>(alloc: Global) -> Result<Command<'a>, AllocError> {
-    let control = Arg::new(alloc, "control")
-        .long("control")
-        .value_name("PATH")
-        .help("The control socket: the key `control` of the gateway's setup")
-        .required(true);
-    let lines = Arg::new(alloc, "line")
-        .value_name("LINE")
-        .help("A line, in quotes where it has spaces")
-        .num_args(1..)
-        .action(ArgAction::Append)
-        .required(true);
     Command::new(alloc, "ctl")
         .about("Sends lines to a gateway that runs, and prints the answers")
         .after_help(help::CTL)
-        .arg(control)?
-        .arg(lines)
+        .arg(
+            Arg::new(alloc, "control")
+                .long("control")
+                .value_name("PATH")
+                .help("The control socket: the key `control` of the gateway's setup")
+                .required(true),
+        )?
+        .arg(
+            Arg::new(alloc, "line")
+                .value_name("LINE")
+                .help("A line, in quotes where it has spaces")
+                .num_args(1..)
+                .action(ArgAction::Append)
+                .required(true),
+        )
 }
 
 /// Sends the lines, and prints their answers.

@@ -33,35 +33,43 @@ fn setup_word<'a>(alloc: Global) -> Arg<'a> {
         .required(true)
 }
 
-/// The program's own words.
-fn program<'a>(alloc: Global) -> Result<Command<'a>, AllocError> {
-    let replay = Command::new(alloc, "replay")
+/// The words of `replay`.
+fn replay_words<'a>(alloc: Global) -> Command<'a> {
+    Command::new(alloc, "replay")
         .about("Answers the lines of a script")
-        .after_help(help::REPLAY);
-    let run = Command::new(alloc, "run")
+        .after_help(help::REPLAY)
+}
+
+/// The words of `run`.
+fn run_words<'a>(alloc: Global) -> Result<Command<'a>, AllocError> {
+    Command::new(alloc, "run")
         .about("Serves sources and subscribers over TCP")
         .after_help(help::RUN)
-        .arg(setup_word(alloc))?;
-    let check = Command::new(alloc, "check")
+        .arg(setup_word(alloc))
+}
+
+/// The words of `check`.
+fn check_words<'a>(alloc: Global) -> Result<Command<'a>, AllocError> {
+    Command::new(alloc, "check")
         .about("Tells what is wrong with a setup, or what would run by it")
         .after_help(help::CHECK)
-        .arg(setup_word(alloc))?;
-    let ctl = ctl::words(alloc)?;
-    let simulate = tools::simulate_words(alloc)?;
-    let watch = tools::watch_words(alloc)?;
-    let demo = tools::demo_words(alloc)?;
+        .arg(setup_word(alloc))
+}
+
+/// The program's own words.
+fn program<'a>(alloc: Global) -> Result<Command<'a>, AllocError> {
     Command::new(alloc, "pdcgw")
         .about("A phasor data concentrator gateway for many subscribers")
         .version(VERSION)
         .after_help(help::PROGRAM)
         .subcommand_required(true)
-        .subcommand(replay)?
-        .subcommand(run)?
-        .subcommand(check)?
-        .subcommand(ctl)?
-        .subcommand(simulate)?
-        .subcommand(watch)?
-        .subcommand(demo)
+        .subcommand(replay_words(alloc))?
+        .subcommand(run_words(alloc)?)?
+        .subcommand(check_words(alloc)?)?
+        .subcommand(ctl::words(alloc)?)?
+        .subcommand(tools::simulate_words(alloc)?)?
+        .subcommand(tools::watch_words(alloc)?)?
+        .subcommand(tools::demo_words(alloc)?)
 }
 
 /// What the program comes to.

@@ -12,6 +12,9 @@ use std::rt::{Clock, Files};
 use std::sync::Wait;
 use std::thread::Threads;
 
+/// What `--plain` of `watch` and `demo` does.
+const PLAIN: &str = "Writes a line a second, where standard output is a terminal too";
+
 /// An option with a value, and the value that it has where it is absent.
 fn option<'a>(
     alloc: Global,
@@ -27,13 +30,24 @@ fn option<'a>(
         .help(text)
 }
 
+/// An option with a value, which may be absent.
+fn valued<'a>(alloc: Global, name: &'a str, value: &'a str, text: &'a str) -> Arg<'a> {
+    Arg::new(alloc, name)
+        .long(name)
+        .value_name(value)
+        .help(text)
+}
+
+/// An option without a value.
+fn flag<'a>(alloc: Global, name: &'a str, text: &'a str) -> Arg<'a> {
+    Arg::new(alloc, name)
+        .long(name)
+        .action(ArgAction::SetTrue)
+        .help(text)
+}
+
 /// The words of `simulate`.
 pub fn simulate_words<'a>(alloc: Global) -> Result<Command<'a>, AllocError> {
-    let fault = Arg::new(alloc, "fault")
-        .long("fault")
-        .value_name("FAULT")
-        .action(ArgAction::Append)
-        .help("What it does wrong, as below; may be repeated");
     Command::new(alloc, "simulate")
         .about("Plays a source with PMUs, to try a gateway with")
         .after_help(help::SIMULATE)
@@ -75,7 +89,13 @@ pub fn simulate_words<'a>(alloc: Global) -> Result<Command<'a>, AllocError> {
             "60",
             "The frequency of the grid, 50 or 60",
         ))?
-        .arg(fault)
+        .arg(valued(
+            alloc,
+            "fault",
+            "FAULT",
+            "What it does wrong, as below; may be repeated",
+        )
+        .action(ArgAction::Append))
 }
 
 /// Does the work of `simulate`.
@@ -105,45 +125,36 @@ where
 
 /// The words of `watch`.
 pub fn watch_words<'a>(alloc: Global) -> Result<Command<'a>, AllocError> {
-    let address = Arg::new(alloc, "address")
-        .value_name("A.B.C.D:PORT")
-        .help("The address of a gateway's subscriber, or of a source")
-        .required(true);
-    let csv = Arg::new(alloc, "csv")
-        .long("csv")
-        .action(ArgAction::SetTrue)
-        .help("Writes each data frame as a line of values with commas between");
-    let plain = Arg::new(alloc, "plain")
-        .long("plain")
-        .action(ArgAction::SetTrue)
-        .help("Writes a line a second, where standard output is a terminal too");
-    let raw = Arg::new(alloc, "raw")
-        .long("raw")
-        .value_name("FILE")
-        .help("Keeps the bytes in this file as they come");
-    let frames = Arg::new(alloc, "frames")
-        .long("frames")
-        .value_name("N")
-        .help("Ends after so many data frames");
-    let seconds = Arg::new(alloc, "seconds")
-        .long("seconds")
-        .value_name("N")
-        .help("Ends after so many seconds");
-    let stream = Arg::new(alloc, "stream")
-        .long("stream")
-        .value_name("N")
-        .help("The IDCODE of the stream, or of the source")
-        .required(true);
     Command::new(alloc, "watch")
         .about("Plays a subscriber: checks a stream, and shows it")
         .after_help(help::WATCH)
-        .arg(address)?
-        .arg(stream)?
-        .arg(csv)?
-        .arg(plain)?
-        .arg(raw)?
-        .arg(frames)?
-        .arg(seconds)
+        .arg(
+            Arg::new(alloc, "address")
+                .value_name("A.B.C.D:PORT")
+                .help("The address of a gateway's subscriber, or of a source")
+                .required(true),
+        )?
+        .arg(valued(
+            alloc,
+            "stream",
+            "N",
+            "The IDCODE of the stream, or of the source",
+        )
+        .required(true))?
+        .arg(flag(
+            alloc,
+            "csv",
+            "Writes each data frame as a line of values with commas between",
+        ))?
+        .arg(flag(alloc, "plain", PLAIN))?
+        .arg(valued(
+            alloc,
+            "raw",
+            "FILE",
+            "Keeps the bytes in this file as they come",
+        ))?
+        .arg(valued(alloc, "frames", "N", "Ends after so many data frames"))?
+        .arg(valued(alloc, "seconds", "N", "Ends after so many seconds"))
 }
 
 /// Does the work of `watch`.
@@ -173,19 +184,16 @@ where
 
 /// The words of `demo`.
 pub fn demo_words<'a>(alloc: Global) -> Result<Command<'a>, AllocError> {
-    let plain = Arg::new(alloc, "plain")
-        .long("plain")
-        .action(ArgAction::SetTrue)
-        .help("Writes a line a second, where standard output is a terminal too");
-    let seconds = Arg::new(alloc, "seconds")
-        .long("seconds")
-        .value_name("N")
-        .help("Ends after so many seconds, with status 0 only where every frame came");
     Command::new(alloc, "demo")
         .about("Shows the gateway at work: two sources, two subscribers, in one process")
         .after_help(help::DEMO)
-        .arg(plain)?
-        .arg(seconds)
+        .arg(flag(alloc, "plain", PLAIN))?
+        .arg(valued(
+            alloc,
+            "seconds",
+            "N",
+            "Ends after so many seconds, with status 0 only where every frame came",
+        ))
 }
 
 /// Does the work of `demo`.

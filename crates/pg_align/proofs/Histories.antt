@@ -2,7 +2,7 @@
 use Rattle.std.proofs.Common.{◌≡◌, ◌≢◌, ℕ, zero, suc, ◌+◌, ◌-◌, ◌<◌, ◌≤◌, Bool, true, false, ◌&&◌, List, [], ◌∷◌, length, map, set, get_or, replicate, Option, Some, None, is_some, refl, inl, inr, sym, ◌∙◌, ap, arith}
 use Rattle.std.specs.Prelude.{nat_lt, ◌==◌, unwrap_or, IsTrue, if◌then◌else◌}
 use Rattle.std.proofs.lemmas.Grind.{common_steps}
-use Rattle.pg_align.specs.Histories.{Arrival, History, is_above, put_number, arrived, first_tick, open_numbers, open_slots, parts_from, keep_arrival, take_arrival, answer_to, ticked, started, discarded, reshaped, opening}
+use Rattle.pg_align.specs.Histories.{Arrival, StreamHistory, is_above, put_number, arrived, first_tick, open_numbers, open_slots, parts_from, keep_arrival, take_arrival, answer_to, ticked, started, discarded, reshaped, opening}
 use Rattle.pg_align.specs.Slots.{OpenSlot, Aligned, put_into, part_at, with_part, fresh_slot, with_arrival, answer_at, one_tick_less, with_tick, with_start, with_none, with_shape, none_open}
 use Rattle.pg_align.specs.Shown.{slot_seen, seen_of, CameBy, IsSound, Shows}
 use Rattle.pg_align.proofs.Numbers.{Rising, NotIn, In, NotIn-above, In-above, In-put_here, In-put, NotIn-put, Rising-put}
@@ -27,8 +27,8 @@ module _ {X : Type 0} where
   none_arrived slot [] p e = refl
   none_arrived slot (a ∷ arrivals) p e = none_step slot a arrivals p _ refl e (none_arrived slot arrivals p)
 
-module _ {X : Type 0} (h : History X) (slot place : ℕ) (part : X) where
-  abbrev next : History X
+module _ {X : Type 0} (h : StreamHistory X) (slot place : ℕ) (part : X) where
+  abbrev next : StreamHistory X
   next = keep_arrival h slot place part
 
   -- another slot is seen as before
@@ -154,7 +154,7 @@ module _ {X : Type 0} where
     map_more [] more r i = absurd i
     map_more (n ∷ ns) more r i = more_step n ns _ refl more r i (map_more ns more r.1)
 
-  slots_step : (h : History X) (slot place : ℕ) (part : X) (t : Option ℕ) → first_tick h.arrivals slot ≡ t → is_above h.last slot ≡ true → place < length h.effective → map (slot_seen (keep_arrival h slot place part)) (put_number slot (open_numbers h.last h.arrivals)) ≡ with_part (fresh_slot slot h.wait (length h.effective) place part) place part (map (slot_seen h) (open_numbers h.last h.arrivals))
+  slots_step : (h : StreamHistory X) (slot place : ℕ) (part : X) (t : Option ℕ) → first_tick h.arrivals slot ≡ t → is_above h.last slot ≡ true → place < length h.effective → map (slot_seen (keep_arrival h slot place part)) (put_number slot (open_numbers h.last h.arrivals)) ≡ with_part (fresh_slot slot h.wait (length h.effective) place part) place part (map (slot_seen h) (open_numbers h.last h.arrivals))
   slots_step h slot place part None e up l =
       map_fresh (slot_seen h) (slot_seen (keep_arrival h slot place part)) slot _ place part refl (λ n. refl) (seen_other h slot place part) (open_numbers h.last h.arrivals) (seen_fresh h slot place part l e) (away h.last slot h.arrivals e)
   slots_step h slot place part (Some t) e up l =
@@ -201,7 +201,7 @@ module _ {X : Type 0} where
     part_here [] r i = absurd i
     part_here (n ∷ ns) r i = here_part_step n ns _ refl r i (part_here ns r.1)
 
-  part_step : (h : History X) (slot place : ℕ) (t : Option ℕ) → first_tick h.arrivals slot ≡ t → is_above h.last slot ≡ true → place < length h.effective → part_at (map (slot_seen h) (open_slots h)) slot place ≡ arrived h.arrivals slot place
+  part_step : (h : StreamHistory X) (slot place : ℕ) (t : Option ℕ) → first_tick h.arrivals slot ≡ t → is_above h.last slot ≡ true → place < length h.effective → part_at (map (slot_seen h) (open_slots h)) slot place ≡ arrived h.arrivals slot place
   part_step h slot place None e up l =
       let none = part_away (slot_seen h) slot place (λ n. refl) (open_slots h) (away h.last slot h.arrivals e) in
       none ∙ sym (none_arrived slot h.arrivals place e)
@@ -211,16 +211,16 @@ module _ {X : Type 0} where
       here ∙ (rw from at (arrived_at h.arrivals slot 0 (length h.effective) place l))
 
   -- the part of a slot that did not leave is what came for it
-  pub part_at-seen : (h : History X) (slot place : ℕ) → is_above h.last slot ≡ true → place < length h.effective → part_at (map (slot_seen h) (open_slots h)) slot place ≡ arrived h.arrivals slot place
+  pub part_at-seen : (h : StreamHistory X) (slot place : ℕ) → is_above h.last slot ≡ true → place < length h.effective → part_at (map (slot_seen h) (open_slots h)) slot place ≡ arrived h.arrivals slot place
   part_at-seen h slot place up l = part_step h slot place _ refl up l
 
-  keep_sound : (h : History X) (slot place : ℕ) (part : X) → IsSound h → h.is_on ≡ true → IsSound (keep_arrival h slot place part)
+  keep_sound : (h : StreamHistory X) (slot place : ℕ) (part : X) → IsSound h → h.is_on ≡ true → IsSound (keep_arrival h slot place part)
   keep_sound h slot place part s on = record { by_now = (omega arith, s.by_now); off = λ e. absurd (let f : true ≡ false = sym on ∙ e in cc) }
 
-  abbrev Takes : Aligned X → History X → ℕ → ℕ → X → Type 0
+  abbrev Takes : Aligned X → StreamHistory X → ℕ → ℕ → X → Type 0
   Takes a h slot place part = (answer_at a slot place ≡ answer_to h slot place) × Shows (with_arrival a slot place part) (take_arrival h slot place part)
 
-  take_twice : (h : History X) (slot place : ℕ) (part : X) (t : Bool) → is_some (arrived h.arrivals slot place) ≡ t → IsSound h → is_above h.last slot ≡ true → h.is_on ≡ true → place < length h.effective → Takes (seen_of h) h slot place part
+  take_twice : (h : StreamHistory X) (slot place : ℕ) (part : X) (t : Bool) → is_some (arrived h.arrivals slot place) ≡ t → IsSound h → is_above h.last slot ≡ true → h.is_on ≡ true → place < length h.effective → Takes (seen_of h) h slot place part
   take_twice h slot place part true t s up on l =
       let same = part_at-seen h slot place up l in
       rw (up, same, t) (refl, record { sound = s; same = refl })
@@ -229,12 +229,12 @@ module _ {X : Type 0} where
       let slots = slots_step h slot place part _ refl up l in
       rw (up, same, t) (refl, record { sound = keep_sound h slot place part s on; same = rw (up, slots) })
 
-  take_late : (h : History X) (slot place : ℕ) (part : X) (u : Bool) → is_above h.last slot ≡ u → IsSound h → h.is_on ≡ true → place < length h.effective → Takes (seen_of h) h slot place part
+  take_late : (h : StreamHistory X) (slot place : ℕ) (part : X) (u : Bool) → is_above h.last slot ≡ u → IsSound h → h.is_on ≡ true → place < length h.effective → Takes (seen_of h) h slot place part
   take_late h slot place part true up s on l = take_twice h slot place part _ refl s up on l
   take_late h slot place part false up s on l = rw up (refl, record { sound = s; same = refl })
 
   -- whatever history a stream shows, what it makes of an arrival is that history's
-  pub Shows-arrival : (a : Aligned X) (h : History X) (slot place : ℕ) (part : X) → Shows a h → IsTrue a.is_on → place < length a.effective → (answer_at a slot place ≡ answer_to h slot place) × Shows (with_arrival a slot place part) (take_arrival h slot place part)
+  pub Shows-arrival : (a : Aligned X) (h : StreamHistory X) (slot place : ℕ) (part : X) → Shows a h → IsTrue a.is_on → place < length a.effective → (answer_at a slot place ≡ answer_to h slot place) × Shows (with_arrival a slot place part) (take_arrival h slot place part)
   Shows-arrival a h slot place part s on l =
       rw s.same (take_late h slot place part _ refl s.sound (rw s.same at on) (rw s.same at l))
 
@@ -247,14 +247,14 @@ module _ {X : Type 0} where
   first_by [] slot t ticks c e = absurd cc
   first_by (a ∷ arrivals) slot t ticks c e = bound_step a arrivals slot t ticks _ refl c.0 (λ u. first_by arrivals slot u ticks c.1) e
 
-  ticked_slot : (h : History X) (n : ℕ) (t : Option ℕ) → first_tick h.arrivals n ≡ t → IsSound h → In n (open_slots h) → slot_seen (ticked h) n ≡ one_tick_less (slot_seen h n)
+  ticked_slot : (h : StreamHistory X) (n : ℕ) (t : Option ℕ) → first_tick h.arrivals n ≡ t → IsSound h → In n (open_slots h) → slot_seen (ticked h) n ≡ one_tick_less (slot_seen h n)
   ticked_slot h n None e s i = absurd (both n (open_slots h) i (away h.last n h.arrivals e))
   ticked_slot h n (Some t) e s i =
       let by : t ≤ h.ticks = first_by h.arrivals n t h.ticks s.by_now e in
       let less : h.wait - (h.ticks + 1 - t) ≡ h.wait - (h.ticks - t) - 1 = omega (arith, by) in
       rw (e, less)
 
-  ticked_slots : (h : History X) (ns : List ℕ) → ((n : ℕ) → In n ns → slot_seen (ticked h) n ≡ one_tick_less (slot_seen h n)) → map (slot_seen (ticked h)) ns ≡ map one_tick_less (map (slot_seen h) ns)
+  ticked_slots : (h : StreamHistory X) (ns : List ℕ) → ((n : ℕ) → In n ns → slot_seen (ticked h) n ≡ one_tick_less (slot_seen h n)) → map (slot_seen (ticked h)) ns ≡ map one_tick_less (map (slot_seen h) ns)
   ticked_slots h [] each = refl
   ticked_slots h (n ∷ ns) each = rw (each n (inl refl), ticked_slots h ns (λ m i. each m (inr i)))
 
@@ -263,12 +263,12 @@ module _ {X : Type 0} where
   later (a ∷ arrivals) ticks c = (omega (arith, c.0), later arrivals ticks c.1)
 
   -- after a tick a stream shows the history with this tick
-  pub Shows-tick : (a : Aligned X) (h : History X) → Shows a h → Shows (with_tick a) (ticked h)
+  pub Shows-tick : (a : Aligned X) (h : StreamHistory X) → Shows a h → Shows (with_tick a) (ticked h)
   Shows-tick a h s =
       let slots = ticked_slots h (open_slots h) (λ n i. ticked_slot h n _ refl s.sound i) in
       record { sound = record { by_now = later h.arrivals h.ticks s.sound.by_now; off = s.sound.off }; same = rw (s.same, slots) }
 
-  start_step : (h : History X) (b : Bool) → h.is_on ≡ b → IsSound h → Shows (with_start (seen_of h)) (started h)
+  start_step : (h : StreamHistory X) (b : Bool) → h.is_on ≡ b → IsSound h → Shows (with_start (seen_of h)) (started h)
   start_step h true on s =
       let seen : with_start (seen_of h) ≡ seen_of h = ap (λ b. if b then seen_of h else record (seen_of h) { is_on = true; last = None }) on in
       let same : started h ≡ h = ap (λ b. if b then h else record h { is_on = true; last = None; arrivals = [] }) on in
@@ -277,17 +277,17 @@ module _ {X : Type 0} where
       let off : h.arrivals ≡ [] = s.off on in
       rw (on, off) (record { sound = record { by_now = tt; off = λ e. refl }; same = refl })
 
-  pub Shows-start : (a : Aligned X) (h : History X) → Shows a h → Shows (with_start a) (started h)
+  pub Shows-start : (a : Aligned X) (h : StreamHistory X) → Shows a h → Shows (with_start a) (started h)
   Shows-start a h s = rw s.same (start_step h _ refl s.sound)
 
-  pub Shows-discard : (a : Aligned X) (h : History X) → Shows a h → Shows (with_none a) (discarded h)
+  pub Shows-discard : (a : Aligned X) (h : StreamHistory X) → Shows a h → Shows (with_none a) (discarded h)
   Shows-discard a h s = record { sound = record { by_now = tt; off = λ e. refl }; same = rw s.same }
 
   none_of : (f : ℕ → OpenSlot X) (ns : List ℕ) → map f ns ≡ [] → ns ≡ []
   none_of f [] e = refl
   none_of f (n ∷ ns) e = absurd cc
 
-  pub Shows-reshape : (a : Aligned X) (h : History X) (effective : List Bool) → Shows a h → a.slots ≡ [] → Shows (with_shape a effective) (reshaped h effective)
+  pub Shows-reshape : (a : Aligned X) (h : StreamHistory X) (effective : List Bool) → Shows a h → a.slots ≡ [] → Shows (with_shape a effective) (reshaped h effective)
   Shows-reshape a h effective s none =
       let closed : open_slots h ≡ [] = none_of (slot_seen h) (open_slots h) (rw s.same at none) in
       record { sound = record { by_now = s.sound.by_now; off = s.sound.off }; same = rw (s.same, closed) }

@@ -1,4 +1,5 @@
 pub mod Parts
+pub mod Counting
 pub mod Kept
 pub mod Keeping
 pub mod Arriving

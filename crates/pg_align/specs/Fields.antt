@@ -1,6 +1,6 @@
 -- What the fields of an alignment mean, and what they keep.
-use Rattle.std.specs.Prelude.{◌≡◌, ◌+◌, ◌≤◌, [], ◌∷◌, None, Some, List, length, map, Option, vec_capacity, false}
-use Rattle.pg_data.specs.Shared.{Piece}
+use Rattle.std.specs.Prelude.{◌≡◌, ◌+◌, ◌≤◌, ℕ, suc, [], ◌∷◌, None, Some, List, length, map, Option, vec_capacity, Bool, false, ◌&&◌, not, is_some, if◌then◌else◌}
+use Rattle.pg_data.specs.Pieces.{Piece}
 use Rattle.pg_align.specs.Slots.{OpenSlot, Aligned, HavePlaces, AreFree, AreRising}
 use Rattle.pg_align.specs.declared.slot.Slot.{Slot}
 use Rattle.pg_align.specs.declared.align.Align.TheInside.{Inside}
@@ -17,6 +17,17 @@ abbrev pub lent : Option Slot → List Slot
 lent None = []
 lent (Some slot) = slot ∷ []
 
+-- how many effective members have no part; one past the end of the parts has none
+abbrev pub lacking : List Bool → List (Option Piece) → ℕ
+lacking [] parts = 0
+lacking (wanted ∷ effective) [] = if wanted then suc (lacking effective []) else lacking effective []
+lacking (wanted ∷ effective) (part ∷ parts) = if wanted && not (is_some part) then suc (lacking effective parts) else lacking effective parts
+
+-- what each slot counts as missing is what is
+abbrev pub AreCounted : List Bool → List Slot → Type 0
+AreCounted effective [] = Unit {0}
+AreCounted effective (slot ∷ slots) = (slot.missing ≡ lacking effective slot.parts.items) × AreCounted effective slots
+
 abbrev pub aligned_of : Inside → Aligned Piece
 aligned_of a =
     record {
@@ -28,10 +39,11 @@ aligned_of a =
       slots = slots_of a.slots.items;
     }
 
-pub record IsKept (a : Inside) : Type 0 where
+pub record AlignIsKept (a : Inside) : Type 0 where
   pub some_window : 1 ≤ a.window
   pub small_window : a.window ≤ 64
   pub small_wait : a.wait ≤ 60000
+  pub wanted : a.wanted ≡ lacking a.effective.items []
   pub some_members : 1 ≤ length a.effective.items
   pub few_members : length a.effective.items ≤ 32
   -- each of the reserved slots is open, free or lent
@@ -40,6 +52,7 @@ pub record IsKept (a : Inside) : Type 0 where
   pub spare_room : a.window + 1 ≤ vec_capacity a.spare
   pub slots_places : HavePlaces (length a.effective.items) (slots_of a.slots.items)
   pub rising : AreRising (slots_of a.slots.items)
+  pub counted : AreCounted a.effective.items a.slots.items
   pub spare_free : AreFree (length a.effective.items) (slots_of a.spare.items)
   pub lent_places : HavePlaces (length a.effective.items) (slots_of (lent a.leaving))
   -- while it is off, no slot is open

@@ -12,7 +12,7 @@ pub record Arrival (X : Type 0) : Type 0 where
 
 -- a stream: its window and wait, which members are effective (a Bool for each), whether it is on, the last slot that left
 -- in this on-period, the arrivals kept in it, the newest first, and the ticks so far
-pub record History (X : Type 0) : Type 0 where
+pub record StreamHistory (X : Type 0) : Type 0 where
   pub window : ℕ
   pub wait : ℕ
   pub effective : List Bool
@@ -62,7 +62,7 @@ has_all {X = X} (wanted ∷ effective) [] = not wanted && has_all {X = X} effect
 has_all (wanted ∷ effective) (part ∷ parts) = (is_some part || not wanted) && has_all effective parts
 
 -- a stream that was just defined: it is off, and no member is effective
-abbrev pub opening : {X : Type 0} → ℕ → ℕ → ℕ → History X
+abbrev pub opening : {X : Type 0} → ℕ → ℕ → ℕ → StreamHistory X
 opening window wait members =
     record { window = window; wait = wait; effective = replicate members false; is_on = false; last = None; arrivals = []; ticks = 0 }
 
@@ -83,7 +83,7 @@ module _ {X : Type 0} where
   open_numbers last (a ∷ arrivals) = if is_above last a.slot then put_number a.slot (open_numbers last arrivals) else open_numbers last arrivals
 
   -- the open slots
-  abbrev pub open_slots : History X → List ℕ
+  abbrev pub open_slots : StreamHistory X → List ℕ
   open_slots h = open_numbers h.last h.arrivals
 
   -- what came for a slot, for n places from one on
@@ -92,86 +92,86 @@ module _ {X : Type 0} where
   parts_from arrivals slot place (suc n) = arrived arrivals slot place ∷ parts_from arrivals slot (place + 1) n
 
   -- what came for a slot, for each member
-  abbrev pub parts_for : History X → ℕ → List (Option X)
+  abbrev pub parts_for : StreamHistory X → ℕ → List (Option X)
   parts_for h slot = parts_from h.arrivals slot 0 (length h.effective)
 
   -- each effective member has an arrival for the slot
-  abbrev pub is_complete : History X → ℕ → Bool
+  abbrev pub is_complete : StreamHistory X → ℕ → Bool
   is_complete h slot = has_all h.effective (parts_for h slot)
 
   -- the ticks since the first arrival for a slot
-  abbrev pub ticks_since : History X → ℕ → ℕ
+  abbrev pub ticks_since : StreamHistory X → ℕ → ℕ
   ticks_since h slot = h.ticks - unwrap_or (first_tick h.arrivals slot) h.ticks
 
   -- these are at least the wait
-  abbrev pub is_due : History X → ℕ → Bool
+  abbrev pub is_due : StreamHistory X → ℕ → Bool
   is_due h slot = nat_le h.wait (ticks_since h slot)
 
   -- Of these open slots the least is to leave: it is complete, due, or one of more than the window.
-  abbrev pub is_to_leave : History X → List ℕ → Bool
+  abbrev pub is_to_leave : StreamHistory X → List ℕ → Bool
   is_to_leave h [] = false
   is_to_leave h (slot ∷ slots) = is_complete h slot || (is_due h slot || nat_lt h.window (length (slot ∷ slots)))
 
   -- the slot with what came for it, as it leaves
-  abbrev pub departed : History X → ℕ → Departed X
+  abbrev pub departed : StreamHistory X → ℕ → Departed X
   departed h slot = record { slot = slot; parts = parts_for h slot }
 
   -- the slot has left
-  abbrev pub left : History X → ℕ → History X
+  abbrev pub left : StreamHistory X → ℕ → StreamHistory X
   left h slot = record h { last = Some slot }
 
   -- An arrival is late where its slot is at or below the last one that left, else twice where one of its slot and place
   -- was kept, else it is kept.
-  abbrev pub answer_to : History X → ℕ → ℕ → Arrived
+  abbrev pub answer_to : StreamHistory X → ℕ → ℕ → Arrived
   answer_to h slot place =
       if not (is_above h.last slot) then Late else (if is_some (arrived h.arrivals slot place) then Twice else Kept)
 
   -- an arrival is appended
-  abbrev pub keep_arrival : History X → ℕ → ℕ → X → History X
+  abbrev pub keep_arrival : StreamHistory X → ℕ → ℕ → X → StreamHistory X
   keep_arrival h slot place part =
       record h { arrivals = record { slot = slot; place = place; part = part; tick = h.ticks } ∷ h.arrivals }
 
   -- an arrival comes: it is kept, or changes nothing
-  abbrev pub take_arrival : History X → ℕ → ℕ → X → History X
+  abbrev pub take_arrival : StreamHistory X → ℕ → ℕ → X → StreamHistory X
   take_arrival h slot place part =
       if not (is_above h.last slot) then h else (if is_some (arrived h.arrivals slot place) then h else keep_arrival h slot place part)
 
   -- one tick more
-  abbrev pub ticked : History X → History X
+  abbrev pub ticked : StreamHistory X → StreamHistory X
   ticked h = record h { ticks = h.ticks + 1 }
 
   -- an on-period begins, with no last slot and no arrival; a stream that is on stays as it is
-  abbrev pub started : History X → History X
+  abbrev pub started : StreamHistory X → StreamHistory X
   started h = if h.is_on then h else record h { is_on = true; last = None; arrivals = [] }
 
   -- the stream is switched off, and its arrivals are discarded
-  abbrev pub discarded : History X → History X
+  abbrev pub discarded : StreamHistory X → StreamHistory X
   discarded h = record h { is_on = false; arrivals = [] }
 
   -- other members are effective
-  abbrev pub reshaped : History X → List Bool → History X
+  abbrev pub reshaped : StreamHistory X → List Bool → StreamHistory X
   reshaped h effective = record h { effective = effective }
 
   -- the least of these open slots, where it is to leave
-  abbrev pub least_to_leave : History X → List ℕ → Option (Departed X)
+  abbrev pub least_to_leave : StreamHistory X → List ℕ → Option (Departed X)
   least_to_leave h [] = None
   least_to_leave h (slot ∷ slots) = if is_to_leave h (slot ∷ slots) then Some (departed h slot) else None
 
   -- the slot that leaves next, if one is to leave
-  abbrev pub next_to_leave : History X → Option (Departed X)
+  abbrev pub next_to_leave : StreamHistory X → Option (Departed X)
   next_to_leave h = least_to_leave h (open_slots h)
 
-  abbrev pub leave_least : History X → List ℕ → History X
+  abbrev pub leave_least : StreamHistory X → List ℕ → StreamHistory X
   leave_least h [] = h
   leave_least h (slot ∷ slots) = if is_to_leave h (slot ∷ slots) then left h slot else h
 
   -- it has left, if one was to leave
-  abbrev pub leave_one : History X → History X
+  abbrev pub leave_one : StreamHistory X → StreamHistory X
   leave_one h = leave_least h (open_slots h)
 
   -- While the least open slot is complete, due, or one of more than the window, its frame is made and it becomes the last
   -- one that left. These are the open slots, rising.
-  abbrev pub leave_in_turn : History X → List ℕ → Departures X (History X)
+  abbrev pub leave_in_turn : StreamHistory X → List ℕ → Departures X (StreamHistory X)
   leave_in_turn h [] = record { frames = []; after = h }
   leave_in_turn h (slot ∷ slots) =
       if is_to_leave h (slot ∷ slots)
@@ -179,30 +179,30 @@ module _ {X : Type 0} where
       else record { frames = []; after = h }
 
   -- all that are to leave leave
-  abbrev pub leave_all : History X → Departures X (History X)
+  abbrev pub leave_all : StreamHistory X → Departures X (StreamHistory X)
   leave_all h = leave_in_turn h (open_slots h)
 
-  abbrev pub first_of_open : History X → List ℕ → Option (Departed X)
+  abbrev pub first_of_open : StreamHistory X → List ℕ → Option (Departed X)
   first_of_open h [] = None
   first_of_open h (slot ∷ slots) = Some (departed h slot)
 
   -- the slot that a flush lets leave next
-  abbrev pub next_to_flush : History X → Option (Departed X)
+  abbrev pub next_to_flush : StreamHistory X → Option (Departed X)
   next_to_flush h = first_of_open h (open_slots h)
 
-  abbrev pub flush_least : History X → List ℕ → History X
+  abbrev pub flush_least : StreamHistory X → List ℕ → StreamHistory X
   flush_least h [] = h
   flush_least h (slot ∷ slots) = left h slot
 
   -- it has left
-  abbrev pub flush_one : History X → History X
+  abbrev pub flush_one : StreamHistory X → StreamHistory X
   flush_one h = flush_least h (open_slots h)
 
   -- these open slots all leave, rising
-  abbrev pub flush_in_turn : History X → List ℕ → Departures X (History X)
+  abbrev pub flush_in_turn : StreamHistory X → List ℕ → Departures X (StreamHistory X)
   flush_in_turn h [] = record { frames = []; after = h }
   flush_in_turn h (slot ∷ slots) = with_first (departed h slot) (flush_in_turn (left h slot) slots)
 
   -- all open slots leave, rising
-  abbrev pub flush_all : History X → Departures X (History X)
+  abbrev pub flush_all : StreamHistory X → Departures X (StreamHistory X)
   flush_all h = flush_in_turn h (open_slots h)

@@ -1,13 +1,13 @@
 -- What a stream by its arrivals shows: its open slots as they stand.
 use Rattle.std.specs.Prelude.{◌≡◌, ℕ, ◌-◌, ◌≤◌, false, List, [], ◌∷◌, map}
-use Rattle.pg_align.specs.Histories.{Arrival, History, open_slots, parts_for, ticks_since}
+use Rattle.pg_align.specs.Histories.{Arrival, StreamHistory, open_slots, parts_for, ticks_since}
 use Rattle.pg_align.specs.Slots.{OpenSlot, Aligned}
 
 module _ {X : Type 0} where
-  abbrev pub slot_seen : History X → ℕ → OpenSlot X
+  abbrev pub slot_seen : StreamHistory X → ℕ → OpenSlot X
   slot_seen h slot = record { slot = slot; ticks_left = h.wait - ticks_since h slot; parts = parts_for h slot }
 
-  abbrev pub seen_of : History X → Aligned X
+  abbrev pub seen_of : StreamHistory X → Aligned X
   seen_of h =
       record {
         window = h.window;
@@ -24,11 +24,11 @@ module _ {X : Type 0} where
   CameBy ticks (a ∷ arrivals) = (a.tick ≤ ticks) × CameBy ticks arrivals
 
   -- what each history keeps that the calls lead to: no arrival is later than now, and while it is off there is none
-  pub record IsSound (h : History X) : Type 0 where
+  pub record IsSound (h : StreamHistory X) : Type 0 where
     pub by_now : CameBy h.ticks h.arrivals
     pub off : h.is_on ≡ false → h.arrivals ≡ []
 
   -- a stream shows this history
-  pub record Shows (a : Aligned X) (h : History X) : Type 0 where
+  pub record Shows (a : Aligned X) (h : StreamHistory X) : Type 0 where
     pub sound : IsSound h
     pub same : a ≡ seen_of h

@@ -98,12 +98,12 @@ module _ {X : Type 0} where
   abbrev pub head_with : ℕ → List (Option X) → Departed X
   head_with slot parts = record { slot = slot; parts = parts }
 
-  abbrev pub head_of : OpenSlot X → Departed X
-  head_of slot = head_with slot.slot slot.parts
+  abbrev pub front_of : OpenSlot X → Departed X
+  front_of slot = head_with slot.slot slot.parts
 
   abbrev pub least_of : List (OpenSlot X) → Option (Departed X)
   least_of [] = None
-  least_of (least ∷ slots) = Some (head_of least)
+  least_of (least ∷ slots) = Some (front_of least)
 
   -- the slot that leaves next, if one is to leave
   abbrev pub leaving_of : Aligned X → Option (Departed X)
@@ -130,7 +130,7 @@ module _ {X : Type 0} where
   all_leaving_of a [] = record { frames = []; after = a }
   all_leaving_of a (least ∷ slots) =
       if leaves_now a.window a.effective (least ∷ slots)
-      then with_first (head_of least) (all_leaving_of (without_first a (least ∷ slots)) slots)
+      then with_first (front_of least) (all_leaving_of (without_first a (least ∷ slots)) slots)
       else record { frames = []; after = a }
 
   -- all that are to leave, and what is left behind
@@ -140,7 +140,7 @@ module _ {X : Type 0} where
   -- these open slots have all left
   abbrev pub all_flushed_of : Aligned X → List (OpenSlot X) → Departures X (Aligned X)
   all_flushed_of a [] = record { frames = []; after = a }
-  all_flushed_of a (least ∷ slots) = with_first (head_of least) (all_flushed_of (without_first a (least ∷ slots)) slots)
+  all_flushed_of a (least ∷ slots) = with_first (front_of least) (all_flushed_of (without_first a (least ∷ slots)) slots)
 
   -- all open slots, and what is left behind
   abbrev pub all_flushed : Aligned X → Departures X (Aligned X)

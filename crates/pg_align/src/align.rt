@@ -1,16 +1,17 @@
 //! The alignment of a stream. A clause sees it as its open slots.
-ghost use Rattle.std.specs.Prelude.{◌≡◌, ◌<◌, ◌≤◌, ◌↔◌, ℕ, List, [], ◌∷◌, length, slice_index_or, option_map, Option, Some, None, IsTrue, IfSome, IfNone, IsSome, IfOk, IfErr, nat_le, false};
+ghost use Rattle.std.specs.Prelude.{◌≡◌, ◌<◌, ◌≤◌, ◌↔◌, ℕ, List, [], ◌∷◌, length, slice_index_or, option_map, Option, Some, None, IsTrue, IfSome, IfNone, IsSome, IfOk, IfErr, nat_le, Bool, false};
 ghost use Rattle.std.specs.Borrow.{sem};
-ghost use Rattle.pg_data.specs.Shared.{Piece};
+ghost use Rattle.pg_data.specs.Pieces.{Piece};
 ghost use Rattle.pg_stream.specs.Limits.{IsWithinLimits};
-ghost use Rattle.pg_align.specs.Histories.{Departed, History, answer_to, discarded, is_above, next_to_flush, next_to_leave, open_slots, opening, reshaped, started, take_arrival, ticked};
-ghost use Rattle.pg_align.specs.Slots.{Aligned, HavePlaces, answer_at, flushed_of, head_of, head_with, least_of, leaves_now, leaving_of, none_open, others_than, with_arrival, with_none, with_shape, with_start, with_tick};
+ghost use Rattle.pg_align.specs.Histories.{Departed, StreamHistory, answer_to, discarded, is_above, next_to_flush, next_to_leave, open_slots, opening, reshaped, started, take_arrival, ticked};
+ghost use Rattle.pg_align.specs.Slots.{Aligned, HavePlaces, answer_at, flushed_of, front_of, head_with, least_of, leaves_now, leaving_of, none_open, others_than, with_arrival, with_none, with_shape, with_start, with_tick};
 ghost use Rattle.pg_align.specs.Shown.{Shows};
-ghost use Rattle.pg_align.specs.Fields.{slot_of, slots_of};
+ghost use Rattle.pg_align.specs.Fields.{slot_of, slots_of, AreCounted};
 
 use crate::answer::Arrived;
 use crate::slot::{
-    Slot, add_arrival, free_all, free_slots, is_complete, take_back, take_least, tick_all,
+    Opening, Slot, add_arrival, count_effective, free_all, free_slots, take_back, take_least,
+    tick_all,
 };
 use pg_data::SharedBlock;
 use pg_stream::Definition;
@@ -26,6 +27,7 @@ pub struct Align {
     window: usize,
     wait: u32,
     effective: Vec<bool>,
+    wanted: u32,
     is_on: bool,
     last: Option<u64>,
     slots: Vec<Slot>,
@@ -34,16 +36,16 @@ pub struct Align {
 }
 
 impl Model for Align {
-    ghost use Rattle.pg_data.specs.Shared.{Piece};
+    ghost use Rattle.pg_data.specs.Pieces.{Piece};
     ghost use Rattle.pg_align.specs.Slots.{Aligned};
 
     ghost Value = { Aligned Piece };
 
-    ghost use Rattle.pg_align.specs.Fields.{aligned_of, IsKept};
+    ghost use Rattle.pg_align.specs.Fields.{aligned_of, AlignIsKept};
 
     ghost view = { aligned_of };
 
-    ghost invariant = { IsKept };
+    ghost invariant = { AlignIsKept };
 }
 
 /// A slot that left, lent until the next call.
@@ -60,6 +62,7 @@ impl Align {
 
     /// The alignment of a stream that is off and has no effective member, with its slots and places reserved. It asks for
     /// a definition within the limits. Refused with `NoMemory` alone.
+    #[tactic(auto, using(crate::proofs::Counting::none_wanted))]
     pub fn new(alloc: Global, definition: &Definition) -> Result<Align, Refusal>
         requires { IsWithinLimits definition.now }
         ensures shown { IfOk result (λ align.
@@ -77,6 +80,7 @@ impl Align {
             window,
             wait: definition.wait,
             effective,
+            wanted: 0,
             is_on: false,
             last: None,
             slots,
@@ -88,7 +92,7 @@ impl Align {
     /// Whether the stream is on.
     pub fn is_on(&self) -> bool
         ensures shown { result ≡ self.now.is_on }
-        ensures history { (h : History Piece) → Shows self.now h → result ≡ h.is_on }
+        ensures history { (h : StreamHistory Piece) → Shows self.now h → result ≡ h.is_on }
     {
         self.is_on
     }
@@ -96,7 +100,7 @@ impl Align {
     /// The number of open slots. It is at most the window once `leave_next` has answered `None`.
     pub fn open_slots(&self) -> usize
         ensures shown { result ≡ length self.now.slots }
-        ensures history { (h : History Piece) → Shows self.now h → result ≡ length (open_slots h) }
+        ensures history { (h : StreamHistory Piece) → Shows self.now h → result ≡ length (open_slots h) }
     {
         self.slots.len()
     }
@@ -113,7 +117,7 @@ impl Align {
     /// Whether the member at this place in the definition's order is effective.
     pub fn is_effective(&self, place: usize) -> bool
         ensures shown { result ≡ slice_index_or self.now.effective place false }
-        ensures history { (h : History Piece) → Shows self.now h → result ≡ slice_index_or h.effective place false }
+        ensures history { (h : StreamHistory Piece) → Shows self.now h → result ≡ slice_index_or h.effective place false }
     {
         place < self.effective.len() && self.effective[place]
     }
@@ -121,7 +125,7 @@ impl Align {
     /// Switches the stream on, with no last slot and no open slot. A stream that is on stays as it is.
     pub fn start(&mut self)
         ensures shown { self.new ≡ with_start self.old }
-        ensures history { (h : History Piece) → Shows self.old h → Shows self.new (started h) }
+        ensures history { (h : StreamHistory Piece) → Shows self.old h → Shows self.new (started h) }
     {
         if !self.is_on {
             self.is_on = true;
@@ -132,7 +136,7 @@ impl Align {
     /// Switches the stream off; its open slots are discarded.
     pub fn discard(&mut self)
         ensures shown { self.new ≡ with_none self.old }
-        ensures history { (h : History Piece) → Shows self.old h → Shows self.new (discarded h) }
+        ensures history { (h : StreamHistory Piece) → Shows self.old h → Shows self.new (discarded h) }
     {
         take_back(&mut self.leaving, &mut self.spare);
         free_all(&mut self.slots, &mut self.spare);
@@ -144,9 +148,10 @@ impl Align {
         requires members { length effective.now ≡ length self.old.effective }
         requires none_open { self.old.slots ≡ [] }
         ensures shown { self.new ≡ with_shape self.old effective.now }
-        ensures history { (h : History Piece) → Shows self.old h → Shows self.new (reshaped h effective.now) }
+        ensures history { (h : StreamHistory Piece) → Shows self.old h → Shows self.new (reshaped h effective.now) }
     {
         self.effective.copy_from_slice(effective);
+        self.wanted = count_effective(effective);
     }
 
     /// Takes a member's data block for a slot, where `place` is the member's in the definition's order. A slot at or below
@@ -160,19 +165,22 @@ impl Align {
         ensures shown { self.new ≡ with_arrival self.old slot place block }
         // A further block for the same slot finds the same room.
         ensures room { others_than slot self.new.slots ≡ others_than slot self.old.slots }
-        ensures history { (h : History Piece) → Shows self.old h
+        ensures history { (h : StreamHistory Piece) → Shows self.old h
             → (result ≡ answer_to h slot place) × Shows self.new (take_arrival h slot place block) }
     {
         take_back(&mut self.leaving, &mut self.spare);
         if !is_after(self.last, slot) {
             return Arrived::Late;
         }
-        let places = self.effective.len();
+        let opening = Opening {
+            places: self.effective.len(),
+            wait: self.wait,
+            missing: self.wanted,
+        };
         if add_arrival(
             &mut self.slots,
             &mut self.spare,
-            places,
-            self.wait,
+            opening,
             slot,
             place,
             block,
@@ -187,7 +195,7 @@ impl Align {
     #[tactic(auto, using(crate::proofs::Kept::kept_steps))]
     pub fn tick(&mut self)
         ensures shown { self.new ≡ with_tick self.old }
-        ensures history { (h : History Piece) → Shows self.old h → Shows self.new (ticked h) }
+        ensures history { (h : StreamHistory Piece) → Shows self.old h → Shows self.new (ticked h) }
     {
         tick_all(&mut self.slots);
     }
@@ -200,11 +208,11 @@ impl Align {
         ensures leaves { option_map (λ left. head_with left.slot left.parts.now) result ≡ leaving_of self.old }
         ensures members { IfSome result (λ left. length left.parts.now ≡ length self.old.effective) }
         ensures few { IfNone result (length self.old.slots ≤ self.old.window) }
-        ensures history { (h : History Piece) → Shows self.old h
+        ensures history { (h : StreamHistory Piece) → Shows self.old h
             → option_map (λ left. head_with left.slot left.parts.now) result ≡ next_to_leave h }
     {
         take_back(&mut self.leaving, &mut self.spare);
-        if !least_is_leaving(&self.slots, &self.effective, self.window) {
+        if !least_is_leaving(&self.slots, self.window) {
             return None;
         }
         let least = take_least(&mut self.slots);
@@ -221,7 +229,7 @@ impl Align {
         ensures leaves { option_map (λ left. head_with left.slot left.parts.now) result ≡ flushed_of self.old }
         ensures members { IfSome result (λ left. length left.parts.now ≡ length self.old.effective) }
         ensures none { IfNone result (self.old.slots ≡ []) }
-        ensures history { (h : History Piece) → Shows self.old h
+        ensures history { (h : StreamHistory Piece) → Shows self.old h
             → option_map (λ left. head_with left.slot left.parts.now) result ≡ next_to_flush h }
     {
         take_back(&mut self.leaving, &mut self.spare);
@@ -246,17 +254,15 @@ fn is_after(last: Option<u64>, slot: u64) -> bool
 }
 
 /// Whether the least slot is complete or due, or one of more than the window.
-fn least_is_leaving(slots: &[Slot], effective: &[bool], window: usize) -> bool
-    requires { HavePlaces (length effective.now) (slots_of slots.now) }
-    ensures leaves { result ≡ leaves_now window effective.now (slots_of slots.now) }
+fn least_is_leaving(slots: &[Slot], window: usize) -> bool
+    ensures leaves { (effective : List Bool) → AreCounted effective slots.now
+        → result ≡ leaves_now window effective (slots_of slots.now) }
     ensures some_slot { IsTrue result → 0 < length slots.now }
     ensures few { result ≡ false → length slots.now ≤ window }
 {
     match slots.first() {
         None => false,
-        Some(least) => {
-            is_complete(effective, &least.parts) || least.ticks_left == 0 || slots.len() > window
-        }
+        Some(least) => least.missing == 0 || least.ticks_left == 0 || slots.len() > window,
     }
 }
 

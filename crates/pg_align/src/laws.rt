@@ -1,8 +1,8 @@
 //! Laws of slots that leave, as contracts of functions that do nothing: a caller that needs one calls it.
 ghost use Rattle.std.specs.Prelude.{◌≡◌, ◌≤◌, ℕ, List, [], length, map, Some, None, false};
-ghost use Rattle.pg_data.specs.Shared.{Piece};
+ghost use Rattle.pg_data.specs.Pieces.{Piece};
 ghost use Rattle.pg_align.specs.declared.answer.Arrived.{Arrived};
-ghost use Rattle.pg_align.specs.Histories.{Departed, History, RiseTo, answer_to, flush_all, flush_one, is_above, leave_all, leave_one, next_to_flush, next_to_leave, open_slots, slot_left, take_arrival, with_first};
+ghost use Rattle.pg_align.specs.Histories.{Departed, StreamHistory, RiseTo, answer_to, flush_all, flush_one, is_above, leave_all, leave_one, next_to_flush, next_to_leave, open_slots, slot_left, take_arrival, with_first};
 ghost use Rattle.pg_align.specs.Slots.{Aligned, OpenSlot, after_leaving, all_flushed, all_leaving, flushed_of, leaving_of, others_than, without_least};
 ghost use Rattle.pg_align.specs.Shown.{Shows};
 
@@ -10,23 +10,23 @@ ghost use Rattle.pg_align.specs.Shown.{Shows};
 /// history's, and afterwards it shows that history with this slot gone. The same of all slots that leave, one after
 /// another.
 pub fn leaving_shows_history()
-    ensures next { (align : Aligned Piece) (h : History Piece) → Shows align h → leaving_of align ≡ next_to_leave h }
-    ensures after { (align : Aligned Piece) (h : History Piece) → Shows align h
+    ensures next { (align : Aligned Piece) (h : StreamHistory Piece) → Shows align h → leaving_of align ≡ next_to_leave h }
+    ensures after { (align : Aligned Piece) (h : StreamHistory Piece) → Shows align h
         → Shows (after_leaving align) (leave_one h) }
-    ensures frames { (align : Aligned Piece) (h : History Piece) → Shows align h
+    ensures frames { (align : Aligned Piece) (h : StreamHistory Piece) → Shows align h
         → (all_leaving align).frames ≡ (leave_all h).frames }
-    ensures end { (align : Aligned Piece) (h : History Piece) → Shows align h
+    ensures end { (align : Aligned Piece) (h : StreamHistory Piece) → Shows align h
         → Shows (all_leaving align).after (leave_all h).after }
 {}
 
 /// What `flush_next` does, by the list of all arrivals, and the same of all open slots.
 pub fn flushing_shows_history()
-    ensures next { (align : Aligned Piece) (h : History Piece) → Shows align h → flushed_of align ≡ next_to_flush h }
-    ensures after { (align : Aligned Piece) (h : History Piece) → Shows align h
+    ensures next { (align : Aligned Piece) (h : StreamHistory Piece) → Shows align h → flushed_of align ≡ next_to_flush h }
+    ensures after { (align : Aligned Piece) (h : StreamHistory Piece) → Shows align h
         → Shows (without_least align) (flush_one h) }
-    ensures frames { (align : Aligned Piece) (h : History Piece) → Shows align h
+    ensures frames { (align : Aligned Piece) (h : StreamHistory Piece) → Shows align h
         → (all_flushed align).frames ≡ (flush_all h).frames }
-    ensures end { (align : Aligned Piece) (h : History Piece) → Shows align h
+    ensures end { (align : Aligned Piece) (h : StreamHistory Piece) → Shows align h
         → Shows (all_flushed align).after (flush_all h).after }
 {}
 
@@ -49,13 +49,13 @@ pub fn all_flushed_in_steps()
 /// By the list of all arrivals: while a slot is to leave it leaves, and what leaves after it is what the history then lets
 /// leave; where none is to leave, nothing changes.
 pub fn leaving_repeats()
-    ensures some { (h : History Piece) (first : Departed Piece) → next_to_leave h ≡ Some first
+    ensures some { (h : StreamHistory Piece) (first : Departed Piece) → next_to_leave h ≡ Some first
         → leave_all h ≡ with_first first (leave_all (leave_one h)) }
-    ensures none { (h : History Piece) → next_to_leave h ≡ None → leave_all h ≡ record { frames = []; after = h } }
-    ensures ends { (h : History Piece) → next_to_leave (leave_all h).after ≡ None }
-    ensures flushed { (h : History Piece) (first : Departed Piece) → next_to_flush h ≡ Some first
+    ensures none { (h : StreamHistory Piece) → next_to_leave h ≡ None → leave_all h ≡ record { frames = []; after = h } }
+    ensures ends { (h : StreamHistory Piece) → next_to_leave (leave_all h).after ≡ None }
+    ensures flushed { (h : StreamHistory Piece) (first : Departed Piece) → next_to_flush h ≡ Some first
         → flush_all h ≡ with_first first (flush_all (flush_one h)) }
-    ensures none_open { (h : History Piece) → open_slots (flush_all h).after ≡ [] }
+    ensures none_open { (h : StreamHistory Piece) → open_slots (flush_all h).after ≡ [] }
 {}
 
 /// Once all that are to leave have left, at most the window's slots are open; after a flush none is. So there is room for
@@ -64,7 +64,7 @@ pub fn few_stay_open()
     ensures others { (slots : List (OpenSlot Piece)) (slot : ℕ) → others_than slot slots ≤ length slots }
     ensures left { (align : Aligned Piece) → length (all_leaving align).after.slots ≤ align.window }
     ensures flushed { (align : Aligned Piece) → (all_flushed align).after.slots ≡ [] }
-    ensures count { (align : Aligned Piece) (h : History Piece) → Shows align h
+    ensures count { (align : Aligned Piece) (h : StreamHistory Piece) → Shows align h
         → length align.slots ≡ length (open_slots h) }
 {}
 
@@ -72,8 +72,8 @@ pub fn few_stay_open()
 /// last of them is afterwards the last one that left. What arrives for that slot or an earlier one is late, and changes nothing. So
 /// no slot leaves twice in an on-period.
 pub fn slots_rise()
-    ensures left { (h : History Piece) → RiseTo (leave_all h).after.last h.last (map slot_left (leave_all h).frames) }
-    ensures flushed { (h : History Piece) → RiseTo (flush_all h).after.last h.last (map slot_left (flush_all h).frames) }
-    ensures late { (h : History Piece) (slot place : ℕ) (part : Piece) → is_above h.last slot ≡ false
+    ensures left { (h : StreamHistory Piece) → RiseTo (leave_all h).after.last h.last (map slot_left (leave_all h).frames) }
+    ensures flushed { (h : StreamHistory Piece) → RiseTo (flush_all h).after.last h.last (map slot_left (flush_all h).frames) }
+    ensures late { (h : StreamHistory Piece) (slot place : ℕ) (part : Piece) → is_above h.last slot ≡ false
         → (answer_to h slot place ≡ Arrived.Late) × (take_arrival h slot place part ≡ h) }
 {}

@@ -40,9 +40,9 @@ pub(crate) struct PlainAlign {
 
 impl Model for PlainAlign {
     ghost use Rattle.std.specs.Prelude.{ℕ, reverse};
-    ghost use Rattle.pg_align.specs.Histories.{History};
+    ghost use Rattle.pg_align.specs.Histories.{StreamHistory};
 
-    ghost Value = { History ℕ };
+    ghost Value = { StreamHistory ℕ };
 
     ghost view = { λ p. record {
       window = p.window;

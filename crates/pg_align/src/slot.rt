@@ -1,19 +1,28 @@
 //! One open slot, and lists of them: the open ones by rising number, and the free ones.
-ghost use Rattle.std.specs.Prelude.{◌≡◌, ◌+◌, ◌<◌, ◌≤◌, ℕ, [], ◌∷◌, length, replicate, slice_set, slice_get, slice_index_or, Some, None, is_some, vec_len, vec_capacity, IsTrue, IfOk, IfErr, false, map, insert};
-ghost use Rattle.pg_data.specs.Shared.{Piece};
-ghost use Rattle.pg_align.specs.Histories.{has_all};
+ghost use Rattle.std.specs.Prelude.{◌≡◌, ◌+◌, ◌<◌, ◌≤◌, ℕ, Bool, List, [], ◌∷◌, length, replicate, slice_set, slice_get, slice_index_or, Some, None, is_some, vec_len, vec_capacity, IsTrue, IfOk, IfErr, false, map, insert};
+ghost use Rattle.pg_data.specs.Pieces.{Piece};
 ghost use Rattle.pg_align.specs.Slots.{one_tick_less, AreFree, AreRising, HavePlaces, OpenSlot, StandsAt, count_below, others_than, put_into, part_at, with_part, fresh_slot};
-ghost use Rattle.pg_align.specs.Fields.{slot_of, slots_of, lent};
+ghost use Rattle.pg_align.specs.Fields.{slot_of, slots_of, lent, lacking, AreCounted};
 
 use pg_data::SharedBlock;
 use std::alloc::{AllocError, Global};
 
-/// A slot: its number, the ticks that are left until it is due, and a block or none for each member.
+/// A slot: its number, the ticks that are left until it is due, and a block or none for each member. While it is open `missing`
+/// counts the effective members whose block has not come, so that "complete" is one comparison.
 #[derive(Drop)]
 pub(crate) struct Slot {
     pub(crate) number: u64,
     pub(crate) ticks_left: u32,
+    pub(crate) missing: u32,
     pub(crate) parts: Vec<Option<SharedBlock>>,
+}
+
+/// How a slot opens: its places, the ticks until it is due, and the effective members, whose blocks are all missing yet.
+#[derive(Clone, Copy)]
+pub(crate) struct Opening {
+    pub(crate) places: usize,
+    pub(crate) wait: u32,
+    pub(crate) missing: u32,
 }
 
 /// Gives up all parts; their places stay.
@@ -25,17 +34,18 @@ fn clear_parts(parts: &mut [Option<SharedBlock>])
     }
 }
 
-/// Whether each effective place has a part.
-pub(crate) fn is_complete(effective: &[bool], parts: &[Option<SharedBlock>]) -> bool
-    requires { length effective.now ≡ length parts.now }
-    ensures { result ≡ has_all effective.now parts.now }
+/// How many members are effective.
+pub(crate) fn count_effective(effective: &[bool]) -> u32
+    requires { length effective.now ≤ 32 }
+    ensures { result ≡ lacking effective.now [] }
 {
-    for (place, wanted) in effective.iter().enumerate() {
-        if *wanted && parts[place].is_none() {
-            return false;
+    let mut count = 0;
+    for wanted in effective {
+        if *wanted {
+            count += 1;
         }
     }
-    true
+    count
 }
 
 /// Puts a part into its place, unless one is there.
@@ -55,7 +65,8 @@ fn put_part(parts: &mut [Option<SharedBlock>], place: usize, part: SharedBlock) 
 
 /// One tick less is left for each.
 pub(crate) fn tick_all(slots: &mut [Slot])
-    ensures { slots_of slots.new ≡ map one_tick_less (slots_of slots.old) }
+    ensures ticked { slots_of slots.new ≡ map one_tick_less (slots_of slots.old) }
+    ensures counted { (effective : List Bool) → AreCounted effective slots.old → AreCounted effective slots.new }
 {
     for slot in slots.iter_mut() {
         slot.ticks_left = slot.ticks_left.saturating_sub(1);
@@ -65,6 +76,7 @@ pub(crate) fn tick_all(slots: &mut [Slot])
 /// Takes the first slot out.
 pub(crate) fn take_least(slots: &mut Vec<Slot>) -> Slot
     requires { 0 < vec_len slots.old }
+    ensures whole { slots.old.items ≡ result ∷ slots.new.items }
     ensures slots { slots_of slots.old.items ≡ slot_of result ∷ slots_of slots.new.items }
     ensures len { length slots.old.items ≡ length slots.new.items + 1 }
     ensures capacity { vec_capacity slots.new ≡ vec_capacity slots.old }
@@ -72,9 +84,27 @@ pub(crate) fn take_least(slots: &mut Vec<Slot>) -> Slot
     slots.remove(0)
 }
 
-/// Takes back the slot that was lent, and gives up its parts.
+/// Takes back the slot that was lent, if one was, and gives up its parts.
+#[inline(always)]
 #[tactic(auto, using(crate::proofs::Kept::kept_steps))]
 pub(crate) fn take_back(leaving: &mut Option<Slot>, spare: &mut Vec<Slot>)
+    requires room { vec_len spare.old + length (lent leaving.old) ≤ vec_capacity spare.old }
+    ensures none { leaving.new ≡ None }
+    ensures len { length spare.new.items ≡ length spare.old.items + length (lent leaving.old) }
+    ensures free { (places : ℕ) → AreFree places (slots_of spare.old.items)
+        → HavePlaces places (slots_of (lent leaving.old)) → AreFree places (slots_of spare.new.items) }
+    ensures capacity { vec_capacity spare.new ≡ vec_capacity spare.old }
+{
+    // Mostly none was lent, and then nothing is moved.
+    if leaving.is_some() {
+        give_back(leaving, spare);
+    }
+}
+
+/// The same, mostly called where one was lent.
+#[inline(never)]
+#[tactic(auto, using(crate::proofs::Kept::kept_steps))]
+fn give_back(leaving: &mut Option<Slot>, spare: &mut Vec<Slot>)
     requires room { vec_len spare.old + length (lent leaving.old) ≤ vec_capacity spare.old }
     ensures none { leaving.new ≡ None }
     ensures len { length spare.new.items ≡ length spare.old.items + length (lent leaving.old) }
@@ -148,24 +178,34 @@ fn add_part(slots: &mut Vec<Slot>, at: usize, place: usize, part: SharedBlock) -
     ensures twice { result ≡ false → (slots_of slots.new.items ≡ slots_of slots.old.items)
         × ((slot : OpenSlot Piece) → slice_get (slots_of slots.old.items) at ≡ Some slot
         → IsTrue (is_some (slice_index_or slot.parts place None))) }
+    ensures counted { (effective : List Bool) → AreCounted effective slots.old.items
+        → IsTrue (slice_index_or effective place false) → AreCounted effective slots.new.items }
     ensures len { length slots.new.items ≡ length slots.old.items }
     ensures capacity { vec_capacity slots.new ≡ vec_capacity slots.old }
 {
     let slot = &mut slots[at];
-    put_part(&mut slot.parts, place, part)
+    if !put_part(&mut slot.parts, place, part) {
+        return false;
+    }
+    slot.missing = slot.missing.saturating_sub(1);
+    true
 }
 
-/// Opens a slot at `at` with one part, in places that were free.
+/// Opens a slot at `at` with one part, in places that were free: its member's is missing no longer.
 #[tactic(auto, using(crate::proofs::Parts::part_steps))]
 fn open_slot(slots: &mut Vec<Slot>, at: usize, mut fresh: Slot, place: usize, part: SharedBlock)
     requires room { vec_len slots.old < vec_capacity slots.old }
     requires within { at ≤ vec_len slots.old }
     requires place { place < vec_len fresh.parts }
     ensures slots { slots_of slots.new.items ≡ insert (slots_of slots.old.items) at (put_into (slot_of fresh) place part) }
+    ensures counted { (effective : List Bool) → AreCounted effective slots.old.items
+        → fresh.missing ≡ lacking effective fresh.parts.items → IsTrue (slice_index_or effective place false)
+        → slice_index_or fresh.parts.items place None ≡ None → AreCounted effective slots.new.items }
     ensures len { length slots.new.items ≡ length slots.old.items + 1 }
     ensures capacity { vec_capacity slots.new ≡ vec_capacity slots.old }
 {
     fresh.parts[place] = Some(part);
+    fresh.missing = fresh.missing.saturating_sub(1);
     let Ok(()) = slots.insert(at, fresh) else {
         unreachable!();
     };
@@ -176,26 +216,27 @@ fn open_slot(slots: &mut Vec<Slot>, at: usize, mut fresh: Slot, place: usize, pa
 pub(crate) fn add_arrival(
     slots: &mut Vec<Slot>,
     spare: &mut Vec<Slot>,
-    places: usize,
-    wait: u32,
+    opening: Opening,
     slot: u64,
     place: usize,
     part: SharedBlock,
 ) -> bool
     requires room { others_than slot (slots_of slots.old.items) < vec_capacity slots.old }
     requires spare { others_than slot (slots_of slots.old.items) < length slots.old.items + length spare.old.items }
-    requires place { place < places }
-    requires places { HavePlaces places (slots_of slots.old.items) }
+    requires place { place < opening.places }
+    requires places { HavePlaces opening.places (slots_of slots.old.items) }
     requires rising { AreRising (slots_of slots.old.items) }
-    requires free { AreFree places (slots_of spare.old.items) }
+    requires free { AreFree opening.places (slots_of spare.old.items) }
     ensures kept { IsTrue result → (part_at (slots_of slots.old.items) slot place ≡ None)
-        × (slots_of slots.new.items ≡ with_part (fresh_slot slot wait places place part) place part (slots_of slots.old.items)) }
+        × (slots_of slots.new.items ≡ with_part (fresh_slot slot opening.wait opening.places place part) place part (slots_of slots.old.items)) }
     ensures twice { result ≡ false → IsTrue (is_some (part_at (slots_of slots.old.items) slot place))
         × (slots_of slots.new.items ≡ slots_of slots.old.items) }
     ensures count { length slots.new.items + length spare.new.items ≡ length slots.old.items + length spare.old.items }
-    ensures places { HavePlaces places (slots_of slots.new.items) }
+    ensures counted { (effective : List Bool) → AreCounted effective slots.old.items → opening.missing ≡ lacking effective []
+        → IsTrue (slice_index_or effective place false) → AreCounted effective slots.new.items }
+    ensures places { HavePlaces opening.places (slots_of slots.new.items) }
     ensures rising { AreRising (slots_of slots.new.items) }
-    ensures free { AreFree places (slots_of spare.new.items) }
+    ensures free { AreFree opening.places (slots_of spare.new.items) }
     ensures capacity { (vec_capacity slots.new ≡ vec_capacity slots.old)
         × (vec_capacity spare.new ≡ vec_capacity spare.old) }
 {
@@ -207,7 +248,8 @@ pub(crate) fn add_arrival(
         unreachable!();
     };
     fresh.number = slot;
-    fresh.ticks_left = wait;
+    fresh.ticks_left = opening.wait;
+    fresh.missing = opening.missing;
     open_slot(slots, at, fresh, place, part);
     true
 }
@@ -240,6 +282,7 @@ pub(crate) fn free_slots(
         slots.push_reserved(Slot {
             number: 0,
             ticks_left: 0,
+            missing: 0,
             parts,
         });
     }

@@ -1,7 +1,7 @@
 ghost use Rattle.std.specs.Prelude.{◌≡◌, IfOk, map, pos};
 ghost use Rattle.std.specs.Arc.{arc_value};
-ghost use Rattle.pg_data.specs.Shared.{Piece};
-ghost use Rattle.pg_align.specs.Histories.{History, leave_all, slot_left};
+ghost use Rattle.pg_data.specs.Pieces.{Piece};
+ghost use Rattle.pg_align.specs.Histories.{StreamHistory, leave_all, slot_left};
 ghost use Rattle.pg_align.specs.Shown.{Shows};
 
 use super::*;
@@ -376,7 +376,7 @@ fn as_by_all_arrivals(rt: HostRuntime) -> Result<(), Fail> {
 // A caller of `leave_next`: what left is what leaves by the history, in its order, and the alignment then shows the
 // history afterwards.
 fn numbers_leaving(alloc: Global, align: &mut Align) -> Result<Vec<u64>, AllocError>
-    ensures left { (h : History Piece) → Shows align.old h → IfOk result (λ numbers.
+    ensures left { (h : StreamHistory Piece) → Shows align.old h → IfOk result (λ numbers.
         (numbers.items ≡ map slot_left (leave_all h).frames) × Shows align.new (leave_all h).after) }
 {
     all_leaving_in_steps();

@@ -51,6 +51,6 @@ abbrev pub newest_at : List Noted → ℕ → Option Entry
 newest_at noted index = if nat_lt index 64 then slice_get (reverse (entries_from 0 noted)) index else None
 
 -- The audit shows all that was noted: it holds the newest 64 entries of it.
-pub record Shows (audit : AuditValue) (noted : List Noted) : Type 0 where
+pub record ShowsAudit (audit : AuditValue) (noted : List Noted) : Type 0 where
   pub turn : audit.turn ≡ min (length noted) (2 ^ 64 - 1)
   pub newest : audit.entries ≡ keep_last 64 (entries_from 0 noted)

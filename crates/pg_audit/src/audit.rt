@@ -1,6 +1,6 @@
 //! The audit of a subscriber. A clause sees the last turn and the entries that stand, the oldest first.
 ghost use Rattle.std.specs.Prelude.{◌≡◌, ◌∷◌, ◌++◌, [], slice_get, reverse, List, IfOk, IfErr};
-ghost use Rattle.pg_audit.specs.Noting.{Noted, with_entry, Shows, newest_at};
+ghost use Rattle.pg_audit.specs.Noting.{Noted, with_entry, ShowsAudit, newest_at};
 
 use circular_buffer::HeapCircularBuffer;
 use pg_wire::Refusal;
@@ -86,7 +86,7 @@ impl Audit {
     /// An audit with no entry, with room reserved for 64. Refused with `NoMemory` alone.
     pub fn new(alloc: Global) -> Result<Audit, Refusal>
         ensures empty { IfOk result (λ audit. audit ≡ record { turn = 0; entries = [] }) }
-        ensures shows { IfOk result (λ audit. Shows audit []) }
+        ensures shows { IfOk result (λ audit. ShowsAudit audit []) }
         ensures memory { IfErr result (λ refusal. refusal ≡ Refusal.NoMemory) }
     {
         Ok(Audit {
@@ -98,7 +98,7 @@ impl Audit {
     /// Notes an event: `code` is why it was refused, or `None` where it was done. The oldest entry goes where 64 stand.
     pub fn note(&mut self, what: What, code: Option<Refusal>)
         ensures entry { self.new ≡ with_entry self.old (what, code) }
-        ensures shows { (noted : List Noted) → Shows self.old noted → Shows self.new (noted ++ (what, code) ∷ []) }
+        ensures shows { (noted : List Noted) → ShowsAudit self.old noted → ShowsAudit self.new (noted ++ (what, code) ∷ []) }
     {
         self.turn = self.turn.saturating_add(1);
         let entry = Entry {
@@ -112,7 +112,7 @@ impl Audit {
     /// The entry at `index`, 0 the newest; `None` where there is none, and so from 64 on.
     pub fn last(&self, index: usize) -> Option<Entry>
         ensures entry { result ≡ slice_get (reverse self.now.entries) index }
-        ensures noted { (noted : List Noted) → Shows self.now noted → result ≡ newest_at noted index }
+        ensures noted { (noted : List Noted) → ShowsAudit self.now noted → result ≡ newest_at noted index }
     {
         let held = self.entries.len();
         if index < held {

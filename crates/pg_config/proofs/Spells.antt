@@ -16,7 +16,7 @@ use Rattle.pg_wire.specs.Stream.{joined}
 use Rattle.pg_wire.proofs.Spelled.{frame-spelled}
 use Rattle.pg_config.specs.declared.source.Announced.{Announced}
 use Rattle.pg_config.specs.Parts.{Part, IsPart, IsSource, IsBlock, part_with, block_id, is_reserved, repeats}
-use Rattle.pg_config.specs.Reading.{◌>>=◌, Gives, count_at, blocks_at, tail_at, frame_blocks, config_of, announced_of, base_at, rate_at}
+use Rattle.pg_config.specs.Reading.{◌>>=◌, ReadsAs, count_at, blocks_at, tail_at, frame_blocks, config_of, announced_of, base_at, rate_at}
 use Rattle.pg_config.specs.Spelling.{SpellsConfig, block_bytes, body_with}
 use Rattle.pg_config.proofs.Wholes.{blocks_are, source_of}
 use Rattle.pg_config.proofs.Fields.{InBytes, bytes_behind, bytes_before, all_fields, parts-say}
@@ -190,12 +190,12 @@ spelled-read frame a s is =
     (keeps-of s.head.id ((s.flags * 2 ^ 24 + s.base) % 2 ^ 24) rate blocks (subst IsSource config is)) config
 
 -- what a call gives, where reading gives a value
-pub given : (result : Result Announced Refusal) (frame : List ℕ) (a : Announced) → Gives result (config_of frame) → config_of frame ≡ Ok a → (result ≡ Ok a) ⊎ (result ≡ Err NoMemory)
-given result frame a gives read = go result (subst (Gives result) read gives) where
-  go : (result : Result Announced Refusal) → Gives result (Ok a) → (result ≡ Ok a) ⊎ (result ≡ Err NoMemory)
+pub given : (result : Result Announced Refusal) (frame : List ℕ) (a : Announced) → ReadsAs result (config_of frame) → config_of frame ≡ Ok a → (result ≡ Ok a) ⊎ (result ≡ Err NoMemory)
+given result frame a gives read = go result (subst (ReadsAs result) read gives) where
+  go : (result : Result Announced Refusal) → ReadsAs result (Ok a) → (result ≡ Ok a) ⊎ (result ≡ Err NoMemory)
   go (Ok b) is = inl (sym is)
   go (Err e) is = elim is [ inl same ↦ absurd (cc) | inr memory ↦ inr (ap (λ x. Err x) memory.0) ]
 
-pub given-found : (result : Result Announced Refusal) (frame : List ℕ) → IsFrame frame → InBytes frame → Gives result (config_of frame) → IfOk result (SpellsConfig frame)
+pub given-found : (result : Result Announced Refusal) (frame : List ℕ) → IsFrame frame → InBytes frame → ReadsAs result (config_of frame) → IfOk result (SpellsConfig frame)
 given-found (Ok a) frame is_frame range gives = subst (λ r. IfOk r (SpellsConfig frame)) gives (found-spelled frame is_frame range)
 given-found (Err e) frame is_frame range gives = tt

@@ -16,9 +16,9 @@ abbrev pub ◌>>=◌ : {A B : Type 0} → Result A Refusal → (A → Result B R
 (Err e) >>= f = Err e
 
 -- What a function returned is what reading gives. Where it gives a value, memory may have run out.
-abbrev pub Gives : {Y : Type 0} → Result Y Refusal → Result Y Refusal → Type 0
-Gives (Ok y) read = read ≡ Ok y
-Gives (Err e) read = (read ≡ Err e) ⊎ ((e ≡ NoMemory) × IsOk read)
+abbrev pub ReadsAs : {Y : Type 0} → Result Y Refusal → Result Y Refusal → Type 0
+ReadsAs (Ok y) read = read ≡ Ok y
+ReadsAs (Err e) read = (read ≡ Err e) ⊎ ((e ≡ NoMemory) × IsOk read)
 
 -- the resolution and the rate of a frame
 abbrev pub base_at : List ℕ → ℕ

@@ -5,7 +5,7 @@ ghost use Rattle.std.specs.List.{list_any};
 ghost use Rattle.std.specs.Arc.{arc_value};
 ghost use Rattle.pg_wire.specs.Head.{two_at, IsFrame};
 ghost use Rattle.pg_config.specs.Parts.{Part, IsPart, IsSource, part_with, size_by_counts, is_reserved, repeats};
-ghost use Rattle.pg_config.specs.Reading.{Gives, base_at, rate_at, count_at, block_at, blocks_at, frame_blocks, config_of, kind_at};
+ghost use Rattle.pg_config.specs.Reading.{ReadsAs, base_at, rate_at, count_at, block_at, blocks_at, frame_blocks, config_of, kind_at};
 ghost use Rattle.pg_config.specs.Looking.{Blocks, Skims, Holds, Checks};
 ghost use Rattle.pg_config.specs.Spelling.{SpellsConfig};
 ghost use Rattle.pg_config.specs.declared.source.Announced.{Announced};
@@ -230,7 +230,7 @@ fn kind_of(frame: &[u8]) -> Kind
 /// The configuration that a frame announces, once it was looked at.
 fn config_in(alloc: Global, frame: &[u8]) -> Result<Announced, Refusal>
     requires { 16 ≤ length frame.now }
-    ensures exact { Gives result (config_of frame.now) }
+    ensures exact { ReadsAs result (config_of frame.now) }
     ensures kept { IfOk result (λ a. IsSource a.config) }
 {
     let (source, count) = checked(frame)?;
@@ -253,7 +253,7 @@ fn config_in(alloc: Global, frame: &[u8]) -> Result<Announced, Refusal>
 pub fn read_config(alloc: Global, frame: &[u8]) -> Result<Announced, Refusal>
     requires { IsFrame frame.now }
     // Which value or refusal it is, the first that applies. Want of memory comes last.
-    ensures exact { Gives result (config_of frame.now) }
+    ensures exact { ReadsAs result (config_of frame.now) }
     // What is read is spelled so, and keeps the limits.
     ensures found { IfOk result (SpellsConfig frame.now) }
     ensures kept { IfOk result (λ a. IsSource a.config) }

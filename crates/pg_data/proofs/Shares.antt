@@ -7,7 +7,7 @@ use Rattle.pg_wire.specs.declared.refusal.Refusal.{Refusal}
 use Rattle.pg_wire.specs.Head.{two_at, three_at, four_at}
 use Rattle.pg_config.specs.Parts.{Part, Source, data_lens}
 use Rattle.pg_data.specs.Measurements.{Measurement, block_of}
-use Rattle.pg_data.specs.Reading.{SpellsData, IsDataFrame, Gives, data_of}
+use Rattle.pg_data.specs.Reading.{SpellsData, IsDataFrame, ReadsAs, data_of}
 use Rattle.pg_data.specs.Sharing.{Share, share_of, time_bytes, HasOwnBytes, AgreeOnOne}
 use Rattle.pg_data.proofs.Blocks.{lens_within, lens_step, range-of_part}
 use Rattle.pg_data.proofs.Spellings.{Passed, Passed-from_read, passed-spelled, body-length, body-sized}
@@ -25,7 +25,7 @@ own-read config frame is m p i low =
     (rw (add-one i) (omega arith)) (rw (add-one i) (omega arith))
 
 pub own_from : {Z : Type 0} (config : Source) (frame : List ℕ) (r : Result (Arc Measurement Z) Refusal) → IsDataFrame frame
-    → Gives r (data_of config frame) → IfOk r (λ v. HasOwnBytes config frame (arc_value v))
+    → ReadsAs r (data_of config frame) → IfOk r (λ v. HasOwnBytes config frame (arc_value v))
 own_from config frame (Ok v) is h = own-read config frame is (arc_value v) (Passed-from_read config frame (arc_value v) h)
 own_from config frame (Err e) is h = tt
 

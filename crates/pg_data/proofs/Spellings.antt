@@ -11,7 +11,7 @@ use Rattle.pg_wire.specs.Head.{IsFrame, HeadFits, frame_of, head_of, body_of, tw
 use Rattle.pg_wire.proofs.Spelled.{frame-spelled, spells-back, frame_is_long}
 use Rattle.pg_config.specs.Parts.{Source, IsSource, data_lens}
 use Rattle.pg_data.specs.Measurements.{Measurement, IsMeasurement, resolution, data_head}
-use Rattle.pg_data.specs.Reading.{SpellsData, IsDataFrame, Gives, ReadsBack, measurement_of, data_of, spelling_of}
+use Rattle.pg_data.specs.Reading.{SpellsData, IsDataFrame, ReadsAs, ReadsBack, measurement_of, data_of, spelling_of}
 use Rattle.pg_data.proofs.Blocks.{cut, cut-sizes, joined-cut, joined-length, part_bounded}
 
 -- what a data frame passed to be read
@@ -131,11 +131,11 @@ read-spelled frame config m s = read_from_passed config frame m (passed-spelled 
 -- ---- what a reader gives
 
 pub found_from : {Z : Type 0} (config : Source) (frame : List ℕ) (r : Result (Arc Measurement Z) Refusal) → IsDataFrame frame → ((i : ℕ) → get_or frame i 0 < 256)
-    → Gives r (data_of config frame) → IfOk r (λ v. SpellsData frame config (arc_value v))
+    → ReadsAs r (data_of config frame) → IfOk r (λ v. SpellsData frame config (arc_value v))
 found_from config frame (Ok v) is range h = spells-read config frame (arc_value v) is range h
 found_from config frame (Err e) is range h = tt
 
-pub only_from : {Z : Type 0} (config : Source) (frame : List ℕ) (r : Result (Arc Measurement Z) Refusal) → Gives r (data_of config frame)
+pub only_from : {Z : Type 0} (config : Source) (frame : List ℕ) (r : Result (Arc Measurement Z) Refusal) → ReadsAs r (data_of config frame)
     → (m : Measurement) → SpellsData frame config m → MatchResult r (λ v. arc_value v ≡ m) (λ e. e ≡ NoMemory)
 only_from config frame (Ok v) h m s = ok_same (arc_value v) m (sym h ∙ read-spelled frame config m s)
 only_from config frame (Err e) h m s = elim h [ inl refused ↦ absurd (err_not_ok e m (sym refused ∙ read-spelled frame config m s)) | inr memory ↦ memory.0 ]

@@ -3,5 +3,5 @@ pub mod Measurements
 pub mod Reading
 pub mod Filler
 -- One PMU's block of a frame that many share, and what one PMU's part of a frame is.
-pub mod Shared
+pub mod Pieces
 pub mod Sharing

@@ -45,9 +45,9 @@ data_of config frame =
     Ok (measurement_of config frame)
 
 -- What a function returned is what reading gives. Where it gives a value, memory may have run out.
-abbrev pub Gives : {X Z : Type 0} → Result (Arc X Z) Refusal → Result X Refusal → Type 0
-Gives (Ok v) read = read ≡ Ok (arc_value v)
-Gives (Err e) read = (read ≡ Err e) ⊎ ((e ≡ NoMemory) × IsOk read)
+abbrev pub ReadsAs : {X Z : Type 0} → Result (Arc X Z) Refusal → Result X Refusal → Type 0
+ReadsAs (Ok v) read = read ≡ Ok (arc_value v)
+ReadsAs (Err e) read = (read ≡ Err e) ⊎ ((e ≡ NoMemory) × IsOk read)
 
 -- what looking for a refusal gives
 abbrev pub Checks : Result (Unit {0}) Refusal → Result Measurement Refusal → Type 0

@@ -4,7 +4,7 @@ ghost use Rattle.std.specs.Prelude.{◌≡◌, ◌≤◌, length, IfOk, MatchRes
 ghost use Rattle.std.specs.Arc.{arc_value};
 ghost use Rattle.pg_wire.specs.Head.{three_at};
 ghost use Rattle.pg_data.specs.Measurements.{Measurement};
-ghost use Rattle.pg_data.specs.Reading.{SpellsData, IsDataFrame, Gives, Checks, data_of};
+ghost use Rattle.pg_data.specs.Reading.{SpellsData, IsDataFrame, ReadsAs, Checks, data_of};
 ghost use Rattle.pg_data.specs.Sharing.{HasOwnBytes};
 
 use crate::frame::{DataFrame, resolution_of};
@@ -51,7 +51,7 @@ fn decode(
     frame: &[u8],
 ) -> Result<Arc<DataFrame>, Refusal>
     requires { IsDataFrame frame.now }
-    ensures { Gives result (data_of (arc_value config.now) frame.now) }
+    ensures { ReadsAs result (data_of (arc_value config.now) frame.now) }
 {
     check_data(config, frame)?;
     let data = DataFrame {
@@ -76,7 +76,7 @@ pub fn read_data(
 ) -> Result<Arc<DataFrame>, Refusal>
     requires { IsDataFrame frame.now }
     // Which value or refusal it is. Want of memory comes last.
-    ensures gives { Gives result (data_of (arc_value config.now) frame.now) }
+    ensures gives { ReadsAs result (data_of (arc_value config.now) frame.now) }
     ensures found { IfOk result (λ measured. SpellsData frame.now (arc_value config.now) (arc_value measured)) }
     // Whatever the frame spells is read, but for want of memory.
     ensures only { (m : Measurement) → SpellsData frame.now (arc_value config.now) m

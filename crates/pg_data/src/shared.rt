@@ -2,7 +2,7 @@
 
 ghost use Rattle.std.specs.Prelude.{◌≡◌, ◌+◌, ◌<◌, ◌≤◌, ◌^◌, length, IfOk};
 ghost use Rattle.std.specs.Arc.{arc_value};
-ghost use Rattle.pg_data.specs.Shared.{Piece, piece_of};
+ghost use Rattle.pg_data.specs.Pieces.{Piece, piece_of};
 
 use crate::frame::DataFrame;
 use std::marker::Model;
@@ -19,7 +19,7 @@ pub struct SharedBlock {
 impl Model for SharedBlock {
     ghost use Rattle.std.specs.Prelude.{◌<◌, length};
     ghost use Rattle.std.specs.Arc.{arc_value};
-    ghost use Rattle.pg_data.specs.Shared.{Piece, piece_of};
+    ghost use Rattle.pg_data.specs.Pieces.{Piece, piece_of};
 
     ghost Value = { Piece };
 

@@ -2,6 +2,7 @@
 #![tactic(auto)]
 
 mod audience;
+mod crew;
 mod fault;
 mod keyboard;
 mod players;

@@ -60,5 +60,5 @@ abbrev pub Keeps : Option Wrong → List Frame → List Step → Type 0
 Keeps None waiting steps = Rightful steps × (all_sent steps ≡ all_came steps ++ all_told waiting)
 Keeps (Some wrong) waiting steps = Rightful steps → ⊥
 
-abbrev pub Shows : Owed → List Step → Type 0
-Shows owed steps = Keeps owed.wrong owed.waiting.items steps
+abbrev pub ShowsOwed : Owed → List Step → Type 0
+ShowsOwed owed steps = Keeps owed.wrong owed.waiting.items steps

@@ -1,7 +1,7 @@
 //! What a subscriber is owed: the data frames that were sent for its stream and have not come yet.
 
 ghost use Rattle.std.specs.Prelude.{◌≡◌, ◌++◌, ◌∷◌, [], List, ◌↔◌, IsTrue, IfOk, IfErr};
-ghost use Rattle.pg_demo_core.specs.Owing.{Shows, Step, Whole, IsFirst, told, telling, sent, came};
+ghost use Rattle.pg_demo_core.specs.Owing.{ShowsOwed, Step, Whole, IsFirst, told, telling, sent, came};
 
 use pg_tools::Stamp;
 use std::alloc::{AllocError, Global};
@@ -59,7 +59,7 @@ pub struct Owed {
 impl Owed {
     /// Nothing was sent, and nothing came.
     pub fn new(alloc: Global) -> Owed
-        ensures { Shows result [] }
+        ensures { ShowsOwed result [] }
     {
         Owed {
             waiting: Vec::new(alloc),
@@ -77,7 +77,7 @@ impl Owed {
         ensures waits { IfOk result (λ _. self.new.waiting.items ≡ self.old.waiting.items ++ frame ∷ []) }
         ensures unchanged { IfErr result (λ _. self.new.waiting.items ≡ self.old.waiting.items) }
         ensures wrong { self.new.wrong ≡ self.old.wrong }
-        ensures history { IfOk result (λ _. (steps : List Step) → Shows self.old steps → Shows self.new (sent (told frame) ∷ steps)) }
+        ensures history { IfOk result (λ _. (steps : List Step) → ShowsOwed self.old steps → ShowsOwed self.new (sent (told frame) ∷ steps)) }
     {
         self.waiting.push(frame)?;
         Ok(())
@@ -87,7 +87,7 @@ impl Owed {
     /// is wrong is answered, and the first time kept.
     pub fn came(&mut self, stamp: Stamp, blocks: &[u8]) -> Option<Wrong>
         ensures right { result ≡ None ↔ IsFirst self.old.waiting.items (telling stamp blocks.now) }
-        ensures history { (steps : List Step) → Shows self.old steps → Shows self.new (came (telling stamp blocks.now) ∷ steps) }
+        ensures history { (steps : List Step) → ShowsOwed self.old steps → ShowsOwed self.new (came (telling stamp blocks.now) ∷ steps) }
     {
         if is_next(&self.waiting, stamp, blocks) {
             self.waiting.remove(0);
@@ -101,7 +101,7 @@ impl Owed {
 
     /// Whether each frame that was sent has come, in order and byte for byte, and no other.
     pub fn is_whole(&self) -> bool
-        ensures { (steps : List Step) → Shows self.now steps → IsTrue result ↔ Whole steps }
+        ensures { (steps : List Step) → ShowsOwed self.now steps → IsTrue result ↔ Whole steps }
     {
         self.wrong.is_none() && is_nothing(&self.waiting)
     }

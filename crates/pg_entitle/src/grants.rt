@@ -91,6 +91,20 @@ impl Grants {
         place_of(&self.keys, &key).is_ok()
     }
 
+    /// The same of a PMU that is guessed to stand at the place `next`: where it does there is no search. `next` is then the
+    /// place behind the one where it was found, so that PMUs which are asked for in their order are found at once.
+    pub fn holds_next(&self, key: PmuKey, next: &mut usize) -> bool
+        ensures value { result ≡ has_key self.now key }
+    {
+        match place_near(&self.keys, &key, *next) {
+            Ok(place) => {
+                *next = place + 1;
+                true
+            }
+            Err(_) => false,
+        }
+    }
+
     /// The granted PMUs, by source and then by PMU.
     pub fn sorted(&self) -> &[PmuKey]
         ensures value { result.now ≡ self.now }
@@ -122,6 +136,18 @@ fn place_of(keys: &[PmuKey], key: &PmuKey) -> Result<usize, usize>
     ensures absent { IfErr result (IsGapFor keys.now key.now) }
 {
     keys.binary_search(key)
+}
+
+/// The same, for a key that may well stand at the place `guess`.
+fn place_near(keys: &[PmuKey], key: &PmuKey, guess: usize) -> Result<usize, usize>
+    requires rising { IsRising keys.now }
+    ensures found { IfOk result (IsAt keys.now key.now) }
+    ensures absent { IfErr result (IsGapFor keys.now key.now) }
+{
+    if guess < keys.len() && *key == keys[guess] {
+        return Ok(guess);
+    }
+    place_of(keys, key)
 }
 
 /// Puts a key at a place, in room that is there.

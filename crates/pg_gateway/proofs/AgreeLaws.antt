@@ -21,8 +21,8 @@ use Rattle.pg_session.specs.Private.{Told, done, refused, handed, put_first, nex
 use Rattle.pg_session.specs.Shown.{Model}
 use Rattle.pg_session.specs.ByAll.{by_arrivals, by_numbers}
 use Rattle.pg_gateway.specs.Judging.{block_counted, blocks_counted, memory_counted}
-use Rattle.pg_gateway.specs.Sharing.{Seat, Seats, Offer, revokes, measures, ticks, some_measured, notes_of, shared_to, after_share, fan_out}
-use Rattle.pg_gateway.specs.Shared.{seat_of, at_seat}
+use Rattle.pg_gateway.specs.Sharing.{SubscriberSlot, SubscriberSlots, Offer, revokes, measures, ticks, some_measured, notes_of, shared_to, after_share, fan_out}
+use Rattle.pg_gateway.specs.State.{slot_of, at_slot}
 use Rattle.pg_gateway.specs.Consistent.{AgreesWith, AllAgree, AreKeyed}
 
 -- The registry goes on with the same configurations.
@@ -81,23 +81,23 @@ agrees_likewise pmus other p same is = record {
   listed = λ key. is.listed key ∙ ap (λ o. if grants.has_key p.grants key then o else None) (sym (same key));
 }
 
-pub all_likewise : (pmus other : Pmus) → ((k : PmuKey) → config_in other k ≡ config_in pmus k) → (ss : Seats) → AllAgree pmus ss → AllAgree other ss
+pub all_likewise : (pmus other : Pmus) → ((k : PmuKey) → config_in other k ≡ config_in pmus k) → (ss : SubscriberSlots) → AllAgree pmus ss → AllAgree other ss
 all_likewise pmus other same [] all = tt
 all_likewise pmus other same (s ∷ ss) all = (agrees_likewise pmus other s.1.own same all.0, all_likewise pmus other same ss all.1)
 
 -- What concerns one subscriber leaves the others.
-pub at_agrees : (pmus : Pmus) (u : ℕ) (f : Seat → Seat) (ss : Seats) → ((s : Seat) → seat_of u ss ≡ Some s → AgreesWith pmus s.own → AgreesWith pmus (f s).own)
-    → AllAgree pmus ss → AllAgree pmus (at_seat u f ss)
+pub at_agrees : (pmus : Pmus) (u : ℕ) (f : SubscriberSlot → SubscriberSlot) (ss : SubscriberSlots) → ((s : SubscriberSlot) → slot_of u ss ≡ Some s → AgreesWith pmus s.own → AgreesWith pmus (f s).own)
+    → AllAgree pmus ss → AllAgree pmus (at_slot u f ss)
 at_agrees pmus u f [] each all = tt
 at_agrees pmus u f (s ∷ ss) each all = by (nat_eq u s.0) each (at_agrees pmus u f ss)
   where
-    by : (b : Bool) → ((t : Seat) → cond b (Some s.1) (seat_of u ss) ≡ Some t → AgreesWith pmus t.own → AgreesWith pmus (f t).own)
-        → (((t : Seat) → seat_of u ss ≡ Some t → AgreesWith pmus t.own → AgreesWith pmus (f t).own) → AllAgree pmus ss → AllAgree pmus (at_seat u f ss))
-        → AllAgree pmus (if b then (s.0, f s.1) ∷ ss else s ∷ at_seat u f ss)
+    by : (b : Bool) → ((t : SubscriberSlot) → cond b (Some s.1) (slot_of u ss) ≡ Some t → AgreesWith pmus t.own → AgreesWith pmus (f t).own)
+        → (((t : SubscriberSlot) → slot_of u ss ≡ Some t → AgreesWith pmus t.own → AgreesWith pmus (f t).own) → AllAgree pmus ss → AllAgree pmus (at_slot u f ss))
+        → AllAgree pmus (if b then (s.0, f s.1) ∷ ss else s ∷ at_slot u f ss)
     by true here rest = (here s.1 refl all.0, all.1)
     by false here rest = (all.0, rest here all.1)
 
-pub removed_agree : (pmus : Pmus) (test : ℕ → Bool) (ss : Seats) → AllAgree pmus ss → AllAgree pmus (remove_entry test ss)
+pub removed_agree : (pmus : Pmus) (test : ℕ → Bool) (ss : SubscriberSlots) → AllAgree pmus ss → AllAgree pmus (remove_entry test ss)
 removed_agree pmus test [] all = tt
 removed_agree pmus test (s ∷ ss) all = by (test s.0) (removed_agree pmus test ss all.1)
   where
@@ -105,12 +105,12 @@ removed_agree pmus test (s ∷ ss) all = by (test s.0) (removed_agree pmus test 
     by true rest = all.1
     by false rest = (all.0, rest)
 
-pub pushed_agree : (pmus : Pmus) (u : ℕ) (s : Seat) (ss : Seats) → AgreesWith pmus s.own → AllAgree pmus ss → AllAgree pmus (ss ++ (u, s) ∷ [])
+pub pushed_agree : (pmus : Pmus) (u : ℕ) (s : SubscriberSlot) (ss : SubscriberSlots) → AgreesWith pmus s.own → AllAgree pmus ss → AllAgree pmus (ss ++ (u, s) ∷ [])
 pushed_agree pmus u s [] is all = (is, tt)
 pushed_agree pmus u s (t ∷ ss) is all = (all.0, pushed_agree pmus u s ss is all.1)
 
-pub fanned_agree : (pmus other : Pmus) (o : Offer) → ((s : Seat) (k : ℕ) → AgreesWith pmus s.own → AgreesWith other (shared_to o s k).own)
-    → (ss : Seats) (k : ℕ) → AllAgree pmus ss → AllAgree other (fan_out o ss k)
+pub fanned_agree : (pmus other : Pmus) (o : Offer) → ((s : SubscriberSlot) (k : ℕ) → AgreesWith pmus s.own → AgreesWith other (shared_to o s k).own)
+    → (ss : SubscriberSlots) (k : ℕ) → AllAgree pmus ss → AllAgree other (fan_out o ss k)
 fanned_agree pmus other o each [] k all = tt
 fanned_agree pmus other o each (s ∷ ss) k all = (each s.1 _ all.0, fanned_agree pmus other o each ss _ all.1)
 
@@ -187,10 +187,10 @@ grant_agrees pmus p key t full is = by_room (has_room p.grants key) refl
     by_room false none = subst (λ t. AgreesWith pmus (next by_arrivals by_numbers p (event.grant key (config_in pmus key)) t)) (sym (full none)) is
 
 -- Ticks and blocks change neither.
-pub ticked_agrees : (pmus : Pmus) (soc : ℕ) (s : Seat) (k : ℕ) → AgreesWith pmus s.own → AgreesWith pmus (shared_to (ticks soc) s k).own
+pub ticked_agrees : (pmus : Pmus) (soc : ℕ) (s : SubscriberSlot) (k : ℕ) → AgreesWith pmus s.own → AgreesWith pmus (shared_to (ticks soc) s k).own
 ticked_agrees pmus soc s k is = record { grants = is.grants; listed = is.listed }
 
-pub measured_agrees : (pmus : Pmus) (soc quality frac : ℕ) (samples : List Sample) (s : Seat) (k : ℕ) → AgreesWith pmus s.own → AgreesWith pmus (shared_to (measures soc quality frac samples) s k).own
+pub measured_agrees : (pmus : Pmus) (soc quality frac : ℕ) (samples : List Sample) (s : SubscriberSlot) (k : ℕ) → AgreesWith pmus s.own → AgreesWith pmus (shared_to (measures soc quality frac samples) s k).own
 measured_agrees pmus soc quality frac samples s k is = by (filter (λ t. grants.has_key s.own.grants t.key) samples)
   where
     by : (l : List Sample) → AgreesWith pmus (after_share (some_measured soc quality frac l) [] s k).own
@@ -198,7 +198,7 @@ measured_agrees pmus soc quality frac samples s k is = by (filter (λ t. grants.
     by (t ∷ l) = record { grants = is.grants; listed = is.listed }
 
 -- A PMU that leaves the registry leaves all.
-pub dropped_agrees : (pmus : Pmus) (key : PmuKey) → IsRegistry pmus → (s : Seat) (k : ℕ) → AgreesWith pmus s.own → AgreesWith (remove_entry (key_eq key) pmus) (shared_to (revokes key) s k).own
+pub dropped_agrees : (pmus : Pmus) (key : PmuKey) → IsRegistry pmus → (s : SubscriberSlot) (k : ℕ) → AgreesWith pmus s.own → AgreesWith (remove_entry (key_eq key) pmus) (shared_to (revokes key) s k).own
 dropped_agrees pmus key registry s kept is = by (grants.has_key s.own.grants key) refl
   where
     gone : (k : PmuKey) → config_in (remove_entry (key_eq key) pmus) k ≡ (if key_eq k key then None else config_in pmus k)

@@ -1,21 +1,21 @@
 -- Two gateways that agree on a subscriber's part of what they take leave it alike.
 use Rattle.std.proofs.Common.{◌≡◌, ℕ, List, [], ◌∷◌, ◌++◌, sym, ap, ◌∙◌}
 use Rattle.pg_gateway.specs.Occurrences.{Occurrence, measure, Answer}
-use Rattle.pg_gateway.specs.Shared.{Shared, opening, own_of, May, next}
+use Rattle.pg_gateway.specs.State.{SharedMachine, opening, own_of, May, next}
 use Rattle.pg_gateway.specs.Views.{Lossless, part, private_run}
 use Rattle.pg_gateway.specs.Shown.{GatewayValue, Goes}
 use Rattle.pg_gateway.specs.Histories.{Legal, state_after}
 use Rattle.pg_gateway.specs.Alike.{LeavesAlike, TakesOwnBlocks}
-use Rattle.pg_gateway.proofs.SeatLaws.{Alone}
+use Rattle.pg_gateway.proofs.SlotLaws.{Alone}
 use Rattle.pg_gateway.proofs.ViewLaws.{Alone-next, own-step}
 use Rattle.pg_gateway.proofs.AnswerLaws.{lossless_full}
 use Rattle.pg_gateway.proofs.RunLaws.{agreeing_parts}
 
-Alone-after : (S : Shared) (h : List (Occurrence × Answer)) → Alone S.subs → Alone (state_after S h).subs
+Alone-after : (S : SharedMachine) (h : List (Occurrence × Answer)) → Alone S.subs → Alone (state_after S h).subs
 Alone-after S [] alone = alone
 Alone-after S (x ∷ h) alone = Alone-after (next S x.0 x.1) h (Alone-next S x.0 x.1 alone)
 
-last-legal : (S : Shared) (h : List (Occurrence × Answer)) (e : Occurrence) (a : Answer) → Legal S (h ++ (e, a) ∷ []) → May (state_after S h) e a
+last-legal : (S : SharedMachine) (h : List (Occurrence × Answer)) (e : Occurrence) (a : Answer) → Legal S (h ++ (e, a) ∷ []) → May (state_after S h) e a
 last-legal S [] e a legal = legal.0
 last-legal S (x ∷ h) e a legal = last-legal (next S x.0 x.1) h e a legal.1
 

@@ -11,19 +11,19 @@ use Rattle.pg_session.specs.Events.{Happening}
 use Rattle.pg_session.specs.Private.{refused, done}
 use Rattle.pg_gateway.specs.Sharing.{revokes, ticks, total}
 use Rattle.pg_gateway.specs.Occurrences.{drop_pmu, tells}
-use Rattle.pg_gateway.specs.Shared.{Shared}
-use Rattle.pg_gateway.specs.Shown.{SeatValue, GatewayValue, GatewayShows, Steps}
+use Rattle.pg_gateway.specs.State.{SharedMachine}
+use Rattle.pg_gateway.specs.Shown.{SlotValue, GatewayValue, GatewayShows, Steps}
 use Rattle.pg_gateway.specs.Taking.{Awaits, IsFit, IsLaid, HasNone, FansOut}
-use Rattle.pg_gateway.specs.Frugal.{AllSeats}
+use Rattle.pg_gateway.specs.Frugal.{AllSlots}
 
-pub seats-map : (P Q : SeatValue → Type 0) → ((v : SeatValue) → P v → Q v) → (xs : List (ℕ × SeatValue)) → AllSeats P xs → AllSeats Q xs
-seats-map P Q f [] all = tt
-seats-map P Q f (x ∷ xs) all = (f x.1 all.0, seats-map P Q f xs all.1)
+pub slots-map : (P Q : SlotValue → Type 0) → ((v : SlotValue) → P v → Q v) → (xs : List (ℕ × SlotValue)) → AllSlots P xs → AllSlots Q xs
+slots-map P Q f [] all = tt
+slots-map P Q f (x ∷ xs) all = (f x.1 all.0, slots-map P Q f xs all.1)
 
-pub awaits_tick : (soc : ℕ) (v : SeatValue) → HasNone v → Awaits (ticks soc) v
+pub awaits_tick : (soc : ℕ) (v : SlotValue) → HasNone v → Awaits (ticks soc) v
 awaits_tick soc v none = record { fit = tt; laid = record { blocks = none.0.blocks; configs = none.0.configs }; spared = λ is. absurd (true≢false (sym is ∙ none.1)) }
 
-pub awaits_revoke : (key : PmuKey) (v : SeatValue) → HasNone v → Awaits (revokes key) v
+pub awaits_revoke : (key : PmuKey) (v : SlotValue) → HasNone v → Awaits (revokes key) v
 awaits_revoke key v none = record {
   fit = fits (grants.has_key v.subscriber.own.grants key);
   laid = lays (grants.has_key v.subscriber.own.grants key);
@@ -38,10 +38,10 @@ awaits_revoke key v none = record {
     lays true = record { blocks = none.0.blocks; configs = none.0.configs }
     lays false = none.0
 
-pub dropped_none : (key : PmuKey) (S : Shared) (v : GatewayValue) → GatewayShows v S → has_key S.pmus key ≡ false → Steps S (drop_pmu key) (tells (refused NoSuchPmu)) v
+pub dropped_none : (key : PmuKey) (S : SharedMachine) (v : GatewayValue) → GatewayShows v S → has_key S.pmus key ≡ false → Steps S (drop_pmu key) (tells (refused NoSuchPmu)) v
 dropped_none key S v shown none = record { may = rw none refl; shows = rw none (record { pmus = shown.pmus; subs = shown.subs; last_tick = shown.last_tick }) }
 
-pub dropped_goes : (key : PmuKey) (S : Shared) (old : GatewayValue) (entries : List (ℕ × SeatValue)) (made kept : ℕ) → GatewayShows old S → has_key S.pmus key ≡ true
+pub dropped_goes : (key : PmuKey) (S : SharedMachine) (old : GatewayValue) (entries : List (ℕ × SlotValue)) (made kept : ℕ) → GatewayShows old S → has_key S.pmus key ≡ true
     → FansOut (revokes key) made kept S.subs entries → kept ≤ made
     → Steps S (drop_pmu key) (tells (done made kept)) (record { pmus = remove_entry (key_eq key) old.pmus; subs = entries; last_tick = old.last_tick })
 dropped_goes key S old entries made kept shown there fans few =

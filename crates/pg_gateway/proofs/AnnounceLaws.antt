@@ -13,8 +13,8 @@ use Rattle.pg_gateway.specs.Related.{Related}
 use Rattle.pg_gateway.specs.Sharing.{announces, total}
 use Rattle.pg_gateway.specs.Judging.{registered_of, all_announced, memory_counted}
 use Rattle.pg_gateway.specs.Occurrences.{announce, tells}
-use Rattle.pg_gateway.specs.Shared.{Shared}
-use Rattle.pg_gateway.specs.Shown.{SeatValue, SeatShows, GatewayValue, GatewayShows, Steps}
+use Rattle.pg_gateway.specs.State.{SharedMachine}
+use Rattle.pg_gateway.specs.Shown.{SlotValue, SlotShows, GatewayValue, GatewayShows, Steps}
 use Rattle.pg_gateway.specs.Taking.{FansOut}
 use Rattle.pg_gateway.proofs.Places.{part_there, rising-all}
 use Rattle.pg_gateway.proofs.Judged.{key_is}
@@ -78,7 +78,7 @@ module _ {X : Type 0} (f : X → Part) (config : Source) (places : List ℕ) (k 
           ∙ ap (λ key. changed (announcing there.0) key old) (key_is config (get_or places k 0) there.0 key there.1 source pmu)
 
 -- What the gateway is after an announcement.
-pub announced_refused : (config : Source) (S : Shared) (old : GatewayValue) → GatewayShows old S → registered_of S.pmus config ≡ []
+pub announced_refused : (config : Source) (S : SharedMachine) (old : GatewayValue) → GatewayShows old S → registered_of S.pmus config ≡ []
     → Steps S (announce config) (tells (refused NoSuchPmu)) (record { pmus = old.pmus; subs = old.subs; last_tick = old.last_tick })
 announced_refused config S old shown none =
     record {
@@ -86,8 +86,8 @@ announced_refused config S old shown none =
       shows = rw none (record { pmus = shown.pmus; subs = shown.subs; last_tick = shown.last_tick });
     }
 
-pub announced_memory : (config : Source) (S : Shared) (old : GatewayValue) (pmus : Pmus) (entries : List (ℕ × SeatValue)) (a : Announcing) (list : List Announcing) → GatewayShows old S → registered_of S.pmus config ≡ a ∷ list
-    → Related SeatShows entries S.subs → pmus ≡ memory_counted S.pmus (map (λ a. a.key) (registered_of S.pmus config))
+pub announced_memory : (config : Source) (S : SharedMachine) (old : GatewayValue) (pmus : Pmus) (entries : List (ℕ × SlotValue)) (a : Announcing) (list : List Announcing) → GatewayShows old S → registered_of S.pmus config ≡ a ∷ list
+    → Related SlotShows entries S.subs → pmus ≡ memory_counted S.pmus (map (λ a. a.key) (registered_of S.pmus config))
     → Steps S (announce config) (tells (refused NoMemory)) (record { pmus = pmus; subs = entries; last_tick = old.last_tick })
 announced_memory config S old pmus entries a list shown some related counted =
     let counts = rw some at counted in
@@ -96,7 +96,7 @@ announced_memory config S old pmus entries a list shown some related counted =
       shows = rw some (record { pmus = counts; subs = related; last_tick = shown.last_tick });
     }
 
-pub announced_goes : (config : Source) (S : Shared) (old : GatewayValue) (pmus : Pmus) (entries : List (ℕ × SeatValue)) (made kept : ℕ) (a : Announcing) (list : List Announcing) → GatewayShows old S → registered_of S.pmus config ≡ a ∷ list
+pub announced_goes : (config : Source) (S : SharedMachine) (old : GatewayValue) (pmus : Pmus) (entries : List (ℕ × SlotValue)) (made kept : ℕ) (a : Announcing) (list : List Announcing) → GatewayShows old S → registered_of S.pmus config ≡ a ∷ list
     → FansOut (announces (registered_of S.pmus config)) made kept S.subs entries → kept ≤ made → pmus ≡ all_announced S.pmus (registered_of S.pmus config)
     → Steps S (announce config) (tells (done made kept)) (record { pmus = pmus; subs = entries; last_tick = old.last_tick })
 announced_goes config S old pmus entries made kept a list shown some fans few announced =
@@ -109,7 +109,7 @@ announced_goes config S old pmus entries made kept a list shown some fans few an
     }
 
 -- what is registered by what is kept is so by what the state says
-pub registered_shown : (config : Source) (S : Shared) (v : GatewayValue) (ps : List ℕ) → GatewayShows v S → announced_at config ps ≡ registered_of v.pmus config → announced_at config ps ≡ registered_of S.pmus config
+pub registered_shown : (config : Source) (S : SharedMachine) (v : GatewayValue) (ps : List ℕ) → GatewayShows v S → announced_at config ps ≡ registered_of v.pmus config → announced_at config ps ≡ registered_of S.pmus config
 registered_shown config S v ps shown is = is ∙ ap (λ pmus. registered_of pmus config) shown.pmus
 
 pub none_announced : (config : Source) (ps : List ℕ) → length ps ≡ 0 → announced_at config ps ≡ []

@@ -15,10 +15,10 @@ use Rattle.pg_session.specs.Shown.{Model}
 use Rattle.pg_session.specs.ByAll.{by_arrivals, by_numbers}
 use Rattle.pg_gateway.specs.Occurrences.{Occurrence, add_pmu, drop_pmu, add_sub, drop_sub, grant, asks, announce, measure, tick, stats, pmu_stats, audit, standing, Answer, tells}
 use Rattle.pg_gateway.specs.Judging.{registered_of}
-use Rattle.pg_gateway.specs.Sharing.{Seat, Seats, Offer, revokes, announces, measures, ticks, share, total}
-use Rattle.pg_gateway.specs.Shared.{Shared, seat_of, own_of, granting, taken_in, refusal, takes_memory, Reach, to_all, to_one, adds, drops, to_none, unless, reach, frames_reached, made, own_frames, own_answer, reached_answer, answer, May}
+use Rattle.pg_gateway.specs.Sharing.{SubscriberSlot, SubscriberSlots, Offer, revokes, announces, measures, ticks, share, total}
+use Rattle.pg_gateway.specs.State.{SharedMachine, slot_of, own_of, granting, taken_in, refusal, takes_memory, Reach, to_all, to_one, adds, drops, to_none, unless, reach, frames_reached, made, own_frames, own_answer, reached_answer, answer, May}
 use Rattle.pg_gateway.specs.Views.{Seen, begins, ends, takes, unless_refused, full_told, private_step, private_run, handed_by, handed_at, handed_in, full_by, full_answer, shared_step, full_answers, as_seen, part_of, part, view, handed_one, handed_to, Lossless}
-use Rattle.pg_gateway.proofs.SeatLaws.{owned, Alone}
+use Rattle.pg_gateway.proofs.SlotLaws.{owned, Alone}
 use Rattle.pg_gateway.proofs.ShareLaws.{share_quiet}
 use Rattle.pg_gateway.proofs.ViewLaws.{full_own, own_full, Alone-next, own-step}
 
@@ -41,19 +41,19 @@ told_kept p event.hangup k le full = ap (λ n. done 0 n) (all_kept 0 k le full)
 told_kept p (event.command number word) k le full = ap (λ n. done 0 n) (all_kept 0 k le full)
 told_kept p (event.drain n) k le full = refl
 
-own_kept : (o : Option Seat) (x : Happening) (k : ℕ) → k ≤ own_frames o x → Lossless (tells (own_answer o x k)) → own_answer o x k ≡ own_answer o x (own_frames o x)
+own_kept : (o : Option SubscriberSlot) (x : Happening) (k : ℕ) → k ≤ own_frames o x → Lossless (tells (own_answer o x k)) → own_answer o x k ≡ own_answer o x (own_frames o x)
 own_kept None x k le full = refl
 own_kept (Some s) x k le full = told_kept s.own x k le full
 
-reached_kept : (to : Reach) (ss : Seats) (k : ℕ) → k ≤ frames_reached to ss → Lossless (tells (reached_answer to ss k))
+reached_kept : (to : Reach) (ss : SubscriberSlots) (k : ℕ) → k ≤ frames_reached to ss → Lossless (tells (reached_answer to ss k))
     → reached_answer to ss k ≡ reached_answer to ss (frames_reached to ss)
 reached_kept (to_all o) ss k le full = ap (λ n. done (total o ss) n) (all_kept (total o ss) k le full)
-reached_kept (to_one w x) ss k le full = own_kept (seat_of w ss) x k le full
+reached_kept (to_one w x) ss k le full = own_kept (slot_of w ss) x k le full
 reached_kept (adds w size bytes last) ss k le full = ap (λ n. done 0 n) (all_kept 0 k le full)
 reached_kept (drops w) ss k le full = ap (λ n. done 0 n) (all_kept 0 k le full)
 reached_kept to_none ss k le full = ap (λ n. done 0 n) (all_kept 0 k le full)
 
-kept : (S : Shared) (e : Occurrence) (k : ℕ) → k ≤ made S e → Lossless (answer S e k) → answer S e k ≡ answer S e (made S e)
+kept : (S : SharedMachine) (e : Occurrence) (k : ℕ) → k ≤ made S e → Lossless (answer S e k) → answer S e k ≡ answer S e (made S e)
 kept S (add_pmu key) k le full = ap tells (reached_kept (reach S (add_pmu key)) S.subs k le full)
 kept S (drop_pmu key) k le full = ap tells (reached_kept (reach S (drop_pmu key)) S.subs k le full)
 kept S (add_sub w size bytes) k le full = ap tells (reached_kept (reach S (add_sub w size bytes)) S.subs k le full)
@@ -69,7 +69,7 @@ kept S (audit w index) k le full = refl
 kept S (standing w place) k le full = refl
 
 -- an answer that may come and tells no loss is the full one
-pub lossless_full : (S : Shared) (e : Occurrence) (a : Answer) → May S e a → Lossless a → a ≡ full_answer S e
+pub lossless_full : (S : SharedMachine) (e : Occurrence) (a : Answer) → May S e a → Lossless a → a ≡ full_answer S e
 lossless_full S e a may full = by (refusal S e) may
   where
     by : (o : Option Refusal)
@@ -139,26 +139,26 @@ silent_unless : (r : Option Refusal) (to : Reach) → SilentReach to → SilentR
 silent_unless None to silent = silent
 silent_unless (Some r) to silent = tt
 
-silent_grants : (w : ℕ) (key : PmuKey) (S : Shared) → SilentReach (reach S (grant w key))
+silent_grants : (w : ℕ) (key : PmuKey) (S : SharedMachine) → SilentReach (reach S (grant w key))
 silent_grants w key S = by (has_key S.pmus key)
   where
     by : (b : Bool) → SilentReach (if b then to_one w (granting S key) else to_none)
     by true = silent_grant key _
     by false = tt
 
-handed-asks : (u w : ℕ) (S : Shared) (x : Happening) → handed_one u (asks w x) (full_answer S (asks w x)) ≡ handed_in (own_of u S) (part u S (asks w x))
-handed-asks u w S x = ap (λ a. handed_one u (asks w x) a) (own_full (seat_of w S.subs) x) ∙ by (nat_eq u w) refl
+handed-asks : (u w : ℕ) (S : SharedMachine) (x : Happening) → handed_one u (asks w x) (full_answer S (asks w x)) ≡ handed_in (own_of u S) (part u S (asks w x))
+handed-asks u w S x = ap (λ a. handed_one u (asks w x) a) (own_full (slot_of w S.subs) x) ∙ by (nat_eq u w) refl
   where
-    own : (o : Option Seat) → handed_by (full_own o x) ≡ handed_in (owned o) (if true && is_some (owned o) then takes x ∷ [] else [])
+    own : (o : Option SubscriberSlot) → handed_by (full_own o x) ≡ handed_in (owned o) (if true && is_some (owned o) then takes x ∷ [] else [])
     own None = refl
     own (Some s) = sym (append-nil (handed_by (full_told s.own x)))
 
-    by : (b : Bool) → nat_eq u w ≡ b → (if b then handed_by (full_own (seat_of w S.subs) x) else [])
+    by : (b : Bool) → nat_eq u w ≡ b → (if b then handed_by (full_own (slot_of w S.subs) x) else [])
         ≡ handed_in (own_of u S) (if b && is_some (own_of u S) then takes x ∷ [] else [])
-    by true is = ap (λ v. handed_by (full_own (seat_of v S.subs) x)) (sym (eqb-true u w is)) ∙ own (seat_of u S.subs)
+    by true is = ap (λ v. handed_by (full_own (slot_of v S.subs) x)) (sym (eqb-true u w is)) ∙ own (slot_of u S.subs)
     by false is = refl
 
-pub handed-step : (u : ℕ) (S : Shared) (e : Occurrence) → handed_one u e (full_answer S e) ≡ handed_in (own_of u S) (part u S e)
+pub handed-step : (u : ℕ) (S : SharedMachine) (e : Occurrence) → handed_one u e (full_answer S e) ≡ handed_in (own_of u S) (part u S e)
 handed-step u S (add_pmu key) = refl
 handed-step u S (drop_pmu key) = sym (silent_part u (own_of u S) (reach S (drop_pmu key)) (silent_unless (refusal S (drop_pmu key)) (to_all (revokes key)) tt))
 handed-step u S (add_sub w size bytes) =
@@ -176,7 +176,7 @@ handed-step u S (pmu_stats key) = refl
 handed-step u S (audit w index) = refl
 handed-step u S (standing w place) = refl
 
-pub handed-run : (u : ℕ) (S : Shared) (es : List Occurrence) → Alone S.subs → handed_to u es (full_answers S es) ≡ handed_in (own_of u S) (view u S es)
+pub handed-run : (u : ℕ) (S : SharedMachine) (es : List Occurrence) → Alone S.subs → handed_to u es (full_answers S es) ≡ handed_in (own_of u S) (view u S es)
 handed-run u S [] alone = refl
 handed-run u S (e ∷ es) alone =
     let rest = handed-run u (shared_step S e) es (Alone-next S e (full_answer S e) alone) in

@@ -5,33 +5,33 @@ use Rattle.std.specs.Prelude.{slice_get}
 use Rattle.std.specs.Map.{values_of}
 use Rattle.indexmap.specs.IndexMap.{set_value_at}
 use Rattle.pg_gateway.specs.Related.{Related}
-use Rattle.pg_gateway.specs.Sharing.{Seat, Seats, Offer, frames_for, shared_to, total, fan_out}
-use Rattle.pg_gateway.specs.Shown.{SeatValue, SeatShows}
+use Rattle.pg_gateway.specs.Sharing.{SubscriberSlot, SubscriberSlots, Offer, frames_for, shared_to, total, fan_out}
+use Rattle.pg_gateway.specs.Shown.{SlotValue, SlotShows}
 use Rattle.pg_gateway.specs.Taking.{TakesShare, FansOut}
-use Rattle.pg_gateway.specs.Frugal.{AllSeats}
+use Rattle.pg_gateway.specs.Frugal.{AllSlots}
 
 -- one more subscriber has taken its share
-total-push : (o : Offer) (seats : Seats) (s : ℕ × Seat) → total o (seats ++ s ∷ []) ≡ total o seats + frames_for o s.1
+total-push : (o : Offer) (slots : SubscriberSlots) (s : ℕ × SubscriberSlot) → total o (slots ++ s ∷ []) ≡ total o slots + frames_for o s.1
 total-push o [] s = omega arith
-total-push o (q ∷ seats) s = let rest = total-push o seats s in omega arith
+total-push o (q ∷ slots) s = let rest = total-push o slots s in omega arith
 
-length-fan_out : (o : Offer) (seats : Seats) (k : ℕ) → length (fan_out o seats k) ≡ length seats
+length-fan_out : (o : Offer) (slots : SubscriberSlots) (k : ℕ) → length (fan_out o slots k) ≡ length slots
 length-fan_out o [] k = refl
-length-fan_out o (s ∷ seats) k = ap suc (length-fan_out o seats _)
+length-fan_out o (s ∷ slots) k = ap suc (length-fan_out o slots _)
 
-fan_out-push : (o : Offer) (seats : Seats) (s : ℕ × Seat) (k m : ℕ) → m ≤ frames_for o s.1 → k ≤ total o seats → ((k ≡ total o seats) ⊎ (m ≡ 0))
-    → fan_out o (seats ++ s ∷ []) (k + m) ≡ fan_out o seats k ++ (s.0, shared_to o s.1 m) ∷ []
+fan_out-push : (o : Offer) (slots : SubscriberSlots) (s : ℕ × SubscriberSlot) (k m : ℕ) → m ≤ frames_for o s.1 → k ≤ total o slots → ((k ≡ total o slots) ⊎ (m ≡ 0))
+    → fan_out o (slots ++ s ∷ []) (k + m) ≡ fan_out o slots k ++ (s.0, shared_to o s.1 m) ∷ []
 fan_out-push o [] s k m le few all =
     let same : min (k + m) (frames_for o s.1) ≡ m = first k m (frames_for o s.1) le few all in
     rw same refl
   where
     first : (k m c : ℕ) → m ≤ c → k ≤ 0 → ((k ≡ 0) ⊎ (m ≡ 0)) → min (k + m) c ≡ m
     first k m c le few all = omega arith
-fan_out-push o (q ∷ seats) s k m le few all =
+fan_out-push o (q ∷ slots) s k m le few all =
     let c = frames_for o q.1 in
-    let first : min (k + m) c ≡ min k c = at_first k m c (total o seats) few all in
-    let rest : k + m - c ≡ (k - c) + m = at_rest k m c (total o seats) few all in
-    rw (first, rest) (ap (λ ss. (q.0, shared_to o q.1 (min k c)) ∷ ss) (fan_out-push o seats s (k - c) m le (fewer k c (total o seats) few) (left k m c (total o seats) all)))
+    let first : min (k + m) c ≡ min k c = at_first k m c (total o slots) few all in
+    let rest : k + m - c ≡ (k - c) + m = at_rest k m c (total o slots) few all in
+    rw (first, rest) (ap (λ ss. (q.0, shared_to o q.1 (min k c)) ∷ ss) (fan_out-push o slots s (k - c) m le (fewer k c (total o slots) few) (left k m c (total o slots) all)))
   where
     fewer : (k c t : ℕ) → k ≤ c + t → k - c ≤ t
     fewer k c t few = omega arith
@@ -83,23 +83,23 @@ module _ {V W : Type 0} (R : V → W → Type 0) where
   Related-kept (x ∷ xs) (y ∷ ys) (suc i) v w h at keeps = (h.0, h.1, Related-kept xs ys i v w h.2 at keeps)
 
 -- one turn of the loop over all subscribers
-pub fan_step : (o : Offer) (ps : Seats) (i made kept : ℕ) (lost : Bool) (more more_kept : ℕ) (xs : List (ℕ × SeatValue)) (v v' : SeatValue)
+pub fan_step : (o : Offer) (ps : SubscriberSlots) (i made kept : ℕ) (lost : Bool) (more more_kept : ℕ) (xs : List (ℕ × SlotValue)) (v v' : SlotValue)
     → i < length ps → made ≡ total o (take i ps) → kept ≤ made → (lost ≡ false → kept ≡ made)
-    → Related SeatShows xs (fan_out o (take i ps) kept ++ drop i ps)
+    → Related SlotShows xs (fan_out o (take i ps) kept ++ drop i ps)
     → slice_get (values_of xs) i ≡ Some v
-    → ((s : Seat) → SeatShows v s → TakesShare o lost more more_kept s v') → more_kept ≤ more
-    → (made + more ≡ total o (take (i + 1) ps)) × Related SeatShows (set_value_at xs i v') (fan_out o (take (i + 1) ps) (kept + more_kept) ++ drop (i + 1) ps)
+    → ((s : SubscriberSlot) → SlotShows v s → TakesShare o lost more more_kept s v') → more_kept ≤ more
+    → (made + more ≡ total o (take (i + 1) ps)) × Related SlotShows (set_value_at xs i v') (fan_out o (take (i + 1) ps) (kept + more_kept) ++ drop (i + 1) ps)
 fan_step o ps i made kept lost more more_kept xs v v' lt count le all related at takes few =
     let sp = split_here ps i lt in
     let y = sp.0 in
     let front = fan_out o (take i ps) kept in
-    let here : Related SeatShows xs (front ++ y ∷ drop (i + 1) ps) = rw sp.2 at related in
+    let here : Related SlotShows xs (front ++ y ∷ drop (i + 1) ps) = rw sp.2 at related in
     let flen : length front ≡ i = length-fan_out o (take i ps) kept ∙ length_take i ps lt in
-    let took = takes y.1 (Related-at SeatShows front y (drop (i + 1) ps) xs i v here flen at) in
+    let took = takes y.1 (Related-at SlotShows front y (drop (i + 1) ps) xs i v here flen at) in
     let fits : more_kept ≤ frames_for o y.1 = rw (← took.count) few in
     let within : kept ≤ total o (take i ps) = rw (← count) le in
     let push = fan_out-push o (take i ps) y kept more_kept fits within (whole lost (λ f. all f ∙ count) took.none_kept) in
-    let written = Related-set_value_at SeatShows front y (drop (i + 1) ps) xs i v' (shared_to o y.1 more_kept) here flen took.shows in (
+    let written = Related-set_value_at SlotShows front y (drop (i + 1) ps) xs i v' (shared_to o y.1 more_kept) here flen took.shows in (
       rw (sp.1, total-push o (take i ps) y, count, took.count) refl,
       rw (sp.1, push, append_assoc) written,
     )
@@ -112,7 +112,7 @@ fan_step o ps i made kept lost more more_kept xs v v' lt count le all related at
     whole false f g = inl (f refl)
 
 -- the end of the loop
-pub fan_end : (o : Offer) (ps : Seats) (i made kept : ℕ) (xs : List (ℕ × SeatValue)) → length ps ≤ i → made ≡ total o (take i ps) → Related SeatShows xs (fan_out o (take i ps) kept ++ drop i ps) → FansOut o made kept ps xs
+pub fan_end : (o : Offer) (ps : SubscriberSlots) (i made kept : ℕ) (xs : List (ℕ × SlotValue)) → length ps ≤ i → made ≡ total o (take i ps) → Related SlotShows xs (fan_out o (take i ps) kept ++ drop i ps) → FansOut o made kept ps xs
 fan_end o ps i made kept xs past count related =
     let all : take i ps ≡ ps = take_past ps i past in
     let none : drop i ps ≡ [] = drop_past ps i past in
@@ -134,36 +134,36 @@ fan_end o ps i made kept xs past count related =
     drop_past (x ∷ xs) (suc i) le = drop_past xs i (omega arith)
 
 -- what holds of each subscriber from an index on, and of those before it
-module _ (P : SeatValue → Type 0) where
-  pub seats-at : (xs : List (ℕ × SeatValue)) (i : ℕ) (v : SeatValue) → AllSeats P (drop i xs) → slice_get (values_of xs) i ≡ Some v → P v
-  seats-at [] zero v all at = absurd (none_is v at)
+module _ (P : SlotValue → Type 0) where
+  pub slots-at : (xs : List (ℕ × SlotValue)) (i : ℕ) (v : SlotValue) → AllSlots P (drop i xs) → slice_get (values_of xs) i ≡ Some v → P v
+  slots-at [] zero v all at = absurd (none_is v at)
     where
-      none_is : (v : SeatValue) → None ≡ Some v → ⊥
+      none_is : (v : SlotValue) → None ≡ Some v → ⊥
       none_is v e = cc
-  seats-at [] (suc i) v all at = absurd (none_is v at)
+  slots-at [] (suc i) v all at = absurd (none_is v at)
     where
-      none_is : (v : SeatValue) → None ≡ Some v → ⊥
+      none_is : (v : SlotValue) → None ≡ Some v → ⊥
       none_is v e = cc
-  seats-at (x ∷ xs) zero v all at = let same : x.1 ≡ v = cc in subst P same all.0
-  seats-at (x ∷ xs) (suc i) v all at = seats-at xs i v all at
+  slots-at (x ∷ xs) zero v all at = let same : x.1 ≡ v = cc in subst P same all.0
+  slots-at (x ∷ xs) (suc i) v all at = slots-at xs i v all at
 
-  pub seats-after : (xs : List (ℕ × SeatValue)) (i : ℕ) (w : SeatValue) → AllSeats P (drop i xs) → AllSeats P (drop (i + 1) (set_value_at xs i w))
-  seats-after xs i w all = rw add-one (by xs i all)
+  pub slots-after : (xs : List (ℕ × SlotValue)) (i : ℕ) (w : SlotValue) → AllSlots P (drop i xs) → AllSlots P (drop (i + 1) (set_value_at xs i w))
+  slots-after xs i w all = rw add-one (by xs i all)
     where
-      by : (xs : List (ℕ × SeatValue)) (i : ℕ) → AllSeats P (drop i xs) → AllSeats P (drop (suc i) (set_value_at xs i w))
+      by : (xs : List (ℕ × SlotValue)) (i : ℕ) → AllSlots P (drop i xs) → AllSlots P (drop (suc i) (set_value_at xs i w))
       by [] i all = tt
       by (x ∷ xs) zero all = all.1
       by (x ∷ xs) (suc i) all = by xs i all
 
-  pub seats-before : (xs : List (ℕ × SeatValue)) (i : ℕ) (w : SeatValue) → AllSeats P (take i xs) → P w → AllSeats P (take (i + 1) (set_value_at xs i w))
-  seats-before xs i w all p = rw add-one (by xs i all)
+  pub slots-before : (xs : List (ℕ × SlotValue)) (i : ℕ) (w : SlotValue) → AllSlots P (take i xs) → P w → AllSlots P (take (i + 1) (set_value_at xs i w))
+  slots-before xs i w all p = rw add-one (by xs i all)
     where
-      by : (xs : List (ℕ × SeatValue)) (i : ℕ) → AllSeats P (take i xs) → AllSeats P (take (suc i) (set_value_at xs i w))
+      by : (xs : List (ℕ × SlotValue)) (i : ℕ) → AllSlots P (take i xs) → AllSlots P (take (suc i) (set_value_at xs i w))
       by [] i all = tt
       by (x ∷ xs) zero all = (p, tt)
       by (x ∷ xs) (suc i) all = (all.0, by xs i all.1)
 
-  pub seats-all : (xs : List (ℕ × SeatValue)) (i : ℕ) → length xs ≤ i → AllSeats P (take i xs) → AllSeats P xs
-  seats-all [] i past all = tt
-  seats-all (x ∷ xs) zero past all = absurd (omega arith)
-  seats-all (x ∷ xs) (suc i) past all = (all.0, seats-all xs i (omega arith) all.1)
+  pub slots-all : (xs : List (ℕ × SlotValue)) (i : ℕ) → length xs ≤ i → AllSlots P (take i xs) → AllSlots P xs
+  slots-all [] i past all = tt
+  slots-all (x ∷ xs) zero past all = absurd (omega arith)
+  slots-all (x ∷ xs) (suc i) past all = (all.0, slots-all xs i (omega arith) all.1)

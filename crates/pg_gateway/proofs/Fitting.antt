@@ -15,11 +15,11 @@ use Rattle.pg_session.specs.Private.{refuse}
 use Rattle.pg_session.specs.Shown.{SubscriberValue}
 use Rattle.pg_session.specs.Ready.{AreOwn, AreHeld}
 use Rattle.pg_gateway.specs.Related.{Related}
-use Rattle.pg_gateway.specs.Sharing.{Seats, announces, measures, some_announced, some_measured}
+use Rattle.pg_gateway.specs.Sharing.{SubscriberSlots, announces, measures, some_announced, some_measured}
 use Rattle.pg_gateway.specs.Judging.{same_part, block_refusal, is_far, is_taken}
-use Rattle.pg_gateway.specs.Shown.{SeatValue, SeatShows}
+use Rattle.pg_gateway.specs.Shown.{SlotValue, SlotShows}
 use Rattle.pg_gateway.specs.Taking.{Fits, IsFit}
-use Rattle.pg_gateway.specs.Frugal.{AllSeats}
+use Rattle.pg_gateway.specs.Frugal.{AllSlots}
 use Rattle.pg_gateway.specs.Consistent.{AllAgree}
 
 -- an announcement is of granted PMUs alone, once the others are left out
@@ -32,14 +32,14 @@ own_announced grants (a ∷ list) = by (has_key grants a.key) refl (own_announce
     by true is rest = (is, rest)
     by false is rest = rest
 
-pub fits_announced : (list : List Announcing) (v : SeatValue) → Fits (announces list) v
+pub fits_announced : (list : List Announcing) (v : SlotValue) → Fits (announces list) v
 fits_announced list v = by (filter (λ a. has_key v.subscriber.own.grants a.key) list) (own_announced v.subscriber.own.grants list)
   where
     by : (l : List Announcing) → AreOwn v.subscriber.own.grants l → IsFit v.subscriber (some_announced l)
     by [] own = tt
     by (a ∷ l) own = own
 
-pub all_fit_announced : (list : List Announcing) (xs : List (ℕ × SeatValue)) → AllSeats (Fits (announces list)) xs
+pub all_fit_announced : (list : List Announcing) (xs : List (ℕ × SlotValue)) → AllSlots (Fits (announces list)) xs
 all_fit_announced list [] = tt
 all_fit_announced list (x ∷ xs) = (fits_announced list x.1, all_fit_announced list xs)
 
@@ -100,8 +100,8 @@ held_measured pmus last soc grants listed agrees (s ∷ xs) = by (is_taken pmus 
     by true taken others = inner (has_key grants s.key) refl taken others
     by false taken others = others
 
-pub all_fit_measured : (pmus : Pmus) (last : Option ℕ) (soc quality frac : ℕ) (samples : List Sample) (xs : List (ℕ × SeatValue)) (ss : Seats) → Related SeatShows xs ss → AllAgree pmus ss
-    → AllSeats (Fits (measures soc quality frac (filter (is_taken pmus last soc) samples))) xs
+pub all_fit_measured : (pmus : Pmus) (last : Option ℕ) (soc quality frac : ℕ) (samples : List Sample) (xs : List (ℕ × SlotValue)) (ss : SubscriberSlots) → Related SlotShows xs ss → AllAgree pmus ss
+    → AllSlots (Fits (measures soc quality frac (filter (is_taken pmus last soc) samples))) xs
 all_fit_measured pmus last soc quality frac samples [] ss related agree = tt
 all_fit_measured pmus last soc quality frac samples (x ∷ xs) [] related agree = absurd related
 all_fit_measured pmus last soc quality frac samples (x ∷ xs) (s ∷ ss) related agree = (

@@ -9,8 +9,8 @@ use Rattle.pg_session.specs.Private.{Told, refused}
 use Rattle.pg_session.specs.Shown.{Model}
 use Rattle.pg_session.specs.ByAll.{by_arrivals, by_numbers}
 use Rattle.pg_gateway.specs.Occurrences.{Occurrence, add_pmu, drop_pmu, add_sub, drop_sub, grant, asks, announce, measure, tick, stats, pmu_stats, audit, standing, Answer, tells}
-use Rattle.pg_gateway.specs.Sharing.{Seat, Seats}
-use Rattle.pg_gateway.specs.Shared.{Shared, Reach, to_all, to_one, adds, drops, to_none, reach, takes_memory, own_answer, reached_answer, stats_answer, pmu_answer, audit_answer, standing_answer, seat_of, made, answer}
+use Rattle.pg_gateway.specs.Sharing.{SubscriberSlot, SubscriberSlots}
+use Rattle.pg_gateway.specs.State.{SharedMachine, Reach, to_all, to_one, adds, drops, to_none, reach, takes_memory, own_answer, reached_answer, stats_answer, pmu_answer, audit_answer, standing_answer, slot_of, made, answer}
 use Rattle.pg_gateway.specs.Shown.{GatewayValue, Goes}
 use Rattle.pg_gateway.specs.Frugal.{Frugal}
 use Rattle.pg_gateway.specs.Taking.{MayCopy}
@@ -28,21 +28,21 @@ own_answered p own.hangup k e = cc
 own_answered p (own.command number word) k e = cc
 own_answered p (own.drain n) k e = cc
 
-seat_answered : (o : Option Seat) (x : Happening) (k : ℕ) → own_answer o x k ≡ refused NoMemory → ⊥
-seat_answered None x k e = cc
-seat_answered (Some s) x k e = own_answered s.own x k e
+slot_answered : (o : Option SubscriberSlot) (x : Happening) (k : ℕ) → own_answer o x k ≡ refused NoMemory → ⊥
+slot_answered None x k e = cc
+slot_answered (Some s) x k e = own_answered s.own x k e
 
-reach_answered : (r : Reach) (seats : Seats) (k : ℕ) → reached_answer r seats k ≡ refused NoMemory → ⊥
-reach_answered (to_all o) seats k e = cc
-reach_answered (to_one u x) seats k e = seat_answered (seat_of u seats) x k e
-reach_answered (adds u size bytes last) seats k e = cc
-reach_answered (drops u) seats k e = cc
-reach_answered to_none seats k e = cc
+reach_answered : (r : Reach) (slots : SubscriberSlots) (k : ℕ) → reached_answer r slots k ≡ refused NoMemory → ⊥
+reach_answered (to_all o) slots k e = cc
+reach_answered (to_one u x) slots k e = slot_answered (slot_of u slots) x k e
+reach_answered (adds u size bytes last) slots k e = cc
+reach_answered (drops u) slots k e = cc
+reach_answered to_none slots k e = cc
 
 told_in : (t r : Told) → tells t ≡ tells r → t ≡ r
 told_in t r e = cc
 
-stats_answered : (o : Option Seat) → stats_answer o ≡ tells (refused NoMemory) → ⊥
+stats_answered : (o : Option SubscriberSlot) → stats_answer o ≡ tells (refused NoMemory) → ⊥
 stats_answered None e = cc
 stats_answered (Some s) e = cc
 
@@ -50,15 +50,15 @@ pmu_answered : (o : Option Pmu) → pmu_answer o ≡ tells (refused NoMemory) �
 pmu_answered None e = cc
 pmu_answered (Some p) e = cc
 
-audit_answered : (o : Option Seat) (index : ℕ) → audit_answer o index ≡ tells (refused NoMemory) → ⊥
+audit_answered : (o : Option SubscriberSlot) (index : ℕ) → audit_answer o index ≡ tells (refused NoMemory) → ⊥
 audit_answered None index e = cc
 audit_answered (Some s) index e = cc
 
-standing_answered : (o : Option Seat) (place : ℕ) → standing_answer o place ≡ tells (refused NoMemory) → ⊥
+standing_answered : (o : Option SubscriberSlot) (place : ℕ) → standing_answer o place ≡ tells (refused NoMemory) → ⊥
 standing_answered None place e = cc
 standing_answered (Some s) place e = cc
 
-answered : (S : Shared) (e : Occurrence) (k : ℕ) → answer S e k ≡ tells (refused NoMemory) → ⊥
+answered : (S : SharedMachine) (e : Occurrence) (k : ℕ) → answer S e k ≡ tells (refused NoMemory) → ⊥
 answered S (add_pmu key) k is = reach_answered (reach S (add_pmu key)) S.subs k (told_in _ _ is)
 answered S (drop_pmu key) k is = reach_answered (reach S (drop_pmu key)) S.subs k (told_in _ _ is)
 answered S (add_sub u size bytes) k is = reach_answered (reach S (add_sub u size bytes)) S.subs k (told_in _ _ is)
@@ -68,16 +68,16 @@ answered S (asks u x) k is = reach_answered (reach S (asks u x)) S.subs k (told_
 answered S (announce config) k is = reach_answered (reach S (announce config)) S.subs k (told_in _ _ is)
 answered S (measure m) k is = reach_answered (reach S (measure m)) S.subs k (told_in _ _ is)
 answered S (tick soc) k is = reach_answered (reach S (tick soc)) S.subs k (told_in _ _ is)
-answered S (stats u) k is = stats_answered (seat_of u S.subs) is
+answered S (stats u) k is = stats_answered (slot_of u S.subs) is
 answered S (pmu_stats key) k is = pmu_answered (pmu_of S.pmus key) is
-answered S (audit u index) k is = audit_answered (seat_of u S.subs) index is
-answered S (standing u place) k is = standing_answered (seat_of u S.subs) place is
+answered S (audit u index) k is = audit_answered (slot_of u S.subs) index is
+answered S (standing u place) k is = standing_answered (slot_of u S.subs) place is
 
 freely : (old new : GatewayValue) (e : Occurrence) (a : Answer) → Goes old e a new → takes_memory e ≡ false → Frugal old e a
 freely old new e a goes free = λ S h none needs is.
     either S is (subst (λ o. MatchOption o (((k : ℕ) × (k ≤ made S e) × (a ≡ answer S e k)) ⊎ ((a ≡ tells (refused NoMemory)) × (takes_memory e ≡ true))) (λ first. a ≡ tells (refused first))) none (goes S h).may)
   where
-    either : (S : Shared) → a ≡ tells (refused NoMemory) → ((k : ℕ) × (k ≤ made S e) × (a ≡ answer S e k)) ⊎ ((a ≡ tells (refused NoMemory)) × (takes_memory e ≡ true)) → ⊥
+    either : (S : SharedMachine) → a ≡ tells (refused NoMemory) → ((k : ℕ) × (k ≤ made S e) × (a ≡ answer S e k)) ⊎ ((a ≡ tells (refused NoMemory)) × (takes_memory e ≡ true)) → ⊥
     either S is (inl m) = answered S e m.0 (sym m.2 ∙ is)
     either S is (inr m) = cc
 

@@ -1,6 +1,6 @@
 -- Lemmas of the gateway.
 pub mod RelatedLaws
-pub mod SeatLaws
+pub mod SlotLaws
 pub mod ShareLaws
 pub mod ViewLaws
 pub mod AnswerLaws

@@ -13,8 +13,8 @@ use Rattle.pg_gateway.specs.Related.{Related}
 use Rattle.pg_gateway.specs.Sharing.{measures, total}
 use Rattle.pg_gateway.specs.Judging.{same_part, is_far, block_refusal, sample_refusal, first_refusal, blocks_counted, memory_counted, samples_in, judged, taken_of}
 use Rattle.pg_gateway.specs.Occurrences.{measure, tells}
-use Rattle.pg_gateway.specs.Shared.{Shared, taken_in, judged_in}
-use Rattle.pg_gateway.specs.Shown.{SeatValue, SeatShows, GatewayValue, GatewayShows, Steps}
+use Rattle.pg_gateway.specs.State.{SharedMachine, taken_in, judged_in}
+use Rattle.pg_gateway.specs.Shown.{SlotValue, SlotShows, GatewayValue, GatewayShows, Steps}
 use Rattle.pg_gateway.specs.Taking.{FansOut}
 use Rattle.pg_gateway.specs.Placing.{ArePlaced}
 
@@ -47,7 +47,7 @@ first_not_memory pmus last soc (s ∷ xs) = by (has_key pmus s.key) (first_not_m
     by true rest = one (sample_refusal pmus last soc s) refl rest
     by false rest = rest
 
-pub measured_refused : (m : Measurement) (S : Shared) (old : GatewayValue) (pmus : Pmus) → GatewayShows old S → taken_in S m ≡ [] → pmus ≡ blocks_counted S.pmus (judged_in S m)
+pub measured_refused : (m : Measurement) (S : SharedMachine) (old : GatewayValue) (pmus : Pmus) → GatewayShows old S → taken_in S m ≡ [] → pmus ≡ blocks_counted S.pmus (judged_in S m)
     → Steps S (measure m) (tells (refused (first_refusal (judged_in S m)))) (record { pmus = pmus; subs = old.subs; last_tick = old.last_tick })
 measured_refused m S old pmus shown none counted =
     let kept = first_not_memory S.pmus S.last_tick m.soc (samples_in m) in
@@ -56,8 +56,8 @@ measured_refused m S old pmus shown none counted =
       shows = rw (none, kept) (record { pmus = counted; subs = shown.subs; last_tick = shown.last_tick });
     }
 
-pub measured_memory : (m : Measurement) (S : Shared) (old : GatewayValue) (pmus : Pmus) (entries : List (ℕ × SeatValue)) (s : Sample) (taken : List Sample) → GatewayShows old S → taken_in S m ≡ s ∷ taken
-    → Related SeatShows entries S.subs → pmus ≡ memory_counted S.pmus (map (λ b. b.0) (judged_in S m))
+pub measured_memory : (m : Measurement) (S : SharedMachine) (old : GatewayValue) (pmus : Pmus) (entries : List (ℕ × SlotValue)) (s : Sample) (taken : List Sample) → GatewayShows old S → taken_in S m ≡ s ∷ taken
+    → Related SlotShows entries S.subs → pmus ≡ memory_counted S.pmus (map (λ b. b.0) (judged_in S m))
     → Steps S (measure m) (tells (refused NoMemory)) (record { pmus = pmus; subs = entries; last_tick = old.last_tick })
 measured_memory m S old pmus entries s taken shown some related counted =
     record {
@@ -65,7 +65,7 @@ measured_memory m S old pmus entries s taken shown some related counted =
       shows = rw some (record { pmus = counted; subs = related; last_tick = shown.last_tick });
     }
 
-pub measured_goes : (m : Measurement) (S : Shared) (old : GatewayValue) (pmus : Pmus) (entries : List (ℕ × SeatValue)) (made kept : ℕ) (s : Sample) (taken : List Sample) → GatewayShows old S → taken_in S m ≡ s ∷ taken
+pub measured_goes : (m : Measurement) (S : SharedMachine) (old : GatewayValue) (pmus : Pmus) (entries : List (ℕ × SlotValue)) (made kept : ℕ) (s : Sample) (taken : List Sample) → GatewayShows old S → taken_in S m ≡ s ∷ taken
     → FansOut (measures m.soc m.quality m.frac (taken_in S m)) made kept S.subs entries → kept ≤ made → pmus ≡ blocks_counted S.pmus (judged_in S m)
     → Steps S (measure m) (tells (done made kept)) (record { pmus = pmus; subs = entries; last_tick = old.last_tick })
 measured_goes m S old pmus entries made kept s taken shown some fans few counted =
@@ -77,11 +77,11 @@ measured_goes m S old pmus entries made kept s taken shown some fans few counted
     }
 
 -- what was judged by what is kept is what the state says
-pub judged_shown : (m : Measurement) (S : Shared) (v : GatewayValue) (ps : List (ℕ × Option Refusal)) → GatewayShows v S → ArePlaced v.pmus ps (judged v.pmus v.last_tick m) → ArePlaced S.pmus ps (judged_in S m)
+pub judged_shown : (m : Measurement) (S : SharedMachine) (v : GatewayValue) (ps : List (ℕ × Option Refusal)) → GatewayShows v S → ArePlaced v.pmus ps (judged v.pmus v.last_tick m) → ArePlaced S.pmus ps (judged_in S m)
 judged_shown m S v ps shown placed =
     subst (λ last. ArePlaced S.pmus ps (judged S.pmus last m)) shown.last_tick (subst (λ pmus. ArePlaced pmus ps (judged pmus v.last_tick m)) shown.pmus placed)
 
-pub taken_shown : (m : Measurement) (S : Shared) (v : GatewayValue) (ps : List ℕ) → GatewayShows v S → samples_at m ps ≡ taken_of v.pmus v.last_tick m → samples_at m ps ≡ taken_in S m
+pub taken_shown : (m : Measurement) (S : SharedMachine) (v : GatewayValue) (ps : List ℕ) → GatewayShows v S → samples_at m ps ≡ taken_of v.pmus v.last_tick m → samples_at m ps ≡ taken_in S m
 taken_shown m S v ps shown is = is ∙ ap (λ pmus. taken_of pmus v.last_tick m) shown.pmus ∙ ap (λ last. taken_of S.pmus last m) shown.last_tick
 
 pub no_samples : (m : Measurement) (ps : List ℕ) → length ps ≡ 0 → samples_at m ps ≡ []

@@ -22,8 +22,8 @@ use Rattle.pg_session.specs.Shown.{Model, begin}
 use Rattle.pg_session.specs.ByAll.{by_arrivals, by_numbers}
 use Rattle.pg_gateway.specs.Occurrences.{Occurrence, add_pmu, drop_pmu, add_sub, drop_sub, grant, asks, announce, measure, tick, stats, pmu_stats, audit, standing, Answer, tells, sub_counts, pmu_counts, entry, stands}
 use Rattle.pg_gateway.specs.Judging.{registered_of, memory_counted, blocks_counted, all_announced}
-use Rattle.pg_gateway.specs.Sharing.{Seat, Seats, revokes, announces, measures, ticks, fan_out}
-use Rattle.pg_gateway.specs.Shared.{Shared, May, next, refusal, granting, grant_refusal, announce_refusal, seat_of, moved, added, with_note, code_of, is_refusal, wants_memory, kept_of, seats_noted, seats_after, unless, to_all, to_one, to_none, adds, drops, names, taken_in, judged_in}
+use Rattle.pg_gateway.specs.Sharing.{SubscriberSlot, SubscriberSlots, revokes, announces, measures, ticks, fan_out}
+use Rattle.pg_gateway.specs.State.{SharedMachine, May, next, refusal, granting, grant_refusal, announce_refusal, slot_of, moved, added, with_note, code_of, is_refusal, wants_memory, kept_of, slots_noted, slots_after, unless, to_all, to_one, to_none, adds, drops, names, taken_in, judged_in}
 use Rattle.pg_gateway.specs.Consistent.{AgreesWith, AllAgree, AreKeyed, IsConsistent, IsOwn, IsPosted}
 use Rattle.pg_gateway.proofs.AgreeLaws.{Likewise, all_likewise, likewise_counted, likewise_memory, at_agrees, removed_agree, pushed_agree, fanned_agree, revoke_agrees, grant_agrees, ticked_agrees, measured_agrees, dropped_agrees}
 use Rattle.pg_gateway.proofs.SaidLaws.{AllSaid, announced_keyed, announced_registry, announced_agrees, registered_said}
@@ -63,7 +63,7 @@ own_agrees pmus p (event.drain n) (done made kept) own is = record { grants = is
 own_agrees pmus p (event.drain n) (refused r) own is = is
 own_agrees pmus p (event.drain n) (handed bytes begun gap) own is = record { grants = is.grants; listed = is.listed }
 
-noted_agree : (pmus : Pmus) (named : Option (ℕ × What)) (t : Told) (ss : Seats) → AllAgree pmus ss → AllAgree pmus (seats_noted named t ss)
+noted_agree : (pmus : Pmus) (named : Option (ℕ × What)) (t : Told) (ss : SubscriberSlots) → AllAgree pmus ss → AllAgree pmus (slots_noted named t ss)
 noted_agree pmus None t ss all = all
 noted_agree pmus (Some named) t ss all = at_agrees pmus named.0 (with_note (named.1, code_of t)) ss (λ s at is. is) all
 
@@ -90,7 +90,7 @@ removed_keyed (p ∷ pmus) key keyed = by (key_eq key p.0) (removed_keyed pmus k
     by true rest = keyed.1
     by false rest = (keyed.0, rest)
 
-module _ (S : Shared) (c : IsConsistent S) (t : Told) where
+module _ (S : SharedMachine) (c : IsConsistent S) (t : Told) where
   add_pmu_stays : (key : PmuKey) → May S (add_pmu key) (tells t) → IsConsistent (next S (add_pmu key) (tells t))
   add_pmu_stays key may = by _ (has_key S.pmus key) refl (nat_le 256 (length S.pmus)) refl may
     where
@@ -128,11 +128,11 @@ module _ (S : Shared) (c : IsConsistent S) (t : Told) where
       same is = rw is c
 
       by : (A : Type 0) (b : Bool) → MatchOption (refuse (not b) NoSuchPmu None) A (λ first. tells t ≡ tells (refused first))
-          → IsConsistent (record { pmus = if is_refusal t then S.pmus else remove_entry (key_eq key) S.pmus; subs = seats_after (unless (refuse (not b) NoSuchPmu None) (to_all (revokes key))) t S.subs; last_tick = S.last_tick })
+          → IsConsistent (record { pmus = if is_refusal t then S.pmus else remove_entry (key_eq key) S.pmus; subs = slots_after (unless (refuse (not b) NoSuchPmu None) (to_all (revokes key))) t S.subs; last_tick = S.last_tick })
       by A true m = one (is_refusal t)
       by A false m = same (told_same t (refused NoSuchPmu) m)
 
-  add_sub_agree : (u size bytes : ℕ) (r : Option Refusal) → AllAgree S.pmus (seats_after (unless r (adds u size bytes S.last_tick)) t S.subs)
+  add_sub_agree : (u size bytes : ℕ) (r : Option Refusal) → AllAgree S.pmus (slots_after (unless r (adds u size bytes S.last_tick)) t S.subs)
   add_sub_agree u size bytes (Some r) = c.agree
   add_sub_agree u size bytes None = by (is_refusal t)
     where
@@ -140,7 +140,7 @@ module _ (S : Shared) (c : IsConsistent S) (t : Told) where
       by true = c.agree
       by false = pushed_agree S.pmus u (added size bytes S.last_tick) S.subs (new_agrees S.pmus size bytes S.last_tick) c.agree
 
-  drop_sub_agree : (u : ℕ) (r : Option Refusal) → AllAgree S.pmus (seats_after (unless r (drops u)) t S.subs)
+  drop_sub_agree : (u : ℕ) (r : Option Refusal) → AllAgree S.pmus (slots_after (unless r (drops u)) t S.subs)
   drop_sub_agree u (Some r) = c.agree
   drop_sub_agree u None = by (is_refusal t)
     where
@@ -148,19 +148,19 @@ module _ (S : Shared) (c : IsConsistent S) (t : Told) where
       by true = c.agree
       by false = removed_agree S.pmus (nat_eq u) S.subs c.agree
 
-  grant_agree : (u : ℕ) (key : PmuKey) (A : Type 0) (b : Bool) → MatchOption (grant_refusal (seat_of u S.subs) b (granting S key)) A (λ first. tells t ≡ tells (refused first))
-      → AllAgree S.pmus (seats_after (if b then to_one u (granting S key) else to_none) t S.subs)
+  grant_agree : (u : ℕ) (key : PmuKey) (A : Type 0) (b : Bool) → MatchOption (grant_refusal (slot_of u S.subs) b (granting S key)) A (λ first. tells t ≡ tells (refused first))
+      → AllAgree S.pmus (slots_after (if b then to_one u (granting S key) else to_none) t S.subs)
   grant_agree u key A false m = c.agree
   grant_agree u key A true m = at_agrees S.pmus u (moved (granting S key) t) S.subs (λ s at is. grant_agrees S.pmus s.own key t (full s at) is) c.agree
     where
-      full : (s : Seat) → seat_of u S.subs ≡ Some s → has_room s.own.grants key ≡ false → t ≡ refused GrantsFull
+      full : (s : SubscriberSlot) → slot_of u S.subs ≡ Some s → has_room s.own.grants key ≡ false → t ≡ refused GrantsFull
       full s at none = told_same t (refused GrantsFull)
           (subst (λ r. MatchOption r A (λ first. tells t ≡ tells (refused first))) (ap (λ o. grant_refusal o true (granting S key)) at ∙ ap (λ b. refuse (not b) GrantsFull None) none) m)
 
   announce_stays : (list : List Announcing) → AllSaid (has_key S.pmus) list
       → IsConsistent (record {
         pmus = if is_refusal t then memory_counted S.pmus (map (λ a. a.key) list) else all_announced S.pmus list;
-        subs = seats_after (unless (announce_refusal list) (to_all (announces list))) t S.subs;
+        subs = slots_after (unless (announce_refusal list) (to_all (announces list))) t S.subs;
         last_tick = S.last_tick;
       })
   announce_stays [] all = one (is_refusal t)
@@ -199,7 +199,7 @@ module _ (S : Shared) (c : IsConsistent S) (t : Told) where
       one true = c.agree
       one false = fanned_agree S.pmus S.pmus (measures m.soc m.quality m.frac (taken_in S m)) (measured_agrees S.pmus m.soc m.quality m.frac (taken_in S m)) S.subs (kept_of t) c.agree
 
-      by : (r : Option Refusal) → AllAgree S.pmus (seats_after (unless r (to_all (measures m.soc m.quality m.frac (taken_in S m)))) t S.subs)
+      by : (r : Option Refusal) → AllAgree S.pmus (slots_after (unless r (to_all (measures m.soc m.quality m.frac (taken_in S m)))) t S.subs)
       by (Some r) = c.agree
       by None = one (is_refusal t)
 
@@ -226,7 +226,7 @@ module _ (S : Shared) (c : IsConsistent S) (t : Told) where
   told_stays (audit u index) posted may = record { registered = c.registered; keyed = c.keyed; agree = c.agree }
   told_stays (standing u place) posted may = record { registered = c.registered; keyed = c.keyed; agree = c.agree }
 
-pub next_stays : (S : Shared) (e : Occurrence) (a : Answer) → IsConsistent S → IsPosted e → May S e a → IsConsistent (next S e a)
+pub next_stays : (S : SharedMachine) (e : Occurrence) (a : Answer) → IsConsistent S → IsPosted e → May S e a → IsConsistent (next S e a)
 next_stays S e (tells t) c posted may = told_stays S c t e posted may
 next_stays S e (sub_counts s) c posted may = c
 next_stays S e (pmu_counts s) c posted may = c

@@ -6,7 +6,7 @@ use Rattle.pg_session.specs.Ready.{IsPlain, KeepsBuffer}
 use Rattle.pg_session.specs.declared.event.PrivateEvent.{PrivateEvent}
 use Rattle.pg_session.specs.declared.event.PrivateEvent.TheVariants as private
 use Rattle.pg_session.specs.declared.event.PrivateReply.{PrivateReply}
-use Rattle.pg_gateway.specs.Shared.{noted_as}
+use Rattle.pg_gateway.specs.State.{noted_as}
 use Rattle.pg_gateway.specs.declared.event.Event.{Event}
 use Rattle.pg_gateway.specs.declared.event.Event.TheVariants as kind
 use Rattle.pg_gateway.specs.Taking.{IsForAll}

@@ -8,13 +8,13 @@ use Rattle.pg_wire.specs.declared.ids.PmuKey.{PmuKey}
 use Rattle.pg_registry.specs.Registered.{Pmus, has_key}
 use Rattle.pg_session.specs.Private.{refused, refuse}
 use Rattle.pg_gateway.specs.Occurrences.{add_pmu, tells}
-use Rattle.pg_gateway.specs.Shared.{Shared, answer, made}
+use Rattle.pg_gateway.specs.State.{SharedMachine, answer, made}
 use Rattle.pg_gateway.specs.Shown.{GatewayValue, GatewayShows, Steps}
 
 pub err_same : (a b : Refusal) → ◌≡◌ {A = Result (Unit {0}) Refusal} (Err a) (Err b) → a ≡ b
 err_same a b e = cc
 
-pub pmu_refused : (key : PmuKey) (S : Shared) (old : GatewayValue) (pmus : Pmus) (r : Refusal) → GatewayShows old S → pmus ≡ old.pmus
+pub pmu_refused : (key : PmuKey) (S : SharedMachine) (old : GatewayValue) (pmus : Pmus) (r : Refusal) → GatewayShows old S → pmus ≡ old.pmus
     → (has_key old.pmus key ≡ true → r ≡ PmuExists) → (has_key old.pmus key ≡ false → 256 ≤ length old.pmus → r ≡ PmusFull) → (has_key old.pmus key ≡ false → length old.pmus < 256 → r ≡ NoMemory)
     → Steps S (add_pmu key) (tells (refused r)) (record { pmus = pmus; subs = old.subs; last_tick = old.last_tick })
 pmu_refused key S old pmus r shown same exists full memory =

@@ -2,7 +2,7 @@
 use Rattle.std.proofs.Common.{[], None, refl}
 use Rattle.pg_registry.proofs.Staying.{apart-none}
 use Rattle.pg_gateway.specs.Occurrences.{Occurrence, Answer}
-use Rattle.pg_gateway.specs.Shared.{opening, next}
+use Rattle.pg_gateway.specs.State.{opening, next}
 use Rattle.pg_gateway.specs.Shown.{GatewayValue, Goes}
 use Rattle.pg_gateway.specs.Consistent.{IsReached, IsPosted}
 use Rattle.pg_gateway.proofs.NextLaws.{next_stays}

@@ -28,9 +28,9 @@ use Rattle.pg_gateway.specs.declared.event.Event.TheVariants as kind
 use Rattle.pg_gateway.specs.Occurrences.{occurrence, Occurrence, add_pmu, drop_pmu, add_sub, drop_sub, grant, asks, announce, measure, tick, stats, pmu_stats, audit, standing, Answer, tells, sub_counts, pmu_counts, entry, stands}
 use Rattle.pg_gateway.specs.Judging.{samples_in, sample_refusal, is_taken, judged, taken_of, registered_of, block_counted, blocks_counted, memory_counted, all_announced}
 use Rattle.pg_gateway.specs.Related.{Related}
-use Rattle.pg_gateway.specs.Sharing.{Seat, Seats, Offer, announces, measures, ticks, some_announced, some_measured, after_share, shared_to, fan_out}
-use Rattle.pg_gateway.specs.Shared.{Shared, next, refusal, at_seat, moved, with_note, code_of, names, is_refusal, wants_memory, kept_of, seats_noted, seats_after, announce_refusal, unless, to_all, taken_in, judged_in}
-use Rattle.pg_gateway.specs.Shown.{SeatValue, SeatShows, GatewayValue, Goes}
+use Rattle.pg_gateway.specs.Sharing.{SubscriberSlot, SubscriberSlots, Offer, announces, measures, ticks, some_announced, some_measured, after_share, shared_to, fan_out}
+use Rattle.pg_gateway.specs.State.{SharedMachine, next, refusal, at_slot, moved, with_note, code_of, names, is_refusal, wants_memory, kept_of, slots_noted, slots_after, announce_refusal, unless, to_all, taken_in, judged_in}
+use Rattle.pg_gateway.specs.Shown.{SlotValue, SlotShows, GatewayValue, Goes}
 use Rattle.pg_gateway.specs.Consistent.{IsReached}
 use Rattle.pg_gateway.specs.Placing.{ArePlaced}
 use Rattle.pg_gateway.specs.Taking.{measured}
@@ -53,39 +53,39 @@ cons_nil : {X : Type 0} (a : X) (more : List X) → a ∷ more ≡ [] → ⊥
 cons_nil a more e = cc
 
 -- the grants of all subscribers, in their order
-abbrev grants_in : List (ℕ × SeatValue) → List (List PmuKey)
+abbrev grants_in : List (ℕ × SlotValue) → List (List PmuKey)
 grants_in [] = []
 grants_in (x ∷ xs) = x.1.subscriber.own.grants ∷ grants_in xs
 
-abbrev grants_of : Seats → List (List PmuKey)
+abbrev grants_of : SubscriberSlots → List (List PmuKey)
 grants_of [] = []
 grants_of (s ∷ ss) = s.1.own.grants ∷ grants_of ss
 
-shown_grants : (xs : List (ℕ × SeatValue)) (ss : Seats) → Related SeatShows xs ss → grants_in xs ≡ grants_of ss
+shown_grants : (xs : List (ℕ × SlotValue)) (ss : SubscriberSlots) → Related SlotShows xs ss → grants_in xs ≡ grants_of ss
 shown_grants [] [] h = refl
 shown_grants [] (s ∷ ss) h = absurd h
 shown_grants (x ∷ xs) [] h = absurd h
 shown_grants (x ∷ xs) (s ∷ ss) h = cons_same _ _ _ _ h.1.subscriber.grants (shown_grants xs ss h.2)
 
-same_grants : (xs ys : List (ℕ × SeatValue)) → grants_in xs ≡ grants_in ys → SameGrants xs ys
+same_grants : (xs ys : List (ℕ × SlotValue)) → grants_in xs ≡ grants_in ys → SameGrants xs ys
 same_grants [] [] e = tt
 same_grants [] (y ∷ ys) e = nil_cons _ _ e
 same_grants (x ∷ xs) [] e = cons_nil _ _ e
 same_grants (x ∷ xs) (y ∷ ys) e = (head_same _ _ _ _ e, same_grants xs ys (tail_same _ _ _ _ e))
 
 -- Events for all that leave the grants.
-fanned_grants : (o : Offer) → ((s : Seat) (k : ℕ) → (shared_to o s k).own.grants ≡ s.own.grants) → (ss : Seats) (k : ℕ) → grants_of (fan_out o ss k) ≡ grants_of ss
+fanned_grants : (o : Offer) → ((s : SubscriberSlot) (k : ℕ) → (shared_to o s k).own.grants ≡ s.own.grants) → (ss : SubscriberSlots) (k : ℕ) → grants_of (fan_out o ss k) ≡ grants_of ss
 fanned_grants o each [] k = refl
 fanned_grants o each (s ∷ ss) k = cons_same _ _ _ _ (each s.1 _) (fanned_grants o each ss _)
 
-announced_grants : (list : List Announcing) (s : Seat) (k : ℕ) → (shared_to (announces list) s k).own.grants ≡ s.own.grants
+announced_grants : (list : List Announcing) (s : SubscriberSlot) (k : ℕ) → (shared_to (announces list) s k).own.grants ≡ s.own.grants
 announced_grants list s k = by (filter (λ a. has_key s.own.grants a.key) list)
   where
     by : (l : List Announcing) → (after_share (some_announced l) [] s k).own.grants ≡ s.own.grants
     by [] = refl
     by (a ∷ l) = refl
 
-measured_grants : (soc quality frac : ℕ) (samples : List Sample) (s : Seat) (k : ℕ) → (shared_to (measures soc quality frac samples) s k).own.grants ≡ s.own.grants
+measured_grants : (soc quality frac : ℕ) (samples : List Sample) (s : SubscriberSlot) (k : ℕ) → (shared_to (measures soc quality frac samples) s k).own.grants ≡ s.own.grants
 measured_grants soc quality frac samples s k = by (filter (λ t. has_key s.own.grants t.key) samples)
   where
     by : (l : List Sample) → (after_share (some_measured soc quality frac l) [] s k).own.grants ≡ s.own.grants
@@ -93,15 +93,15 @@ measured_grants soc quality frac samples s k = by (filter (λ t. has_key s.own.g
     by (t ∷ l) = refl
 
 -- Events for one subscriber that leave its grants.
-at_grants : (u : ℕ) (f : Seat → Seat) → ((s : Seat) → (f s).own.grants ≡ s.own.grants) → (ss : Seats) → grants_of (at_seat u f ss) ≡ grants_of ss
+at_grants : (u : ℕ) (f : SubscriberSlot → SubscriberSlot) → ((s : SubscriberSlot) → (f s).own.grants ≡ s.own.grants) → (ss : SubscriberSlots) → grants_of (at_slot u f ss) ≡ grants_of ss
 at_grants u f each [] = refl
 at_grants u f each (s ∷ ss) = by (nat_eq u s.0) (at_grants u f each ss)
   where
-    by : (b : Bool) → grants_of (at_seat u f ss) ≡ grants_of ss → grants_of (if b then (s.0, f s.1) ∷ ss else s ∷ at_seat u f ss) ≡ grants_of (s ∷ ss)
+    by : (b : Bool) → grants_of (at_slot u f ss) ≡ grants_of ss → grants_of (if b then (s.0, f s.1) ∷ ss else s ∷ at_slot u f ss) ≡ grants_of (s ∷ ss)
     by true rest = cons_same _ _ _ _ (each s.1) refl
     by false rest = cons_same _ _ _ _ refl rest
 
-noted_grants : (named : Option (ℕ × What)) (t : Told) (ss : Seats) → grants_of (seats_noted named t ss) ≡ grants_of ss
+noted_grants : (named : Option (ℕ × What)) (t : Told) (ss : SubscriberSlots) → grants_of (slots_noted named t ss) ≡ grants_of ss
 noted_grants None t ss = refl
 noted_grants (Some named) t ss = at_grants named.0 (with_note (named.1, code_of t)) (λ s. refl) ss
 
@@ -134,26 +134,26 @@ own_grants p (event.drain n) (done made kept) keeps = refl
 own_grants p (event.drain n) (refused r) keeps = refl
 own_grants p (event.drain n) (handed bytes begun gap) keeps = refl
 
-module _ (S : Shared) (t : Told) where
-  announced_seats : (list : List Announcing) → grants_of (seats_after (unless (announce_refusal list) (to_all (announces list))) t S.subs) ≡ grants_of S.subs
-  announced_seats [] = refl
-  announced_seats (a ∷ list) = one (is_refusal t)
+module _ (S : SharedMachine) (t : Told) where
+  announced_slots : (list : List Announcing) → grants_of (slots_after (unless (announce_refusal list) (to_all (announces list))) t S.subs) ≡ grants_of S.subs
+  announced_slots [] = refl
+  announced_slots (a ∷ list) = one (is_refusal t)
     where
       one : (r : Bool) → grants_of (if r then S.subs else fan_out (announces (a ∷ list)) S.subs (kept_of t)) ≡ grants_of S.subs
       one true = refl
       one false = fanned_grants (announces (a ∷ list)) (announced_grants (a ∷ list)) S.subs (kept_of t)
 
-  measured_seats : (m : Measurement) (r : Option Refusal) → grants_of (seats_after (unless r (to_all (measures m.soc m.quality m.frac (taken_in S m)))) t S.subs) ≡ grants_of S.subs
-  measured_seats m (Some r) = refl
-  measured_seats m None = one (is_refusal t)
+  measured_slots : (m : Measurement) (r : Option Refusal) → grants_of (slots_after (unless r (to_all (measures m.soc m.quality m.frac (taken_in S m)))) t S.subs) ≡ grants_of S.subs
+  measured_slots m (Some r) = refl
+  measured_slots m None = one (is_refusal t)
     where
       one : (r : Bool) → grants_of (if r then S.subs else fan_out (measures m.soc m.quality m.frac (taken_in S m)) S.subs (kept_of t)) ≡ grants_of S.subs
       one true = refl
       one false = fanned_grants (measures m.soc m.quality m.frac (taken_in S m)) (measured_grants m.soc m.quality m.frac (taken_in S m)) S.subs (kept_of t)
 
-  ticked_seats : (soc : ℕ) (r : Bool) → grants_of (if r then S.subs else fan_out (ticks soc) S.subs (kept_of t)) ≡ grants_of S.subs
-  ticked_seats soc true = refl
-  ticked_seats soc false = fanned_grants (ticks soc) (λ s k. refl) S.subs (kept_of t)
+  ticked_slots : (soc : ℕ) (r : Bool) → grants_of (if r then S.subs else fan_out (ticks soc) S.subs (kept_of t)) ≡ grants_of S.subs
+  ticked_slots soc true = refl
+  ticked_slots soc false = fanned_grants (ticks soc) (λ s k. refl) S.subs (kept_of t)
 
   grants_stay : (e : Occurrence) → KeepsRoutes e → grants_of (next S e (tells t)).subs ≡ grants_of S.subs
   grants_stay (add_pmu key) keeps = absurd keeps
@@ -161,10 +161,10 @@ module _ (S : Shared) (t : Told) where
   grants_stay (add_sub u size bytes) keeps = absurd keeps
   grants_stay (drop_sub u) keeps = absurd keeps
   grants_stay (grant u key) keeps = absurd keeps
-  grants_stay (asks u x) keeps = noted_grants (names (asks u x)) t (at_seat u (moved x t) S.subs) ∙ at_grants u (moved x t) (λ s. own_grants s.own x t keeps) S.subs
-  grants_stay (announce config) keeps = announced_seats (registered_of S.pmus config)
-  grants_stay (measure m) keeps = measured_seats m (refusal S (measure m))
-  grants_stay (tick soc) keeps = ticked_seats soc (is_refusal t)
+  grants_stay (asks u x) keeps = noted_grants (names (asks u x)) t (at_slot u (moved x t) S.subs) ∙ at_grants u (moved x t) (λ s. own_grants s.own x t keeps) S.subs
+  grants_stay (announce config) keeps = announced_slots (registered_of S.pmus config)
+  grants_stay (measure m) keeps = measured_slots m (refusal S (measure m))
+  grants_stay (tick soc) keeps = ticked_slots soc (is_refusal t)
   grants_stay (stats u) keeps = refl
   grants_stay (pmu_stats key) keeps = refl
   grants_stay (audit u index) keeps = refl
@@ -183,7 +183,7 @@ keys_memory : (keys : List PmuKey) (pmus : Pmus) → keys_of (memory_counted pmu
 keys_memory [] pmus = refl
 keys_memory (key ∷ keys) pmus = keys-changed (refusing NoMemory) key pmus
 
-module _ (S : Shared) (t : Told) where
+module _ (S : SharedMachine) (t : Told) where
   keys_stay : (e : Occurrence) → KeepsRoutes e → keys_of (next S e (tells t)).pmus ≡ keys_of S.pmus
   keys_stay (add_pmu key) keeps = absurd keeps
   keys_stay (drop_pmu key) keeps = absurd keeps
@@ -207,7 +207,7 @@ module _ (S : Shared) (t : Told) where
   keys_stay (audit u index) keeps = refl
   keys_stay (standing u place) keeps = refl
 
-stays : (S : Shared) (e : Occurrence) (a : Answer) → KeepsRoutes e → (grants_of (next S e a).subs ≡ grants_of S.subs) × (keys_of (next S e a).pmus ≡ keys_of S.pmus)
+stays : (S : SharedMachine) (e : Occurrence) (a : Answer) → KeepsRoutes e → (grants_of (next S e a).subs ≡ grants_of S.subs) × (keys_of (next S e a).pmus ≡ keys_of S.pmus)
 stays S e (tells t) keeps = (grants_stay S t e keeps, keys_stay S t e keeps)
 stays S e (sub_counts s) keeps = (refl, refl)
 stays S e (pmu_counts s) keeps = (refl, refl)
@@ -226,19 +226,19 @@ routes_stay old new e a reached goes keeps masks all =
     masks_kept old.subs new.subs (same_grants old.subs new.subs grants) (keys_of new.pmus) masks (subst (λ keys. AreMasks old.subs keys masks) keys all)
 
 -- Masks by their places.
-pub masks_length : (xs : List (ℕ × SeatValue)) (keys : List PmuKey) (masks : List ℕ) → AreMasks xs keys masks → length masks ≡ length keys
+pub masks_length : (xs : List (ℕ × SlotValue)) (keys : List PmuKey) (masks : List ℕ) → AreMasks xs keys masks → length masks ≡ length keys
 masks_length xs [] [] all = refl
 masks_length xs [] (n ∷ masks) all = absurd all
 masks_length xs (k ∷ keys) [] all = absurd all
 masks_length xs (k ∷ keys) (n ∷ masks) all = ap suc (masks_length xs keys masks all.1)
 
-mask_at : (xs : List (ℕ × SeatValue)) (keys : List PmuKey) (masks : List ℕ) → AreMasks xs keys masks → (i : ℕ) (d : PmuKey) → i < length keys → IsMask xs (get_or keys i d) (get_or masks i 0)
+mask_at : (xs : List (ℕ × SlotValue)) (keys : List PmuKey) (masks : List ℕ) → AreMasks xs keys masks → (i : ℕ) (d : PmuKey) → i < length keys → IsMask xs (get_or keys i d) (get_or masks i 0)
 mask_at xs [] masks all i d lt = absurd (omega (arith, lt))
 mask_at xs (k ∷ keys) [] all i d lt = absurd all
 mask_at xs (k ∷ keys) (n ∷ masks) all zero d lt = all.0
 mask_at xs (k ∷ keys) (n ∷ masks) all (suc i) d lt = mask_at xs keys masks all.1 i d (omega (arith, lt))
 
-mask_past : (xs : List (ℕ × SeatValue)) (keys : List PmuKey) (masks : List ℕ) → AreMasks xs keys masks → (i j : ℕ) → length xs ≤ j → bit_at (get_or masks i 0) j ≡ 0
+mask_past : (xs : List (ℕ × SlotValue)) (keys : List PmuKey) (masks : List ℕ) → AreMasks xs keys masks → (i j : ℕ) → length xs ≤ j → bit_at (get_or masks i 0) j ≡ 0
 mask_past xs [] [] all zero j past = bit_at-zero j
 mask_past xs [] [] all (suc i) j past = bit_at-zero j
 mask_past xs [] (n ∷ masks) all i j past = absurd all
@@ -255,13 +255,13 @@ pub keys_within : (pmus : Pmus) (ps : List (ℕ × Option Refusal)) → All (λ 
 keys_within pmus ps within = subst (λ n. All (λ (p : ℕ × Option Refusal). p.0 < n) ps) (sym (length_keys pmus)) within
 
 -- No mark stands past the last subscriber.
-pub marks_within : (xs : List (ℕ × SeatValue)) (keys : List PmuKey) (masks : List ℕ) (ps : List (ℕ × Option Refusal)) (marks : ℕ) → AreMasks xs keys masks
+pub marks_within : (xs : List (ℕ × SlotValue)) (keys : List PmuKey) (masks : List ℕ) (ps : List (ℕ × Option Refusal)) (marks : ℕ) → AreMasks xs keys masks
     → ((j : ℕ) → All (λ b. bit_at (get_or masks b.0 0) j ≡ 0) ps → bit_at marks j ≡ 0) → HasBits (length xs) marks
 marks_within xs keys masks ps marks all none = λ j past. none j (λ i d lt. mask_past xs keys masks all (get_or ps i d).0 j past)
 
 -- A subscriber that is not marked holds no PMU of a block that was taken.
-module _ (pmus : Pmus) (last : Option ℕ) (soc : ℕ) (xs : List (ℕ × SeatValue)) (masks : List ℕ) (all : AreMasks xs (keys_of pmus) masks)
-    (j : ℕ) (v : SeatValue) (at : slice_get (values_of xs) j ≡ Some v) where
+module _ (pmus : Pmus) (last : Option ℕ) (soc : ℕ) (xs : List (ℕ × SlotValue)) (masks : List ℕ) (all : AreMasks xs (keys_of pmus) masks)
+    (j : ℕ) (v : SlotValue) (at : slice_get (values_of xs) j ≡ Some v) where
   not_held : (key : PmuKey) (place : ℕ) → registry.place_in pmus key ≡ Some place → bit_at (get_or masks place 0) j ≡ 0 → has_key v.subscriber.own.grants key ≡ false
   not_held key place found unset =
       let there = position-Some (key_eq key) (keys_of pmus) place key found in
@@ -295,7 +295,7 @@ module _ (pmus : Pmus) (last : Option ℕ) (soc : ℕ) (xs : List (ℕ × SeatVa
       by true rest placed = one (sample_refusal pmus last soc s) ps rest placed unset
       by false rest placed = rest ps placed unset
 
-pub measured_passes : (m : Measurement) (pmus : Pmus) (last : Option ℕ) (xs : List (ℕ × SeatValue)) (masks places : List ℕ) (ps : List (ℕ × Option Refusal)) (marks : ℕ)
+pub measured_passes : (m : Measurement) (pmus : Pmus) (last : Option ℕ) (xs : List (ℕ × SlotValue)) (masks places : List ℕ) (ps : List (ℕ × Option Refusal)) (marks : ℕ)
     → AreMasks xs (keys_of pmus) masks → samples_at m places ≡ taken_of pmus last m → ArePlaced pmus ps (judged pmus last m)
     → ((j : ℕ) → bit_at marks j ≡ 0 → All (λ b. b.1 ≡ None → bit_at (get_or masks b.0 0) j ≡ 0) ps)
     → WhereBit 0 marks (IsPassed (measured m places)) xs

@@ -12,10 +12,10 @@ use Rattle.std.specs.Map.{values_of}
 use Rattle.indexmap.specs.IndexMap.{set_value_at}
 use Rattle.pg_gateway.proofs.RelatedLaws.{Related-length}
 use Rattle.pg_gateway.specs.Related.{Related}
-use Rattle.pg_gateway.specs.Sharing.{Seats, Offer, measures, some_measured, share, total, fan_out}
-use Rattle.pg_gateway.specs.Shown.{SeatValue, SeatShows}
+use Rattle.pg_gateway.specs.Sharing.{SubscriberSlots, Offer, measures, some_measured, share, total, fan_out}
+use Rattle.pg_gateway.specs.Shown.{SlotValue, SlotShows}
 use Rattle.pg_gateway.specs.Taking.{TakesShare, FansOut, HasNone, Awaits, IsFit}
-use Rattle.pg_gateway.specs.Frugal.{AllSeats}
+use Rattle.pg_gateway.specs.Frugal.{AllSlots}
 use Rattle.pg_gateway.specs.Routes.{WhereBit, IsPassed, IsMask, AreMasks, bit_of}
 use Rattle.pg_gateway.proofs.FanLaws.{fan_step, fan_end}
 use Rattle.pg_gateway.proofs.Taking.{none_taken, lays_none}
@@ -78,36 +78,36 @@ bit_within len marks i bits set =
     ]
 
 -- the values of a map's entries, once one was written
-length_set : (xs : List (ℕ × SeatValue)) (i : ℕ) (w : SeatValue) → length (set_value_at xs i w) ≡ length xs
+length_set : (xs : List (ℕ × SlotValue)) (i : ℕ) (w : SlotValue) → length (set_value_at xs i w) ≡ length xs
 length_set [] i w = refl
 length_set (x ∷ xs) zero w = refl
 length_set (x ∷ xs) (suc i) w = ap suc (length_set xs i w)
 
-value_set_same : (xs : List (ℕ × SeatValue)) (i : ℕ) (w v : SeatValue) → slice_get (values_of (set_value_at xs i w)) i ≡ Some v → w ≡ v
+value_set_same : (xs : List (ℕ × SlotValue)) (i : ℕ) (w v : SlotValue) → slice_get (values_of (set_value_at xs i w)) i ≡ Some v → w ≡ v
 value_set_same [] zero w v at = cc
 value_set_same [] (suc i) w v at = cc
 value_set_same (x ∷ xs) zero w v at = cc
 value_set_same (x ∷ xs) (suc i) w v at = value_set_same xs i w v at
 
-value_set_other : (xs : List (ℕ × SeatValue)) (i j : ℕ) (w : SeatValue) → j ≢ i → slice_get (values_of (set_value_at xs i w)) j ≡ slice_get (values_of xs) j
+value_set_other : (xs : List (ℕ × SlotValue)) (i j : ℕ) (w : SlotValue) → j ≢ i → slice_get (values_of (set_value_at xs i w)) j ≡ slice_get (values_of xs) j
 value_set_other [] i j w other = refl
 value_set_other (x ∷ xs) zero zero w other = absurd (other refl)
 value_set_other (x ∷ xs) zero (suc j) w other = refl
 value_set_other (x ∷ xs) (suc i) zero w other = refl
 value_set_other (x ∷ xs) (suc i) (suc j) w other = value_set_other xs i j w (λ same. other (ap suc same))
 
-pub value_there : (xs : List (ℕ × SeatValue)) (i : ℕ) → i < length xs → (v : SeatValue) × (slice_get (values_of xs) i ≡ Some v)
+pub value_there : (xs : List (ℕ × SlotValue)) (i : ℕ) → i < length xs → (v : SlotValue) × (slice_get (values_of xs) i ≡ Some v)
 value_there [] i lt = absurd (omega arith)
 value_there (x ∷ xs) zero lt = (x.1, refl)
 value_there (x ∷ xs) (suc i) lt = value_there xs i (omega arith)
 
-set_same : (xs : List (ℕ × SeatValue)) (i : ℕ) (v : SeatValue) → slice_get (values_of xs) i ≡ Some v → set_value_at xs i v ≡ xs
+set_same : (xs : List (ℕ × SlotValue)) (i : ℕ) (v : SlotValue) → slice_get (values_of xs) i ≡ Some v → set_value_at xs i v ≡ xs
 set_same [] i v at = refl
 set_same (x ∷ xs) zero v at = let same : v ≡ x.1 = cc in rw same refl
 set_same (x ∷ xs) (suc i) v at = ap (λ l. x ∷ l) (set_same xs i v at)
 
 -- one turn: the subscriber of the bit that is cleared is written
-module _ (P : SeatValue → Type 0) (xs : List (ℕ × SeatValue)) (i : ℕ) (w : SeatValue) where
+module _ (P : SlotValue → Type 0) (xs : List (ℕ × SlotValue)) (i : ℕ) (w : SlotValue) where
   pub still_marked : (old new : ℕ) → bit_at new i ≡ 0 → ((j : ℕ) → j ≢ i → bit_at new j ≡ bit_at old j) → WhereBit 1 old P xs → WhereBit 1 new P (set_value_at xs i w)
   still_marked old new gone others all = λ j v at set.
       let other : j ≢ i = λ same. one_zero (bit_at new j) set (ap (bit_at new) same ∙ gone) in
@@ -126,10 +126,10 @@ module _ (P : SeatValue → Type 0) (xs : List (ℕ × SeatValue)) (i : ℕ) (w 
       all j v (sym (value_set_other xs i j w other) ∙ at) unset
 
 -- what holds of all, and of each by its bit
-pub from_all : (P : SeatValue → Type 0) (b n : ℕ) (xs : List (ℕ × SeatValue)) → AllSeats P xs → WhereBit b n P xs
+pub from_all : (P : SlotValue → Type 0) (b n : ℕ) (xs : List (ℕ × SlotValue)) → AllSlots P xs → WhereBit b n P xs
 from_all P b n xs all = λ j v at bit. by xs all j v at
   where
-    by : (xs : List (ℕ × SeatValue)) → AllSeats P xs → (j : ℕ) (v : SeatValue) → slice_get (values_of xs) j ≡ Some v → P v
+    by : (xs : List (ℕ × SlotValue)) → AllSlots P xs → (j : ℕ) (v : SlotValue) → slice_get (values_of xs) j ≡ Some v → P v
     by [] all zero v at = absurd (no at)
       where
         no : None ≡ Some v → ⊥
@@ -141,27 +141,27 @@ from_all P b n xs all = λ j v at bit. by xs all j v at
     by (x ∷ xs) all zero v at = let same : x.1 ≡ v = cc in subst P same all.0
     by (x ∷ xs) all (suc j) v at = by xs all.1 j v at
 
-pub to_all : (P : SeatValue → Type 0) (n : ℕ) (xs : List (ℕ × SeatValue)) → n ≡ 0 → WhereBit 0 n P xs → AllSeats P xs
+pub to_all : (P : SlotValue → Type 0) (n : ℕ) (xs : List (ℕ × SlotValue)) → n ≡ 0 → WhereBit 0 n P xs → AllSlots P xs
 to_all P n xs none all = by xs (λ j v at. all j v at (ap (λ m. bit_at m j) none ∙ bit_at-zero j))
   where
-    by : (xs : List (ℕ × SeatValue)) → ((j : ℕ) (v : SeatValue) → slice_get (values_of xs) j ≡ Some v → P v) → AllSeats P xs
+    by : (xs : List (ℕ × SlotValue)) → ((j : ℕ) (v : SlotValue) → slice_get (values_of xs) j ≡ Some v → P v) → AllSlots P xs
     by [] all = tt
     by (x ∷ xs) all = (all 0 x.1 refl, by xs (λ j v at. all (suc j) v at))
 
 -- subscribers without a share are passed
-module _ (o : Offer) (marks : ℕ) (xs : List (ℕ × SeatValue)) (passed : WhereBit 0 marks (IsPassed o) xs) where
-  pass : (ps : Seats) (i made kept : ℕ) → i < length ps → i < length xs → bit_at marks i ≡ 0 → made ≡ total o (take i ps) → kept ≤ made
-      → Related SeatShows xs (fan_out o (take i ps) kept ++ drop i ps)
-      → (made ≡ total o (take (i + 1) ps)) × Related SeatShows xs (fan_out o (take (i + 1) ps) kept ++ drop (i + 1) ps)
+module _ (o : Offer) (marks : ℕ) (xs : List (ℕ × SlotValue)) (passed : WhereBit 0 marks (IsPassed o) xs) where
+  pass : (ps : SubscriberSlots) (i made kept : ℕ) → i < length ps → i < length xs → bit_at marks i ≡ 0 → made ≡ total o (take i ps) → kept ≤ made
+      → Related SlotShows xs (fan_out o (take i ps) kept ++ drop i ps)
+      → (made ≡ total o (take (i + 1) ps)) × Related SlotShows xs (fan_out o (take (i + 1) ps) kept ++ drop (i + 1) ps)
   pass ps i made kept lt ltx off count le rel =
       let there = value_there xs i ltx in
       let v = there.0 in
       let step = fan_step o ps i made kept true 0 0 xs v v lt count le (λ no. absurd (true≢false no)) rel there.1 (λ s shown. none_taken o true v s shown (passed i v there.1 off)) (omega arith) in
       (rw plus0 at step.0, rw (set_same xs i v there.1, plus0) at step.1)
 
-  pub skip : (ps : Seats) (d i made kept : ℕ) → i + d ≤ length ps → length xs ≡ length ps → ((j : ℕ) → i ≤ j → j < i + d → bit_at marks j ≡ 0)
-      → made ≡ total o (take i ps) → kept ≤ made → Related SeatShows xs (fan_out o (take i ps) kept ++ drop i ps)
-      → (made ≡ total o (take (i + d) ps)) × Related SeatShows xs (fan_out o (take (i + d) ps) kept ++ drop (i + d) ps)
+  pub skip : (ps : SubscriberSlots) (d i made kept : ℕ) → i + d ≤ length ps → length xs ≡ length ps → ((j : ℕ) → i ≤ j → j < i + d → bit_at marks j ≡ 0)
+      → made ≡ total o (take i ps) → kept ≤ made → Related SlotShows xs (fan_out o (take i ps) kept ++ drop i ps)
+      → (made ≡ total o (take (i + d) ps)) × Related SlotShows xs (fan_out o (take (i + d) ps) kept ++ drop (i + d) ps)
   skip ps zero i made kept within len off count le rel = rw plus0 (count, rel)
   skip ps (suc d) i made kept within len off count le rel =
       let one = pass ps i made kept (omega arith) (omega arith) (off i (omega arith) (omega arith)) count le rel in
@@ -172,36 +172,36 @@ module _ (o : Offer) (marks : ℕ) (xs : List (ℕ × SeatValue)) (passed : Wher
       next i d = omega arith
 
 -- how far the marked subscribers have been gone through
-pub record Walked (o : Offer) (marks left made kept : ℕ) (old new : List (ℕ × SeatValue)) : Type 0 where
+pub record Walked (o : Offer) (marks left made kept : ℕ) (old new : List (ℕ × SlotValue)) : Type 0 where
   pub from : ℕ
   pub low : (j : ℕ) → j < from → bit_at left j ≡ 0
   pub high : (j : ℕ) → from ≤ j → bit_at left j ≡ bit_at marks j
   pub within : from ≤ length new
   pub few : made ≤ 640 * from
-  pub count : (seats : Seats) → Related SeatShows old seats → made ≡ total o (take from seats)
-  pub shows : (seats : Seats) → Related SeatShows old seats → Related SeatShows new (fan_out o (take from seats) kept ++ drop from seats)
+  pub count : (slots : SubscriberSlots) → Related SlotShows old slots → made ≡ total o (take from slots)
+  pub shows : (slots : SubscriberSlots) → Related SlotShows old slots → Related SlotShows new (fan_out o (take from slots) kept ++ drop from slots)
 
-module _ (o : Offer) (marks left made kept : ℕ) (old xs : List (ℕ × SeatValue)) (len : length xs ≡ length old) (le : kept ≤ made)
+module _ (o : Offer) (marks left made kept : ℕ) (old xs : List (ℕ × SlotValue)) (len : length xs ≡ length old) (le : kept ≤ made)
     (passed : WhereBit 0 marks (IsPassed o) xs) (w : Walked o marks left made kept old xs) where
   -- up to a place past the last turn, with no mark between
-  on_to : (i : ℕ) → w.from ≤ i → i ≤ length xs → ((j : ℕ) → w.from ≤ j → j < i → bit_at left j ≡ 0) → (ps : Seats) → Related SeatShows old ps
-      → (made ≡ total o (take i ps)) × Related SeatShows xs (fan_out o (take i ps) kept ++ drop i ps)
+  on_to : (i : ℕ) → w.from ≤ i → i ≤ length xs → ((j : ℕ) → w.from ≤ j → j < i → bit_at left j ≡ 0) → (ps : SubscriberSlots) → Related SlotShows old ps
+      → (made ≡ total o (take i ps)) × Related SlotShows xs (fan_out o (take i ps) kept ++ drop i ps)
   on_to i past within off ps h =
-      let same : length xs ≡ length ps = len ∙ Related-length SeatShows _ ps h in
+      let same : length xs ≡ length ps = len ∙ Related-length SlotShows _ ps h in
       let there : w.from + (i - w.from) ≡ i = omega arith in
       let gone = skip o marks xs passed ps (i - w.from) w.from made kept (omega arith) same
       (λ j a b. sym (w.high j a) ∙ off j a (omega (arith, b, there))) (w.count ps h) le (w.shows ps h) in
       rw there at gone
 
-  pub walked_turn : (i more more_kept : ℕ) (lost : Bool) (v v' : SeatValue) → i < length xs → bit_at left i ≡ 1 → ((j : ℕ) → j < i → bit_at left j ≡ 0)
+  pub walked_turn : (i more more_kept : ℕ) (lost : Bool) (v v' : SlotValue) → i < length xs → bit_at left i ≡ 1 → ((j : ℕ) → j < i → bit_at left j ≡ 0)
       → bit_at (without left i) i ≡ 0 → ((j : ℕ) → j ≢ i → bit_at (without left i) j ≡ bit_at left j)
-      → (lost ≡ false → kept ≡ made) → slice_get (values_of xs) i ≡ Some v → ((s : _) → SeatShows v s → TakesShare o lost more more_kept s v')
+      → (lost ≡ false → kept ≡ made) → slice_get (values_of xs) i ≡ Some v → ((s : _) → SlotShows v s → TakesShare o lost more more_kept s v')
       → more ≤ 640 → more_kept ≤ more → Walked o marks (without left i) (made + more) (kept + more_kept) old (set_value_at xs i v')
   walked_turn i more more_kept lost v v' lt set below gone others all at takes few less =
       let past : w.from ≤ i = from_le in
-      let step = λ (ps : Seats) (h : Related SeatShows old ps).
+      let step = λ (ps : SubscriberSlots) (h : Related SlotShows old ps).
       let here = on_to i past (omega arith) (λ j a b. below j b) ps h in
-      let same : length xs ≡ length ps = len ∙ Related-length SeatShows _ ps h in
+      let same : length xs ≡ length ps = len ∙ Related-length SlotShows _ ps h in
       fan_step o ps i made kept lost more more_kept xs v v' (omega arith) here.0 le all here.1 at takes less in
       record {
         from = i + 1;
@@ -226,10 +226,10 @@ module _ (o : Offer) (marks left made kept : ℕ) (old xs : List (ℕ × SeatVal
         | inr gt ↦ absurd (one_zero (bit_at left i) set (w.low i gt))
       ]
 
-  pub walked_end : left ≡ 0 → (ps : Seats) → Related SeatShows old ps → FansOut o made kept ps xs
+  pub walked_end : left ≡ 0 → (ps : SubscriberSlots) → Related SlotShows old ps → FansOut o made kept ps xs
   walked_end none ps h =
       let here = on_to (length xs) w.within (omega arith) (λ j a b. ap (λ m. bit_at m j) none ∙ bit_at-zero j) ps h in
-      let same : length xs ≡ length ps = len ∙ Related-length SeatShows _ ps h in
+      let same : length xs ≡ length ps = len ∙ Related-length SlotShows _ ps h in
       fan_end o ps (length xs) made kept xs (omega arith) here.0 here.1
 
 -- what is left is of what was marked
@@ -240,7 +240,7 @@ kept_marks left marks i gone others marked j set =
     marked j (sym (others j other) ∙ set)
 
 -- a subscriber that is passed awaits it
-pub awaits_passed : (o : Offer) (v : SeatValue) → HasNone v → IsPassed o v → Awaits o v
+pub awaits_passed : (o : Offer) (v : SlotValue) → HasNone v → IsPassed o v → Awaits o v
 awaits_passed o v none passed =
     record {
       fit = subst (λ x. IsFit v.subscriber x) (sym passed) tt;
@@ -249,18 +249,18 @@ awaits_passed o v none passed =
     }
 
 -- past the last subscriber no bit is set
-pub bit_past : (key : PmuKey) (xs : List (ℕ × SeatValue)) (j : ℕ) → length xs ≤ j → bit_of key (slice_get (values_of xs) j) ≡ 0
+pub bit_past : (key : PmuKey) (xs : List (ℕ × SlotValue)) (j : ℕ) → length xs ≤ j → bit_of key (slice_get (values_of xs) j) ≡ 0
 bit_past key [] zero le = refl
 bit_past key [] (suc j) le = refl
 bit_past key (x ∷ xs) zero le = absurd (omega arith)
 bit_past key (x ∷ xs) (suc j) le = bit_past key xs j (omega arith)
 
-pub bit_here : (key : PmuKey) (xs : List (ℕ × SeatValue)) (j : ℕ) (v : SeatValue) (b : Bool) → slice_get (values_of xs) j ≡ Some v
+pub bit_here : (key : PmuKey) (xs : List (ℕ × SlotValue)) (j : ℕ) (v : SlotValue) (b : Bool) → slice_get (values_of xs) j ≡ Some v
     → b ≡ has_key v.subscriber.own.grants key → (if b then 1 else 0) ≡ bit_of key (slice_get (values_of xs) j)
 bit_here key xs j v b at is = rw (at, is) refl
 
 -- one more subscriber has its bit
-pub mask_turn : (key : PmuKey) (xs : List (ℕ × SeatValue)) (i mask new : ℕ)
+pub mask_turn : (key : PmuKey) (xs : List (ℕ × SlotValue)) (i mask new : ℕ)
     → ((j : ℕ) → j < i → bit_at mask j ≡ bit_of key (slice_get (values_of xs) j)) → ((j : ℕ) → i ≤ j → bit_at mask j ≡ 0)
     → bit_at new i ≡ bit_of key (slice_get (values_of xs) i) → ((j : ℕ) → j ≢ i → bit_at new j ≡ bit_at mask j)
     → ((j : ℕ) → j < i + 1 → bit_at new j ≡ bit_of key (slice_get (values_of xs) j)) × ((j : ℕ) → i + 1 ≤ j → bit_at new j ≡ 0)
@@ -276,7 +276,7 @@ mask_turn key xs i mask new low high here others = (
     later : (j : ℕ) → i + 1 ≤ j → j ≡ i → ⊥
     later j le same = omega arith
 
-pub mask_end : (key : PmuKey) (xs : List (ℕ × SeatValue)) (i mask : ℕ) → i ≡ length xs
+pub mask_end : (key : PmuKey) (xs : List (ℕ × SlotValue)) (i mask : ℕ) → i ≡ length xs
     → ((j : ℕ) → j < i → bit_at mask j ≡ bit_of key (slice_get (values_of xs) j)) → ((j : ℕ) → i ≤ j → bit_at mask j ≡ 0) → IsMask xs key mask
 mask_end key xs i mask all low high j =
     elim (le_or_gt i j) [
@@ -285,20 +285,20 @@ mask_end key xs i mask all low high j =
     ]
 
 -- the masks after one more
-pub masks_push : (xs : List (ℕ × SeatValue)) (keys : List PmuKey) (masks : List ℕ) (k : PmuKey) (n : ℕ) → AreMasks xs keys masks → IsMask xs k n → AreMasks xs (keys ++ k ∷ []) (masks ++ n ∷ [])
+pub masks_push : (xs : List (ℕ × SlotValue)) (keys : List PmuKey) (masks : List ℕ) (k : PmuKey) (n : ℕ) → AreMasks xs keys masks → IsMask xs k n → AreMasks xs (keys ++ k ∷ []) (masks ++ n ∷ [])
 masks_push xs [] [] k n all is = (is, tt)
 masks_push xs (q ∷ keys) (m ∷ masks) k n all is = (all.0, masks_push xs keys masks k n all.1 is)
 masks_push xs [] (m ∷ masks) k n all is = absurd all
 masks_push xs (q ∷ keys) [] k n all is = absurd all
 
 -- subscribers with the grants that they had, in the same places
-abbrev pub SameGrants : List (ℕ × SeatValue) → List (ℕ × SeatValue) → Type 0
+abbrev pub SameGrants : List (ℕ × SlotValue) → List (ℕ × SlotValue) → Type 0
 SameGrants [] [] = Unit {0}
 SameGrants (x ∷ xs) (y ∷ ys) = (x.1.subscriber.own.grants ≡ y.1.subscriber.own.grants) × SameGrants xs ys
 SameGrants [] (y ∷ ys) = ⊥
 SameGrants (x ∷ xs) [] = ⊥
 
-bit_kept : (key : PmuKey) (xs ys : List (ℕ × SeatValue)) → SameGrants xs ys → (j : ℕ) → bit_of key (slice_get (values_of xs) j) ≡ bit_of key (slice_get (values_of ys) j)
+bit_kept : (key : PmuKey) (xs ys : List (ℕ × SlotValue)) → SameGrants xs ys → (j : ℕ) → bit_of key (slice_get (values_of xs) j) ≡ bit_of key (slice_get (values_of ys) j)
 bit_kept key [] [] same zero = refl
 bit_kept key [] [] same (suc j) = refl
 bit_kept key (x ∷ xs) (y ∷ ys) same zero = rw same.0 refl
@@ -306,14 +306,14 @@ bit_kept key (x ∷ xs) (y ∷ ys) same (suc j) = bit_kept key xs ys same.1 j
 bit_kept key [] (y ∷ ys) same j = absurd same
 bit_kept key (x ∷ xs) [] same j = absurd same
 
-pub masks_kept : (xs ys : List (ℕ × SeatValue)) → SameGrants xs ys → (keys : List PmuKey) (masks : List ℕ) → AreMasks xs keys masks → AreMasks ys keys masks
+pub masks_kept : (xs ys : List (ℕ × SlotValue)) → SameGrants xs ys → (keys : List PmuKey) (masks : List ℕ) → AreMasks xs keys masks → AreMasks ys keys masks
 masks_kept xs ys same [] [] all = tt
 masks_kept xs ys same (k ∷ keys) (n ∷ masks) all = ((λ j. all.0 j ∙ bit_kept k xs ys same j), masks_kept xs ys same keys masks all.1)
 masks_kept xs ys same [] (n ∷ masks) all = absurd all
 masks_kept xs ys same (k ∷ keys) [] all = absurd all
 
 -- a subscriber that holds none of the PMUs of the blocks that were taken is passed
-pub measured_passed : (soc quality frac : ℕ) (samples : List Sample) (v : SeatValue) → All (λ s. has_key v.subscriber.own.grants s.key ≡ false) samples
+pub measured_passed : (soc quality frac : ℕ) (samples : List Sample) (v : SlotValue) → All (λ s. has_key v.subscriber.own.grants s.key ≡ false) samples
     → IsPassed (measures soc quality frac samples) v
 measured_passed soc quality frac samples v none = ap (some_measured soc quality frac) (by samples none)
   where
@@ -324,14 +324,14 @@ measured_passed soc quality frac samples v none = ap (some_measured soc quality 
         rw first (by samples (λ k d lt. none (suc k) d (omega arith)))
 
 -- and its bit in a PMU's mask says so
-pub unset_none : (xs : List (ℕ × SeatValue)) (key : PmuKey) (n j : ℕ) (v : SeatValue) → IsMask xs key n → slice_get (values_of xs) j ≡ Some v → bit_at n j ≡ 0 → has_key v.subscriber.own.grants key ≡ false
+pub unset_none : (xs : List (ℕ × SlotValue)) (key : PmuKey) (n j : ℕ) (v : SlotValue) → IsMask xs key n → slice_get (values_of xs) j ≡ Some v → bit_at n j ≡ 0 → has_key v.subscriber.own.grants key ≡ false
 unset_none xs key n j v is at unset = by (has_key v.subscriber.own.grants key) (sym (is j) ∙ unset) (ap (bit_of key) at)
   where
     by : (b : Bool) → bit_of key (slice_get (values_of xs) j) ≡ 0 → bit_of key (slice_get (values_of xs) j) ≡ (if b then 1 else 0) → b ≡ false
     by false a c = refl
     by true a c = absurd (one_zero _ c a)
 
-pub masks_turn : (xs : List (ℕ × SeatValue)) (keys : List PmuKey) (masks new : List ℕ) (i : ℕ) (k d : PmuKey) (n : ℕ) → i < length keys → k ≡ get_or keys i d
+pub masks_turn : (xs : List (ℕ × SlotValue)) (keys : List PmuKey) (masks new : List ℕ) (i : ℕ) (k d : PmuKey) (n : ℕ) → i < length keys → k ≡ get_or keys i d
     → AreMasks xs (take i keys) masks → new ≡ masks ++ n ∷ [] → IsMask xs k n → AreMasks xs (take (i + 1) keys) new
 masks_turn xs keys masks new i k d n lt at all is mask =
     let there : take (i + 1) keys ≡ take i keys ++ k ∷ [] = rw add-one (by keys i lt at) in

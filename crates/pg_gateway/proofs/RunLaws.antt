@@ -9,8 +9,8 @@ use Rattle.pg_session.specs.Events.{Happening, Sample}
 use Rattle.pg_session.specs.Shown.{Model}
 use Rattle.pg_session.specs.Standing.{standing_of}
 use Rattle.pg_gateway.specs.Occurrences.{Occurrence, occurrence, told, asks, measure, stats, standing, Answer, tells, sub_counts, stands}
-use Rattle.pg_gateway.specs.Sharing.{Seat, measures, some_measured}
-use Rattle.pg_gateway.specs.Shared.{Shared, opening, seat_of, own_of, taken_in, refusal, to_all, unless, stats_answer, standing_answer, May, next}
+use Rattle.pg_gateway.specs.Sharing.{SubscriberSlot, measures, some_measured}
+use Rattle.pg_gateway.specs.State.{SharedMachine, opening, slot_of, own_of, taken_in, refusal, to_all, unless, stats_answer, standing_answer, May, next}
 use Rattle.pg_gateway.specs.Views.{shared_step, shared_run, private_run, as_seen, share_seen, part_of, part, view, full_told, full_by, full_answer, full_answers, AllLossless, handed_to, handed_in}
 use Rattle.pg_gateway.specs.Shown.{GatewayValue, GatewayShows, Goes}
 use Rattle.pg_gateway.specs.declared.event.Event.{Event}
@@ -18,15 +18,15 @@ use Rattle.pg_gateway.specs.declared.event.Reply.{Reply}
 use Rattle.pg_gateway.specs.Posting.{Answers}
 use Rattle.pg_gateway.specs.Histories.{Legal, state_after, ShowsHistory, said, ShowsCalls, MayCall}
 use Rattle.pg_gateway.specs.Laws.{after, granted_blocks, AgreeOn, events_of, answers_of}
-use Rattle.pg_gateway.proofs.SeatLaws.{owned, Alone}
+use Rattle.pg_gateway.proofs.SlotLaws.{owned, Alone}
 use Rattle.pg_gateway.proofs.ViewLaws.{full_own, own_full, Alone-next, own-step, own-run}
 use Rattle.pg_gateway.proofs.AnswerLaws.{lossless_full, handed-run}
 
-pub Alone-run : (S : Shared) (es : List Occurrence) → Alone S.subs → Alone (shared_run S es).subs
+pub Alone-run : (S : SharedMachine) (es : List Occurrence) → Alone S.subs → Alone (shared_run S es).subs
 Alone-run S [] alone = alone
 Alone-run S (e ∷ es) alone = Alone-run (shared_step S e) es (Alone-next S e (full_answer S e) alone)
 
-run-append : (S : Shared) (es fs : List Occurrence) → shared_run S (es ++ fs) ≡ shared_run (shared_run S es) fs
+run-append : (S : SharedMachine) (es fs : List Occurrence) → shared_run S (es ++ fs) ≡ shared_run (shared_run S es) fs
 run-append S [] fs = refl
 run-append S (e ∷ es) fs = run-append (shared_step S e) es fs
 
@@ -34,26 +34,26 @@ pub one_more : (u : ℕ) (es : List Occurrence) (e : Occurrence) → own_of u (a
 one_more u es e = ap (λ S. own_of u S) (run-append opening es (e ∷ [])) ∙ own-step u (after es) e (Alone-run opening es tt)
 
 -- what is there of a subscriber that is there
-seat_from : (o : Option Seat) (p : Model) → owned o ≡ Some p → (s : Seat) × (o ≡ Some s) × (s.own ≡ p)
-seat_from None p is = cc
-seat_from (Some s) p is = (s, refl, some_is s.own p is)
+slot_from : (o : Option SubscriberSlot) (p : Model) → owned o ≡ Some p → (s : SubscriberSlot) × (o ≡ Some s) × (s.own ≡ p)
+slot_from None p is = cc
+slot_from (Some s) p is = (s, refl, some_is s.own p is)
   where
     some_is : (a b : Model) → Some a ≡ Some b → a ≡ b
     some_is a b e = cc
 
-pub own_reply : (u : ℕ) (S : Shared) (x : Happening) (p : Model) → own_of u S ≡ Some p → full_answer S (asks u x) ≡ tells (full_told p x)
+pub own_reply : (u : ℕ) (S : SharedMachine) (x : Happening) (p : Model) → own_of u S ≡ Some p → full_answer S (asks u x) ≡ tells (full_told p x)
 own_reply u S x p is =
-    let found = seat_from (seat_of u S.subs) p is in
-    own_full (seat_of u S.subs) x ∙ ap (λ o. tells (full_own o x)) found.1 ∙ ap (λ q. tells (full_told q x)) found.2
+    let found = slot_from (slot_of u S.subs) p is in
+    own_full (slot_of u S.subs) x ∙ ap (λ o. tells (full_own o x)) found.1 ∙ ap (λ q. tells (full_told q x)) found.2
 
-pub own_counters : (u : ℕ) (S : Shared) (p : Model) → own_of u S ≡ Some p → full_answer S (stats u) ≡ sub_counts p.output.stats
+pub own_counters : (u : ℕ) (S : SharedMachine) (p : Model) → own_of u S ≡ Some p → full_answer S (stats u) ≡ sub_counts p.output.stats
 own_counters u S p is =
-    let found = seat_from (seat_of u S.subs) p is in
+    let found = slot_from (slot_of u S.subs) p is in
     ap (λ o. full_by (refuse (not (is_some o)) NoSuchSub None) (stats_answer o)) found.1 ∙ ap (λ (q : Model). sub_counts q.output.stats) found.2
 
-pub own_standing : (u place : ℕ) (S : Shared) (p : Model) → own_of u S ≡ Some p → full_answer S (standing u place) ≡ stands (standing_of p place)
+pub own_standing : (u place : ℕ) (S : SharedMachine) (p : Model) → own_of u S ≡ Some p → full_answer S (standing u place) ≡ stands (standing_of p place)
 own_standing u place S p is =
-    let found = seat_from (seat_of u S.subs) p is in
+    let found = slot_from (slot_of u S.subs) p is in
     ap (λ o. full_by (refuse (not (is_some o)) NoSuchSub None) (standing_answer o place)) found.1 ∙ ap (λ (q : Model). stands (standing_of q place)) found.2
 
 pub equal_states : (u : ℕ) (es fs : List Occurrence) → view u opening es ≡ view u opening fs → own_of u (after es) ≡ own_of u (after fs)
@@ -83,13 +83,13 @@ part_blocks : (o : Option Model) (soc quality frac : ℕ) (taken : List Sample)
 part_blocks None soc quality frac taken = refl
 part_blocks (Some p) soc quality frac taken = ap (λ l. as_seen (some_measured soc quality frac l)) (sym (filter_twice (λ s. has_key p.grants s.key) taken))
 
-part_measure : (u : ℕ) (S : Shared) (m : Measurement) → refusal S (measure m) ≡ None
+part_measure : (u : ℕ) (S : SharedMachine) (m : Measurement) → refusal S (measure m) ≡ None
     → part u S (measure m) ≡ share_seen (measures m.soc m.quality m.frac (granted_blocks (own_of u S) (taken_in S m))) (own_of u S)
 part_measure u S m none =
     ap (λ r. part_of u (own_of u S) (unless r (to_all (measures m.soc m.quality m.frac (taken_in S m))))) none
     ∙ part_blocks (own_of u S) m.soc m.quality m.frac (taken_in S m)
 
-pub agreeing_parts : (u : ℕ) (S T : Shared) (m n : Measurement) → own_of u S ≡ own_of u T
+pub agreeing_parts : (u : ℕ) (S T : SharedMachine) (m n : Measurement) → own_of u S ≡ own_of u T
     → refusal S (measure m) ≡ None → refusal T (measure n) ≡ None → AgreeOn u S m T n → part u S (measure m) ≡ part u T (measure n)
 agreeing_parts u S T m n own first other agree =
     part_measure u S m first
@@ -107,7 +107,7 @@ equal_frames u es fs m n own first other agree =
     equal_parts u es fs (measure m) (measure n) own (agreeing_parts u (after es) (after fs) m n own first other agree)
 
 -- histories
-pub full_history : (S : Shared) (h : List (Occurrence × Answer)) → Legal S h → AllLossless (answers_of h)
+pub full_history : (S : SharedMachine) (h : List (Occurrence × Answer)) → Legal S h → AllLossless (answers_of h)
     → (answers_of h ≡ full_answers S (events_of h)) × (state_after S h ≡ shared_run S (events_of h))
 full_history S [] legal full = (refl, refl)
 full_history S (x ∷ h) legal full =
@@ -118,11 +118,11 @@ full_history S (x ∷ h) legal full =
       ap (λ T. state_after T h) same ∙ rest.1,
     )
 
-legal-append : (S : Shared) (h : List (Occurrence × Answer)) (e : Occurrence) (a : Answer) → Legal S h → May (state_after S h) e a → Legal S (h ++ (e, a) ∷ [])
+legal-append : (S : SharedMachine) (h : List (Occurrence × Answer)) (e : Occurrence) (a : Answer) → Legal S h → May (state_after S h) e a → Legal S (h ++ (e, a) ∷ [])
 legal-append S [] e a legal may = (may, tt)
 legal-append S (x ∷ h) e a legal may = (legal.0, legal-append (next S x.0 x.1) h e a legal.1 may)
 
-state-append : (S : Shared) (h : List (Occurrence × Answer)) (e : Occurrence) (a : Answer) → state_after S (h ++ (e, a) ∷ []) ≡ next (state_after S h) e a
+state-append : (S : SharedMachine) (h : List (Occurrence × Answer)) (e : Occurrence) (a : Answer) → state_after S (h ++ (e, a) ∷ []) ≡ next (state_after S h) e a
 state-append S [] e a = refl
 state-append S (x ∷ h) e a = state-append (next S x.0 x.1) h e a
 

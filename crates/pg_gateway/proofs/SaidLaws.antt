@@ -16,7 +16,7 @@ use Rattle.pg_registry.proofs.Staying.{apart-changed, found-changed}
 use Rattle.pg_session.specs.Events.{Announcing, key_in, announced_part, announced_at}
 use Rattle.pg_session.specs.Private.{put_all}
 use Rattle.pg_gateway.specs.Judging.{registered_of, all_announced}
-use Rattle.pg_gateway.specs.Sharing.{Seat, announces, some_announced, shared_to, after_share}
+use Rattle.pg_gateway.specs.Sharing.{SubscriberSlot, announces, some_announced, shared_to, after_share}
 use Rattle.pg_gateway.specs.Consistent.{AgreesWith, AreKeyed}
 
 -- what a list of announcements says of a PMU, or else what was so before
@@ -122,7 +122,7 @@ announced_registry [] pmus is = is
 announced_registry (a ∷ list) pmus is = announced_registry list _ (apart-changed pmus (announcing a.config) a.key is)
 
 -- A subscriber sees what its PMUs announced.
-pub announced_agrees : (pmus : Pmus) (list : List Announcing) → AllSaid (has_key pmus) list → (s : Seat) (k : ℕ) → AgreesWith pmus s.own → AgreesWith (all_announced pmus list) (shared_to (announces list) s k).own
+pub announced_agrees : (pmus : Pmus) (list : List Announcing) → AllSaid (has_key pmus) list → (s : SubscriberSlot) (k : ℕ) → AgreesWith pmus s.own → AgreesWith (all_announced pmus list) (shared_to (announces list) s k).own
 announced_agrees pmus list all s kept is = by (filter (λ a. grants.has_key s.own.grants a.key) list) refl
   where
     both : (b : Bool) (o p : Option Part) → over (if b then o else None) (if b then p else None) ≡ (if b then over o p else None)

@@ -7,9 +7,9 @@ use Rattle.pg_session.specs.Events.{Happening, Announcing, Sample}
 use Rattle.pg_session.specs.Private.{done, refusal, takes_memory, answer, frames_of}
 use Rattle.pg_session.specs.Shown.{Model}
 use Rattle.pg_session.specs.ByAll.{by_arrivals, by_numbers}
-use Rattle.pg_gateway.specs.Sharing.{Seat, Offer, revokes, announces, measures, ticks, some_announced, some_measured, share, frames_in_share, frames_for, after_share, notes_of, shared_to}
+use Rattle.pg_gateway.specs.Sharing.{SubscriberSlot, Offer, revokes, announces, measures, ticks, some_announced, some_measured, share, frames_in_share, frames_for, after_share, notes_of, shared_to}
 use Rattle.pg_gateway.specs.Views.{private_run, share_seen, as_seen}
-use Rattle.pg_gateway.proofs.SeatLaws.{owned}
+use Rattle.pg_gateway.proofs.SlotLaws.{owned}
 
 pub record Quiet (p : Model) (x : Happening) : Type 0 where
   pub allowed : refusal by_arrivals by_numbers p x ≡ None
@@ -41,7 +41,7 @@ share_quiet (measures soc quality frac samples) p x is = by (filter (λ s. has_k
 share_quiet (ticks soc) p x is = subst (λ y. Quiet p y) (some_is is) (record { allowed = refl; no_memory = refl; frames = λ _. refl })
 
 -- with no loss it is what the private gateway makes of it
-pub share_run : (o : Offer) (s : Option Seat) → owned (option_map (λ s. shared_to o s (frames_for o s)) s) ≡ private_run (owned s) (share_seen o (owned s))
+pub share_run : (o : Offer) (s : Option SubscriberSlot) → owned (option_map (λ s. shared_to o s (frames_for o s)) s) ≡ private_run (owned s) (share_seen o (owned s))
 share_run o None = refl
 share_run o (Some s) = by (share o s.own.grants) refl
   where

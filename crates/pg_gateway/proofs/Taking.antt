@@ -11,12 +11,12 @@ use Rattle.pg_audit.specs.Noting as audit
 use Rattle.pg_session.specs.Events as event
 use Rattle.pg_session.specs.Events.{Happening, Announcing, Sample, announced_at, samples_at}
 use Rattle.pg_session.specs.Private.{Told, done, refused, takes_memory, answer, frames_of, effect, next}
-use Rattle.pg_session.specs.Shown.{Own, SubscriberValue, Takes, Follows, Shows, OwnShows}
+use Rattle.pg_session.specs.Shown.{Own, SubscriberValue, Takes, Follows, ShowsPrivate, OwnShows}
 use Rattle.pg_session.specs.ByAll.{by_arrivals, by_numbers}
 use Rattle.pg_session.specs.Ready.{AreRising, IsFor, IsReady, NeedsNone}
 use Rattle.pg_session.specs.Steps.{HasNoCopies}
-use Rattle.pg_gateway.specs.Sharing.{Seat, Offer, announces, some_announced, some_measured, share, notes_of, frames_in_share, after_share}
-use Rattle.pg_gateway.specs.Shown.{SeatValue, SeatShows}
+use Rattle.pg_gateway.specs.Sharing.{SubscriberSlot, Offer, announces, some_announced, some_measured, share, notes_of, frames_in_share, after_share}
+use Rattle.pg_gateway.specs.Shown.{SlotValue, SlotShows}
 use Rattle.pg_gateway.specs.Taking.{measured, part_passes, IsFit, IsLaid, Awaits, Fits, HasNone, LaysShare, TakesShare, TakesOffer, counts_of}
 use Rattle.pg_gateway.specs.Frugal.{NeedsNoCopy}
 use Rattle.pg_gateway.proofs.Places.{announced-filter, samples-filter, announced-some, samples-some}
@@ -53,18 +53,18 @@ measured_share m ps held grants is rising some =
     ∙ (let there = samples-some m 0 held rising some in rw there.2 refl)
 
 -- a subscriber that has no share
-pub none_taken : (o : Offer) (lost : Bool) (v : SeatValue) (s : Seat) → SeatShows v s → share o v.subscriber.own.grants ≡ None → TakesShare o lost 0 0 s v
+pub none_taken : (o : Offer) (lost : Bool) (v : SlotValue) (s : SubscriberSlot) → SlotShows v s → share o v.subscriber.own.grants ≡ None → TakesShare o lost 0 0 s v
 none_taken o lost v s shown none =
     let same : share o s.own.grants ≡ None = ap (share o) (sym shown.subscriber.grants) ∙ none in
     record {
       count = ap (λ x. frames_in_share x s.own) (sym same);
       none_kept = λ _. refl;
-      shows = subst (λ x. SeatShows v (after_share x (notes_of o) s 0)) (sym same) shown;
+      shows = subst (λ x. SlotShows v (after_share x (notes_of o) s 0)) (sym same) shown;
     }
 
 -- and one that has taken it
-pub some_taken : (o : Offer) (lost : Bool) (old new : SeatValue) (x : Happening) (r : Told) (s : Seat) → SeatShows old s → share o old.subscriber.own.grants ≡ Some x
-    → Takes old.subscriber x lost r new.subscriber → audit.Shows new.audit (s.noted ++ notes_of o) → TakesShare o lost (counts_of r).0 (counts_of r).1 s new
+pub some_taken : (o : Offer) (lost : Bool) (old new : SlotValue) (x : Happening) (r : Told) (s : SubscriberSlot) → SlotShows old s → share o old.subscriber.own.grants ≡ Some x
+    → Takes old.subscriber x lost r new.subscriber → audit.ShowsAudit new.audit (s.noted ++ notes_of o) → TakesShare o lost (counts_of r).0 (counts_of r).1 s new
 some_taken o lost old new x r s shown some takes noted = by r (rw q.allowed at follows.may) follows.shows
   where
     same : share o s.own.grants ≡ Some x
@@ -85,14 +85,14 @@ some_taken o lost old new x r s shown some takes noted = by r (rw q.allowed at f
         record {
           count = ap (λ y. frames_in_share y s.own) (sym same);
           none_kept = none;
-          shows = subst (λ y. SeatShows new (after_share y (notes_of o) s k)) (sym same) (record { subscriber = shows; audit = noted });
+          shows = subst (λ y. SlotShows new (after_share y (notes_of o) s k)) (sym same) (record { subscriber = shows; audit = noted });
         }
 
     by : (t : Told) → (((k : ℕ) × (k ≤ length (frames_of by_arrivals by_numbers s.own x)) × (lost ≡ true → k ≡ 0) × (t ≡ answer by_arrivals by_numbers s.own x k)) ⊎ ((t ≡ refused NoMemory) × (takes_memory x ≡ true)))
-        → Shows new.subscriber (next by_arrivals by_numbers s.own x t) → TakesShare o lost (counts_of t).0 (counts_of t).1 s new
+        → ShowsPrivate new.subscriber (next by_arrivals by_numbers s.own x t) → TakesShare o lost (counts_of t).0 (counts_of t).1 s new
     by t (inl a) shows =
         let is : t ≡ done (length (frames_of by_arrivals by_numbers s.own x)) a.0 = a.3 ∙ q.frames a.0 in
-        subst (λ t. TakesShare o lost (counts_of t).0 (counts_of t).1 s new) (sym is) (at_done a.0 a.2 (subst (λ t. Shows new.subscriber (next by_arrivals by_numbers s.own x t)) is shows))
+        subst (λ t. TakesShare o lost (counts_of t).0 (counts_of t).1 s new) (sym is) (at_done a.0 a.2 (subst (λ t. ShowsPrivate new.subscriber (next by_arrivals by_numbers s.own x t)) is shows))
     by t (inr b) shows = absurd (true≢false (sym b.1 ∙ q.no_memory))
 
 -- what a subscriber's share asks of it, at the share that it is
@@ -116,41 +116,41 @@ needless_at v o x is needs = subst (λ o. NeedsNoCopy v o) is needs
 
 -- Copies are laid by one that has no share, and that is spared; by one that has; or memory is refused. `inner` is what the
 -- subscriber held before.
-pub lays_nothing : (o : Offer) (old inner : SeatValue) → inner ≡ old → HasNone old → share o old.subscriber.own.grants ≡ None
+pub lays_nothing : (o : Offer) (old inner : SlotValue) → inner ≡ old → HasNone old → share o old.subscriber.own.grants ≡ None
     → LaysShare o old (Ok tt) (record inner { spared = true })
 lays_nothing o old inner is none nothing = record {
-  laid = lays_none inner.subscriber _ nothing (subst (λ (v : SeatValue). HasNoCopies v.subscriber) (sym is) none.0);
+  laid = lays_none inner.subscriber _ nothing (subst (λ (v : SlotValue). HasNoCopies v.subscriber) (sym is) none.0);
   memory = tt;
   needless = λ _. refl;
   spared = λ _. nothing;
-  own = ap (λ (v : SeatValue). v.subscriber.own) is;
-  audit = ap (λ (v : SeatValue). v.audit) is;
+  own = ap (λ (v : SlotValue). v.subscriber.own) is;
+  audit = ap (λ (v : SlotValue). v.audit) is;
 }
 
-pub lays_some : (o : Offer) (old inner : SeatValue) (x : Happening) (after : SubscriberValue) → inner ≡ old → HasNone old → share o old.subscriber.own.grants ≡ Some x
+pub lays_some : (o : Offer) (old inner : SlotValue) (x : Happening) (after : SubscriberValue) → inner ≡ old → HasNone old → share o old.subscriber.own.grants ≡ Some x
     → IsReady after x → after.own ≡ inner.subscriber.own → LaysShare o old (Ok tt) (record inner { subscriber = after })
 lays_some o old inner x after is none some ready own = record {
   laid = lays after _ x some ready;
   memory = tt;
   needless = λ _. refl;
-  spared = λ spared. absurd (true≢false (sym spared ∙ ap (λ (v : SeatValue). v.spared) is ∙ none.1));
-  own = own ∙ ap (λ (v : SeatValue). v.subscriber.own) is;
-  audit = ap (λ (v : SeatValue). v.audit) is;
+  spared = λ spared. absurd (true≢false (sym spared ∙ ap (λ (v : SlotValue). v.spared) is ∙ none.1));
+  own = own ∙ ap (λ (v : SlotValue). v.subscriber.own) is;
+  audit = ap (λ (v : SlotValue). v.audit) is;
 }
 
-pub lays_refused : (o : Offer) (old inner : SeatValue) (x : Happening) (r : Refusal) (after : SubscriberValue) → inner ≡ old → share o old.subscriber.own.grants ≡ Some x
+pub lays_refused : (o : Offer) (old inner : SlotValue) (x : Happening) (r : Refusal) (after : SubscriberValue) → inner ≡ old → share o old.subscriber.own.grants ≡ Some x
     → r ≡ NoMemory → (NeedsNone inner.subscriber x → false ≡ true) → after.own ≡ inner.subscriber.own → LaysShare o old (Err r) (record inner { subscriber = after })
 lays_refused o old inner x r after is some memory needless own = record {
   laid = tt;
   memory = memory;
-  needless = λ needs. needless (subst (λ (v : SeatValue). NeedsNone v.subscriber x) (sym is) (needless_at old.subscriber _ x some needs));
+  needless = λ needs. needless (subst (λ (v : SlotValue). NeedsNone v.subscriber x) (sym is) (needless_at old.subscriber _ x some needs));
   spared = tt;
-  own = own ∙ ap (λ (v : SeatValue). v.subscriber.own) is;
-  audit = ap (λ (v : SeatValue). v.audit) is;
+  own = own ∙ ap (λ (v : SlotValue). v.subscriber.own) is;
+  audit = ap (λ (v : SlotValue). v.audit) is;
 }
 
 -- An event for all is taken by one that has no share, and by one that has.
-pub offer_none : (o : Offer) (lost : Bool) (v : SeatValue) → share o v.subscriber.own.grants ≡ None → Awaits o v → TakesOffer o lost v (0, 0) v
+pub offer_none : (o : Offer) (lost : Bool) (v : SlotValue) → share o v.subscriber.own.grants ≡ None → Awaits o v → TakesOffer o lost v (0, 0) v
 offer_none o lost v none awaits = record {
   shares = λ s h. none_taken o lost v s h none;
   few = omega arith;
@@ -158,8 +158,8 @@ offer_none o lost v none awaits = record {
   none = laid_none v.subscriber _ none awaits.laid;
 }
 
-pub offer_some : (o : Offer) (lost : Bool) (old new : SeatValue) (x : Happening) (t : Told) (counts : ℕ × ℕ) → share o old.subscriber.own.grants ≡ Some x
-    → Takes old.subscriber x lost t new.subscriber → ((s : Seat) → SeatShows old s → audit.Shows new.audit (s.noted ++ notes_of o))
+pub offer_some : (o : Offer) (lost : Bool) (old new : SlotValue) (x : Happening) (t : Told) (counts : ℕ × ℕ) → share o old.subscriber.own.grants ≡ Some x
+    → Takes old.subscriber x lost t new.subscriber → ((s : SubscriberSlot) → SlotShows old s → audit.ShowsAudit new.audit (s.noted ++ notes_of o))
     → counts ≡ counts_of t → (counts.0 ≤ 640) × (counts.1 ≤ counts.0) → HasNoCopies new.subscriber → TakesOffer o lost old counts new
 offer_some o lost old new x t counts some takes noted is few none = record {
   shares = λ s h. subst (λ (c : ℕ × ℕ). TakesShare o lost c.0 c.1 s new) (sym is) (some_taken o lost old new x t s h some takes (noted s h));
@@ -173,7 +173,7 @@ fit_same : (v w : SubscriberValue) (o : Option Happening) → w.own ≡ v.own �
 fit_same v w None same fit = tt
 fit_same v w (Some x) same fit = subst (λ own. IsFor own x) (sym same) fit
 
-pub awaits_laid : (o : Offer) (v w : SeatValue) → w.subscriber.own ≡ v.subscriber.own → Fits o v → IsLaid w.subscriber (share o v.subscriber.own.grants)
+pub awaits_laid : (o : Offer) (v w : SlotValue) → w.subscriber.own ≡ v.subscriber.own → Fits o v → IsLaid w.subscriber (share o v.subscriber.own.grants)
     → (w.spared ≡ true → share o v.subscriber.own.grants ≡ None) → Awaits o w
 awaits_laid o v w same fit laid spared =
     let grants : v.subscriber.own.grants ≡ w.subscriber.own.grants = ap (λ (own : Own). own.grants) (sym same) in
@@ -183,9 +183,9 @@ awaits_laid o v w same fit laid spared =
       spared = λ is. subst (λ g. share o g ≡ None) grants (spared is);
     }
 
-pub shows_kept : (v w : SeatValue) (s : Seat) → w.subscriber.own ≡ v.subscriber.own → w.audit ≡ v.audit → SeatShows v s → SeatShows w s
+pub shows_kept : (v w : SlotValue) (s : SubscriberSlot) → w.subscriber.own ≡ v.subscriber.own → w.audit ≡ v.audit → SlotShows v s → SlotShows w s
 shows_kept v w s own noted shown =
     record {
       subscriber = subst (λ p. OwnShows p s.own) (sym own) shown.subscriber;
-      audit = subst (λ a. audit.Shows a s.noted) (sym noted) shown.audit;
+      audit = subst (λ a. audit.ShowsAudit a s.noted) (sym noted) shown.audit;
     }

@@ -14,18 +14,18 @@ use Rattle.pg_session.specs.Shown.{Model}
 use Rattle.pg_session.specs.ByAll.{by_arrivals, by_numbers}
 use Rattle.pg_gateway.specs.Occurrences.{Occurrence, add_pmu, drop_pmu, add_sub, drop_sub, grant, asks, announce, measure, tick, stats, pmu_stats, audit, standing, Answer, tells, sub_counts, pmu_counts, entry, stands}
 use Rattle.pg_gateway.specs.Judging.{registered_of}
-use Rattle.pg_gateway.specs.Sharing.{Seat, Seats, Offer, revokes, announces, measures, ticks, total, fan_out}
-use Rattle.pg_gateway.specs.Shared.{Shared, seat_of, own_of, at_seat, own_refusal, grant_refusal, granting, taken_in, refusal, Reach, to_all, to_one, adds, drops, to_none, unless, reach, own_frames, frames_reached, made, own_answer, reached_answer, answer, stats_answer, pmu_answer, audit_answer, standing_answer, moved, added, is_refusal, kept_of, seats_after, names, with_note, code_of, seats_noted, next}
+use Rattle.pg_gateway.specs.Sharing.{SubscriberSlot, SubscriberSlots, Offer, revokes, announces, measures, ticks, total, fan_out}
+use Rattle.pg_gateway.specs.State.{SharedMachine, slot_of, own_of, at_slot, own_refusal, grant_refusal, granting, taken_in, refusal, Reach, to_all, to_one, adds, drops, to_none, unless, reach, own_frames, frames_reached, made, own_answer, reached_answer, answer, stats_answer, pmu_answer, audit_answer, standing_answer, moved, added, is_refusal, kept_of, slots_after, names, with_note, code_of, slots_noted, next}
 use Rattle.pg_gateway.specs.Views.{Seen, begins, ends, takes, unless_refused, full_told, private_step, private_run, full_by, full_answer, shared_step, shared_run, part_of, part, view}
-use Rattle.pg_gateway.proofs.SeatLaws.{owned, Alone, Alone-push, Alone-removed, Alone-same, same-at_seat, same-fan_out, lookup-push, lookup-removed, seat_of-at_seat, seat_of-fan_out, own-noted}
+use Rattle.pg_gateway.proofs.SlotLaws.{owned, Alone, Alone-push, Alone-removed, Alone-same, same-at_slot, same-fan_out, lookup-push, lookup-removed, slot_of-at_slot, slot_of-fan_out, own-noted}
 use Rattle.pg_gateway.proofs.ShareLaws.{share_run}
 
 -- the reply of one subscriber, where it is there
-abbrev pub full_own : Option Seat → Happening → Told
+abbrev pub full_own : Option SubscriberSlot → Happening → Told
 full_own None x = refused NoSuchSub
 full_own (Some s) x = full_told s.own x
 
-pub own_full : (o : Option Seat) (x : Happening) → full_by (own_refusal o x) (tells (own_answer o x (own_frames o x))) ≡ tells (full_own o x)
+pub own_full : (o : Option SubscriberSlot) (x : Happening) → full_by (own_refusal o x) (tells (own_answer o x (own_frames o x))) ≡ tells (full_own o x)
 own_full None x = refl
 own_full (Some s) x = by (private.refusal by_arrivals by_numbers s.own x)
   where
@@ -34,52 +34,52 @@ own_full (Some s) x = by (private.refusal by_arrivals by_numbers s.own x)
     by None = refl
     by (Some r) = refl
 
-pub granted_full : (o : Option Seat) (x : Happening) → full_by (grant_refusal o true x) (tells (own_answer o x (own_frames o x))) ≡ tells (full_own o x)
+pub granted_full : (o : Option SubscriberSlot) (x : Happening) → full_by (grant_refusal o true x) (tells (own_answer o x (own_frames o x))) ≡ tells (full_own o x)
 granted_full None x = refl
 granted_full (Some s) x = own_full (Some s) x
 
 -- an event for one subscriber
-pub one_run : (u w : ℕ) (x : Happening) (ss : Seats) → owned (seat_of u (at_seat w (moved x (full_own (seat_of w ss) x)) ss))
-    ≡ private_run (owned (seat_of u ss)) (part_of u (owned (seat_of u ss)) (to_one w x))
-one_run u w x ss = ap owned (seat_of-at_seat u w (moved x (full_own (seat_of w ss) x)) ss) ∙ by (nat_eq u w) refl
+pub one_run : (u w : ℕ) (x : Happening) (ss : SubscriberSlots) → owned (slot_of u (at_slot w (moved x (full_own (slot_of w ss) x)) ss))
+    ≡ private_run (owned (slot_of u ss)) (part_of u (owned (slot_of u ss)) (to_one w x))
+one_run u w x ss = ap owned (slot_of-at_slot u w (moved x (full_own (slot_of w ss) x)) ss) ∙ by (nat_eq u w) refl
   where
-    at : (o : Option Seat) → owned (option_map (moved x (full_own o x)) o) ≡ private_run (owned o) (if true && is_some (owned o) then takes x ∷ [] else [])
+    at : (o : Option SubscriberSlot) → owned (option_map (moved x (full_own o x)) o) ≡ private_run (owned o) (if true && is_some (owned o) then takes x ∷ [] else [])
     at None = refl
     at (Some s) = refl
 
-    by : (b : Bool) → nat_eq u w ≡ b → owned (if b then option_map (moved x (full_own (seat_of w ss) x)) (seat_of u ss) else seat_of u ss)
-        ≡ private_run (owned (seat_of u ss)) (if b && is_some (owned (seat_of u ss)) then takes x ∷ [] else [])
-    by true is = subst (λ v. owned (option_map (moved x (full_own (seat_of v ss) x)) (seat_of u ss)) ≡ private_run (owned (seat_of u ss)) (if true && is_some (owned (seat_of u ss)) then takes x ∷ [] else [])) (eqb-true u w is) (at (seat_of u ss))
+    by : (b : Bool) → nat_eq u w ≡ b → owned (if b then option_map (moved x (full_own (slot_of w ss) x)) (slot_of u ss) else slot_of u ss)
+        ≡ private_run (owned (slot_of u ss)) (if b && is_some (owned (slot_of u ss)) then takes x ∷ [] else [])
+    by true is = subst (λ v. owned (option_map (moved x (full_own (slot_of v ss) x)) (slot_of u ss)) ≡ private_run (owned (slot_of u ss)) (if true && is_some (owned (slot_of u ss)) then takes x ∷ [] else [])) (eqb-true u w is) (at (slot_of u ss))
     by false is = refl
 
 -- an event for all
-all_run : (u : ℕ) (o : Offer) (ss : Seats) → owned (seat_of u (fan_out o ss (total o ss))) ≡ private_run (owned (seat_of u ss)) (part_of u (owned (seat_of u ss)) (to_all o))
-all_run u o ss = ap owned (seat_of-fan_out u o ss) ∙ share_run o (seat_of u ss)
+all_run : (u : ℕ) (o : Offer) (ss : SubscriberSlots) → owned (slot_of u (fan_out o ss (total o ss))) ≡ private_run (owned (slot_of u ss)) (part_of u (owned (slot_of u ss)) (to_all o))
+all_run u o ss = ap owned (slot_of-fan_out u o ss) ∙ share_run o (slot_of u ss)
 
 -- a subscriber that is added or dropped
-add_run : (u w size bytes : ℕ) (last : Option ℕ) (ss : Seats) → is_some (seat_of w ss) ≡ false → owned (seat_of u (ss ++ (w, added size bytes last) ∷ []))
-    ≡ private_run (owned (seat_of u ss)) (part_of u (owned (seat_of u ss)) (adds w size bytes last))
+add_run : (u w size bytes : ℕ) (last : Option ℕ) (ss : SubscriberSlots) → is_some (slot_of w ss) ≡ false → owned (slot_of u (ss ++ (w, added size bytes last) ∷ []))
+    ≡ private_run (owned (slot_of u ss)) (part_of u (owned (slot_of u ss)) (adds w size bytes last))
 add_run u w size bytes last ss none = ap owned (lookup-push u w (added size bytes last) ss none) ∙ by (nat_eq u w)
   where
-    by : (b : Bool) → owned (if b then Some (added size bytes last) else seat_of u ss) ≡ private_run (owned (seat_of u ss)) (if b then begins size bytes last ∷ [] else [])
+    by : (b : Bool) → owned (if b then Some (added size bytes last) else slot_of u ss) ≡ private_run (owned (slot_of u ss)) (if b then begins size bytes last ∷ [] else [])
     by true = refl
     by false = refl
 
-drop_run : (u w : ℕ) (ss : Seats) → Alone ss → owned (seat_of u (remove_entry (nat_eq w) ss)) ≡ private_run (owned (seat_of u ss)) (part_of u (owned (seat_of u ss)) (drops w))
+drop_run : (u w : ℕ) (ss : SubscriberSlots) → Alone ss → owned (slot_of u (remove_entry (nat_eq w) ss)) ≡ private_run (owned (slot_of u ss)) (part_of u (owned (slot_of u ss)) (drops w))
 drop_run u w ss alone = ap owned (lookup-removed u w ss alone) ∙ by (nat_eq u w)
   where
-    by : (b : Bool) → owned (if b then None else seat_of u ss) ≡ private_run (owned (seat_of u ss)) (if b then ends ∷ [] else [])
+    by : (b : Bool) → owned (if b then None else slot_of u ss) ≡ private_run (owned (slot_of u ss)) (if b then ends ∷ [] else [])
     by true = refl
     by false = refl
 
 -- what is noted aside, an event leaves of u what it does to the one or to all that it reaches
-after : (u : ℕ) (S : Shared) (e : Occurrence) (t : Told) → own_of u (next S e (tells t)) ≡ owned (seat_of u (seats_after (reach S e) t S.subs))
-after u S e t = own-noted u (names e) t (seats_after (reach S e) t S.subs)
+after : (u : ℕ) (S : SharedMachine) (e : Occurrence) (t : Told) → own_of u (next S e (tells t)) ≡ owned (slot_of u (slots_after (reach S e) t S.subs))
+after u S e t = own-noted u (names e) t (slots_after (reach S e) t S.subs)
 
 -- an event that reaches nobody where it is refused
-unless_run : (u : ℕ) (S : Shared) (e : Occurrence) (to : Reach) → reach S e ≡ unless (refusal S e) to
+unless_run : (u : ℕ) (S : SharedMachine) (e : Occurrence) (to : Reach) → reach S e ≡ unless (refusal S e) to
     → answer S e (made S e) ≡ tells (reached_answer (reach S e) S.subs (frames_reached (reach S e) S.subs))
-    → (refusal S e ≡ None → owned (seat_of u (seats_after to (reached_answer to S.subs (frames_reached to S.subs)) S.subs)) ≡ private_run (own_of u S) (part_of u (own_of u S) to))
+    → (refusal S e ≡ None → owned (slot_of u (slots_after to (reached_answer to S.subs (frames_reached to S.subs)) S.subs)) ≡ private_run (own_of u S) (part_of u (own_of u S) to))
     → own_of u (shared_step S e) ≡ private_run (own_of u S) (part u S e)
 unless_run u S e to is says otherwise = rw says (by (refusal S e) refl)
   where
@@ -88,11 +88,11 @@ unless_run u S e to is says otherwise = rw says (by (refusal S e) refl)
     by None none =
         let same : reach S e ≡ to = is ∙ ap (λ q. unless q to) none in
         after u S e (reached_answer (reach S e) S.subs (frames_reached (reach S e) S.subs))
-        ∙ subst (λ z. owned (seat_of u (seats_after z (reached_answer z S.subs (frames_reached z S.subs)) S.subs)) ≡ private_run (own_of u S) (part_of u (own_of u S) z)) (sym same) (otherwise none)
+        ∙ subst (λ z. owned (slot_of u (slots_after z (reached_answer z S.subs (frames_reached z S.subs)) S.subs)) ≡ private_run (own_of u S) (part_of u (own_of u S) z)) (sym same) (otherwise none)
     by (Some r) some =
         let same : reach S e ≡ to_none = is ∙ ap (λ q. unless q to) some in
         after u S e (refused r)
-        ∙ subst (λ z. owned (seat_of u (seats_after z (refused r) S.subs)) ≡ private_run (own_of u S) (part_of u (own_of u S) z)) (sym same) refl
+        ∙ subst (λ z. owned (slot_of u (slots_after z (refused r) S.subs)) ≡ private_run (own_of u S) (part_of u (own_of u S) z)) (sym same) refl
 
 -- the first of two tests fails where nothing is refused
 first_false : (a : Bool) (r : Refusal) (o : Option Refusal) → refuse a r o ≡ None → a ≡ false
@@ -100,7 +100,7 @@ first_false true r o is = cc
 first_false false r o is = refl
 
 -- one step
-pub own-step : (u : ℕ) (S : Shared) (e : Occurrence) → Alone S.subs → own_of u (shared_step S e) ≡ private_run (own_of u S) (part u S e)
+pub own-step : (u : ℕ) (S : SharedMachine) (e : Occurrence) → Alone S.subs → own_of u (shared_step S e) ≡ private_run (own_of u S) (part u S e)
 own-step u S (add_pmu key) alone = by (refusal S (add_pmu key))
   where
     by : (r : Option Refusal) → own_of u (next S (add_pmu key) (full_by r (tells (done 0 0)))) ≡ own_of u S
@@ -108,7 +108,7 @@ own-step u S (add_pmu key) alone = by (refusal S (add_pmu key))
     by (Some r) = refl
 own-step u S (drop_pmu key) alone = unless_run u S (drop_pmu key) _ refl refl (λ _. all_run u (revokes key) S.subs)
 own-step u S (add_sub w size bytes) alone =
-    unless_run u S (add_sub w size bytes) _ refl refl (λ none. add_run u w size bytes S.last_tick S.subs (first_false (is_some (seat_of w S.subs)) _ _ none))
+    unless_run u S (add_sub w size bytes) _ refl refl (λ none. add_run u w size bytes S.last_tick S.subs (first_false (is_some (slot_of w S.subs)) _ _ none))
 own-step u S (drop_sub w) alone = unless_run u S (drop_sub w) _ refl refl (λ _. drop_run u w S.subs alone)
 own-step u S (grant w key) alone = by (has_key S.pmus key) refl
   where
@@ -119,29 +119,29 @@ own-step u S (grant w key) alone = by (has_key S.pmus key) refl
     to b = if b then to_one w x else to_none
 
     refused_to : (r : Refusal) → has_key S.pmus key ≡ false → own_of u (next S (grant w key) (tells (refused r))) ≡ own_of u S
-    refused_to r is = after u S (grant w key) (refused r) ∙ ap (λ c. owned (seat_of u (seats_after (to c) (refused r) S.subs))) is
+    refused_to r is = after u S (grant w key) (refused r) ∙ ap (λ c. owned (slot_of u (slots_after (to c) (refused r) S.subs))) is
 
-    unregistered : (o : Option Seat) → has_key S.pmus key ≡ false → own_of u (next S (grant w key) (full_by (grant_refusal o false x) (tells (done 0 0)))) ≡ own_of u S
+    unregistered : (o : Option SubscriberSlot) → has_key S.pmus key ≡ false → own_of u (next S (grant w key) (full_by (grant_refusal o false x) (tells (done 0 0)))) ≡ own_of u S
     unregistered None is = refused_to NoSuchSub is
     unregistered (Some s) is = refused_to NoSuchPmu is
 
     by : (b : Bool) → has_key S.pmus key ≡ b
-        → own_of u (next S (grant w key) (full_by (grant_refusal (seat_of w S.subs) b x) (tells (reached_answer (to b) S.subs (frames_reached (to b) S.subs)))))
+        → own_of u (next S (grant w key) (full_by (grant_refusal (slot_of w S.subs) b x) (tells (reached_answer (to b) S.subs (frames_reached (to b) S.subs)))))
         ≡ private_run (own_of u S) (part_of u (own_of u S) (to b))
     by true is =
-        ap (λ a. own_of u (next S (grant w key) a)) (granted_full (seat_of w S.subs) x)
-        ∙ after u S (grant w key) (full_own (seat_of w S.subs) x)
-        ∙ ap (λ c. owned (seat_of u (seats_after (to c) (full_own (seat_of w S.subs) x) S.subs))) is
+        ap (λ a. own_of u (next S (grant w key) a)) (granted_full (slot_of w S.subs) x)
+        ∙ after u S (grant w key) (full_own (slot_of w S.subs) x)
+        ∙ ap (λ c. owned (slot_of u (slots_after (to c) (full_own (slot_of w S.subs) x) S.subs))) is
         ∙ one_run u w x S.subs
-    by false is = unregistered (seat_of w S.subs) is
+    by false is = unregistered (slot_of w S.subs) is
 own-step u S (asks w x) alone =
-    ap (λ a. own_of u (next S (asks w x) a)) (own_full (seat_of w S.subs) x) ∙ after u S (asks w x) (full_own (seat_of w S.subs) x) ∙ one_run u w x S.subs
+    ap (λ a. own_of u (next S (asks w x) a)) (own_full (slot_of w S.subs) x) ∙ after u S (asks w x) (full_own (slot_of w S.subs) x) ∙ one_run u w x S.subs
 own-step u S (announce config) alone = unless_run u S (announce config) _ refl refl (λ _. all_run u (announces (registered_of S.pmus config)) S.subs)
 own-step u S (measure m) alone = unless_run u S (measure m) _ refl refl (λ _. all_run u (measures m.soc m.quality m.frac (taken_in S m)) S.subs)
 own-step u S (tick soc) alone = after u S (tick soc) (reached_answer (to_all (ticks soc)) S.subs (total (ticks soc) S.subs)) ∙ all_run u (ticks soc) S.subs
-own-step u S (stats w) alone = by (refusal S (stats w)) (seat_of w S.subs)
+own-step u S (stats w) alone = by (refusal S (stats w)) (slot_of w S.subs)
   where
-    by : (r : Option Refusal) (o : Option Seat) → own_of u (next S (stats w) (full_by r (stats_answer o))) ≡ own_of u S
+    by : (r : Option Refusal) (o : Option SubscriberSlot) → own_of u (next S (stats w) (full_by r (stats_answer o))) ≡ own_of u S
     by None None = refl
     by None (Some s) = refl
     by (Some r) o = refl
@@ -151,36 +151,36 @@ own-step u S (pmu_stats key) alone = by (refusal S (pmu_stats key)) (pmu_of S.pm
     by None None = refl
     by None (Some pmu) = refl
     by (Some r) o = refl
-own-step u S (audit w index) alone = by (refusal S (audit w index)) (seat_of w S.subs)
+own-step u S (audit w index) alone = by (refusal S (audit w index)) (slot_of w S.subs)
   where
-    by : (r : Option Refusal) (o : Option Seat) → own_of u (next S (audit w index) (full_by r (audit_answer o index))) ≡ own_of u S
+    by : (r : Option Refusal) (o : Option SubscriberSlot) → own_of u (next S (audit w index) (full_by r (audit_answer o index))) ≡ own_of u S
     by None None = refl
     by None (Some s) = refl
     by (Some r) o = refl
-own-step u S (standing w place) alone = by (refusal S (standing w place)) (seat_of w S.subs)
+own-step u S (standing w place) alone = by (refusal S (standing w place)) (slot_of w S.subs)
   where
-    by : (r : Option Refusal) (o : Option Seat) → own_of u (next S (standing w place) (full_by r (standing_answer o place))) ≡ own_of u S
+    by : (r : Option Refusal) (o : Option SubscriberSlot) → own_of u (next S (standing w place) (full_by r (standing_answer o place))) ≡ own_of u S
     by None None = refl
     by None (Some s) = refl
     by (Some r) o = refl
 
 -- numbers stay apart
-abbrev Fresh : Reach → Seats → Type 0
+abbrev Fresh : Reach → SubscriberSlots → Type 0
 Fresh (to_all o) ss = Unit {0}
 Fresh (to_one w x) ss = Unit {0}
-Fresh (adds w size bytes last) ss = is_some (seat_of w ss) ≡ false
+Fresh (adds w size bytes last) ss = is_some (slot_of w ss) ≡ false
 Fresh (drops w) ss = Unit {0}
 Fresh to_none ss = Unit {0}
 
-fresh_unless : (r : Option Refusal) (to : Reach) (ss : Seats) → (r ≡ None → Fresh to ss) → Fresh (unless r to) ss
+fresh_unless : (r : Option Refusal) (to : Reach) (ss : SubscriberSlots) → (r ≡ None → Fresh to ss) → Fresh (unless r to) ss
 fresh_unless None to ss fresh = fresh refl
 fresh_unless (Some r) to ss fresh = tt
 
-fresh_reach : (S : Shared) (e : Occurrence) → Fresh (reach S e) S.subs
+fresh_reach : (S : SharedMachine) (e : Occurrence) → Fresh (reach S e) S.subs
 fresh_reach S (add_pmu key) = tt
 fresh_reach S (drop_pmu key) = fresh_unless (refusal S (drop_pmu key)) (to_all (revokes key)) S.subs (λ _. tt)
 fresh_reach S (add_sub w size bytes) =
-    fresh_unless (refusal S (add_sub w size bytes)) (adds w size bytes S.last_tick) S.subs (λ none. first_false (is_some (seat_of w S.subs)) _ _ none)
+    fresh_unless (refusal S (add_sub w size bytes)) (adds w size bytes S.last_tick) S.subs (λ none. first_false (is_some (slot_of w S.subs)) _ _ none)
 fresh_reach S (drop_sub w) = fresh_unless (refusal S (drop_sub w)) (drops w) S.subs (λ _. tt)
 fresh_reach S (grant w key) = elim (has_key S.pmus key) as (λ b. Fresh (if b then to_one w (granting S key) else to_none) S.subs) [ true ↦ tt | false ↦ tt ]
 fresh_reach S (asks w x) = tt
@@ -192,13 +192,13 @@ fresh_reach S (pmu_stats key) = tt
 fresh_reach S (audit w index) = tt
 fresh_reach S (standing w place) = tt
 
-Alone-after : (to : Reach) (t : Told) (ss : Seats) → Fresh to ss → Alone ss → Alone (seats_after to t ss)
+Alone-after : (to : Reach) (t : Told) (ss : SubscriberSlots) → Fresh to ss → Alone ss → Alone (slots_after to t ss)
 Alone-after (to_all o) t ss fresh alone = by (is_refusal t)
   where
     by : (b : Bool) → Alone (if b then ss else fan_out o ss (kept_of t))
     by true = alone
     by false = Alone-same ss (fan_out o ss (kept_of t)) (same-fan_out o ss (kept_of t)) alone
-Alone-after (to_one w x) t ss fresh alone = Alone-same ss (at_seat w (moved x t) ss) (same-at_seat w (moved x t) ss) alone
+Alone-after (to_one w x) t ss fresh alone = Alone-same ss (at_slot w (moved x t) ss) (same-at_slot w (moved x t) ss) alone
 Alone-after (adds w size bytes last) t ss fresh alone = by (is_refusal t)
   where
     by : (b : Bool) → Alone (if b then ss else ss ++ (w, added size bytes last) ∷ [])
@@ -211,13 +211,13 @@ Alone-after (drops w) t ss fresh alone = by (is_refusal t)
     by false = Alone-removed (nat_eq w) ss alone
 Alone-after to_none t ss fresh alone = alone
 
-Alone-noted : (named : Option (ℕ × What)) (t : Told) (ss : Seats) → Alone ss → Alone (seats_noted named t ss)
+Alone-noted : (named : Option (ℕ × What)) (t : Told) (ss : SubscriberSlots) → Alone ss → Alone (slots_noted named t ss)
 Alone-noted None t ss alone = alone
-Alone-noted (Some n) t ss alone = Alone-same ss (at_seat n.0 (with_note (n.1, code_of t)) ss) (same-at_seat n.0 (with_note (n.1, code_of t)) ss) alone
+Alone-noted (Some n) t ss alone = Alone-same ss (at_slot n.0 (with_note (n.1, code_of t)) ss) (same-at_slot n.0 (with_note (n.1, code_of t)) ss) alone
 
-pub Alone-next : (S : Shared) (e : Occurrence) (a : Answer) → Alone S.subs → Alone (next S e a).subs
+pub Alone-next : (S : SharedMachine) (e : Occurrence) (a : Answer) → Alone S.subs → Alone (next S e a).subs
 Alone-next S e (tells t) alone =
-    Alone-noted (names e) t (seats_after (reach S e) t S.subs) (Alone-after (reach S e) t S.subs (fresh_reach S e) alone)
+    Alone-noted (names e) t (slots_after (reach S e) t S.subs) (Alone-after (reach S e) t S.subs (fresh_reach S e) alone)
 Alone-next S e (sub_counts s) alone = alone
 Alone-next S e (pmu_counts s) alone = alone
 Alone-next S e (entry found) alone = alone
@@ -228,7 +228,7 @@ private_run-append o [] ys = refl
 private_run-append o (x ∷ xs) ys = private_run-append (private_step o x) xs ys
 
 -- any events
-pub own-run : (u : ℕ) (S : Shared) (es : List Occurrence) → Alone S.subs → own_of u (shared_run S es) ≡ private_run (own_of u S) (view u S es)
+pub own-run : (u : ℕ) (S : SharedMachine) (es : List Occurrence) → Alone S.subs → own_of u (shared_run S es) ≡ private_run (own_of u S) (view u S es)
 own-run u S [] alone = refl
 own-run u S (e ∷ es) alone =
     let rest = own-run u (shared_step S e) es (Alone-next S e (full_answer S e) alone) in

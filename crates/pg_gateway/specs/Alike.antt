@@ -2,7 +2,7 @@
 use Rattle.std.specs.Prelude.{◌≡◌, ℕ, List, [], ◌∷◌, ◌++◌, None}
 use Rattle.pg_data.specs.Measurements.{Measurement}
 use Rattle.pg_gateway.specs.Occurrences.{Occurrence, measure, Answer}
-use Rattle.pg_gateway.specs.Shared.{opening, own_of, refusal, next}
+use Rattle.pg_gateway.specs.State.{opening, own_of, refusal, next}
 use Rattle.pg_gateway.specs.Views.{part, Lossless}
 use Rattle.pg_gateway.specs.Shown.{GatewayValue}
 use Rattle.pg_gateway.specs.Histories.{Legal, state_after, ShowsHistory}

@@ -9,8 +9,8 @@ use Rattle.pg_session.specs.Events as own
 use Rattle.pg_session.specs.Events.{Happening}
 use Rattle.pg_session.specs.Shown.{Model}
 use Rattle.pg_gateway.specs.Occurrences.{Occurrence, add_pmu, drop_pmu, add_sub, drop_sub, grant, asks, announce, measure, tick, stats, pmu_stats, audit, standing}
-use Rattle.pg_gateway.specs.Sharing.{Seats}
-use Rattle.pg_gateway.specs.Shared.{Shared}
+use Rattle.pg_gateway.specs.Sharing.{SubscriberSlots}
+use Rattle.pg_gateway.specs.State.{SharedMachine}
 use Rattle.pg_gateway.specs.Shown.{GatewayValue, GatewayShows}
 
 -- A subscriber's CFG-1 list has of the keys that it is granted just what their PMUs announced last.
@@ -18,23 +18,23 @@ pub record AgreesWith (pmus : Pmus) (p : Model) : Type 0 where
   pub grants : IsGrantList p.grants
   pub listed : (key : PmuKey) → config_at p.listed key ≡ (if has_key p.grants key then config_in pmus key else None)
 
-abbrev pub AllAgree : Pmus → Seats → Type 0
+abbrev pub AllAgree : Pmus → SubscriberSlots → Type 0
 AllAgree pmus [] = Unit {0}
-AllAgree pmus (s ∷ seats) = AgreesWith pmus s.1.own × AllAgree pmus seats
+AllAgree pmus (s ∷ slots) = AgreesWith pmus s.1.own × AllAgree pmus slots
 
 -- what a PMU announced is of that PMU
 abbrev pub AreKeyed : Pmus → Type 0
 AreKeyed [] = Unit {0}
 AreKeyed (p ∷ pmus) = IfSome p.1.config (λ c. block_id c.block ≡ p.0.pmu) × AreKeyed pmus
 
-pub record IsConsistent (S : Shared) : Type 0 where
+pub record IsConsistent (S : SharedMachine) : Type 0 where
   pub registered : IsRegistry S.pmus
   pub keyed : AreKeyed S.pmus
   pub agree : AllAgree S.pmus S.subs
 
 -- The value shows a state that is so.
 pub record IsReached (v : GatewayValue) : Type 0 where
-  pub state : Shared
+  pub state : SharedMachine
   pub shows : GatewayShows v state
   pub consistent : IsConsistent state
 

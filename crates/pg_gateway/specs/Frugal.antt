@@ -12,13 +12,13 @@ use Rattle.pg_session.specs.Ready.{NeedsNone}
 use Rattle.pg_gateway.specs.Occurrences.{Occurrence, add_pmu, drop_pmu, add_sub, drop_sub, grant, asks, announce, measure, tick, stats, pmu_stats, audit, standing, Answer, tells}
 use Rattle.pg_gateway.specs.Sharing.{Offer, measures, share}
 use Rattle.pg_gateway.specs.Judging.{taken_of}
-use Rattle.pg_gateway.specs.Shared.{Shared, refusal}
-use Rattle.pg_gateway.specs.Shown.{SeatValue, GatewayValue, GatewayShows}
+use Rattle.pg_gateway.specs.State.{SharedMachine, refusal}
+use Rattle.pg_gateway.specs.Shown.{SlotValue, GatewayValue, GatewayShows}
 
 -- each subscriber is so
-abbrev pub AllSeats : (SeatValue → Type 0) → List (ℕ × SeatValue) → Type 0
-AllSeats P [] = Unit {0}
-AllSeats P (e ∷ entries) = P e.1 × AllSeats P entries
+abbrev pub AllSlots : (SlotValue → Type 0) → List (ℕ × SlotValue) → Type 0
+AllSlots P [] = Unit {0}
+AllSlots P (e ∷ entries) = P e.1 × AllSlots P entries
 
 -- what happens, if anything, needs no copy
 abbrev pub NeedsNoCopy : SubscriberValue → Option Happening → Type 0
@@ -26,14 +26,14 @@ NeedsNoCopy v None = Unit {0}
 NeedsNoCopy v (Some x) = NeedsNone v x
 
 -- the subscriber's share of this needs no copy
-abbrev pub Spares : Offer → SeatValue → Type 0
+abbrev pub Spares : Offer → SlotValue → Type 0
 Spares o v = NeedsNoCopy v.subscriber (share o v.subscriber.own.grants)
 
 -- The event needs no copy and fills nothing new. A grant needs none of a PMU that is granted already or has announced nothing; a
 -- measurement none where no block that was taken is a member's of an on stream of a subscriber that it is granted to.
 abbrev pub NeedsNoMemory : GatewayValue → Occurrence → Type 0
 NeedsNoMemory v (grant u key) = IfSome (lookup (nat_eq u) v.subs) (λ s. NeedsNone s.subscriber (own.grant key (config_in v.pmus key)))
-NeedsNoMemory v (measure m) = AllSeats (Spares (measures m.soc m.quality m.frac (taken_of v.pmus v.last_tick m))) v.subs
+NeedsNoMemory v (measure m) = AllSlots (Spares (measures m.soc m.quality m.frac (taken_of v.pmus v.last_tick m))) v.subs
 NeedsNoMemory v (asks u x) = private.takes_memory x ≡ false
 NeedsNoMemory v (add_pmu key) = ⊥
 NeedsNoMemory v (add_sub u size bytes) = ⊥
@@ -48,4 +48,4 @@ NeedsNoMemory v (standing u place) = Unit {0}
 
 -- Where no other refusal holds, such an event is not refused for want of memory.
 abbrev pub Frugal : GatewayValue → Occurrence → Answer → Type 0
-Frugal v e a = (S : Shared) → GatewayShows v S → refusal S e ≡ None → NeedsNoMemory v e → a ≡ tells (refused NoMemory) → ⊥
+Frugal v e a = (S : SharedMachine) → GatewayShows v S → refusal S e ≡ None → NeedsNoMemory v e → a ≡ tells (refused NoMemory) → ⊥

@@ -3,15 +3,15 @@ use Rattle.std.specs.Prelude.{List, [], ◌∷◌, map}
 use Rattle.pg_gateway.specs.declared.event.Event.{Event}
 use Rattle.pg_gateway.specs.declared.event.Reply.{Reply}
 use Rattle.pg_gateway.specs.Occurrences.{Occurrence, occurrence, Answer, told}
-use Rattle.pg_gateway.specs.Shared.{Shared, opening, May, next}
+use Rattle.pg_gateway.specs.State.{SharedMachine, opening, May, next}
 use Rattle.pg_gateway.specs.Shown.{GatewayValue, GatewayShows}
 use Rattle.pg_gateway.specs.Posting.{Answers}
 
-abbrev pub Legal : Shared → List (Occurrence × Answer) → Type 0
+abbrev pub Legal : SharedMachine → List (Occurrence × Answer) → Type 0
 Legal S [] = Unit {0}
 Legal S (x ∷ xs) = May S x.0 x.1 × Legal (next S x.0 x.1) xs
 
-abbrev pub state_after : Shared → List (Occurrence × Answer) → Shared
+abbrev pub state_after : SharedMachine → List (Occurrence × Answer) → SharedMachine
 state_after S [] = S
 state_after S (x ∷ xs) = state_after (next S x.0 x.1) xs
 

@@ -6,12 +6,12 @@ use Rattle.pg_session.specs.Events.{Happening, Sample}
 use Rattle.pg_session.specs.Shown.{Model}
 use Rattle.pg_session.specs.Standing.{standing_of}
 use Rattle.pg_gateway.specs.Occurrences.{Occurrence, asks, measure, stats, standing, Answer, tells, sub_counts, stands}
-use Rattle.pg_gateway.specs.Shared.{Shared, opening, own_of, taken_in, refusal, May}
+use Rattle.pg_gateway.specs.State.{SharedMachine, opening, own_of, taken_in, refusal, May}
 use Rattle.pg_gateway.specs.Views.{shared_run, private_run, part, view, full_told, full_answer, full_answers, Lossless, AllLossless, handed_to, handed_in}
 use Rattle.pg_gateway.specs.Histories.{Legal, state_after}
 
 -- the state after events
-abbrev pub after : List Occurrence → Shared
+abbrev pub after : List Occurrence → SharedMachine
 after es = shared_run opening es
 
 -- After any events, what a subscriber is, is what the private gateway makes of its view; and so is what it was handed.
@@ -42,7 +42,7 @@ granted_blocks None taken = []
 granted_blocks (Some p) taken = filter (λ s. has_key p.grants s.key) taken
 
 -- the frames agree on what u is granted of them
-pub record AgreeOn (u : ℕ) (S : Shared) (m : Measurement) (T : Shared) (n : Measurement) : Type 0 where
+pub record AgreeOn (u : ℕ) (S : SharedMachine) (m : Measurement) (T : SharedMachine) (n : Measurement) : Type 0 where
   pub soc : m.soc ≡ n.soc
   pub quality : m.quality ≡ n.quality
   pub frac : m.frac ≡ n.frac
@@ -65,7 +65,7 @@ answers_of history = map (λ x. x.1) history
 
 -- A legal history that tells no loss and no want of memory is the one where none is refused.
 pub record NothingLost : Type 0 where
-  pub one : (S : Shared) (e : Occurrence) (a : Answer) → May S e a → Lossless a → a ≡ full_answer S e
+  pub one : (S : SharedMachine) (e : Occurrence) (a : Answer) → May S e a → Lossless a → a ≡ full_answer S e
   pub answers : (h : List (Occurrence × Answer)) → Legal opening h → AllLossless (answers_of h)
       → answers_of h ≡ full_answers opening (events_of h)
   pub state : (h : List (Occurrence × Answer)) → Legal opening h → AllLossless (answers_of h)

@@ -3,7 +3,7 @@
 pub mod Occurrences
 pub mod Judging
 pub mod Sharing
-pub mod Shared
+pub mod State
 -- what the gateway shows of that machine, one step of both (Goes is the main clause of `Gateway::step`), and what comes back:
 pub mod Related
 pub mod Shown

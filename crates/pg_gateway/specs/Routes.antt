@@ -9,31 +9,31 @@ use Rattle.pg_session.specs.Events as own
 use Rattle.pg_session.specs.Events.{Happening}
 use Rattle.pg_gateway.specs.Occurrences.{Occurrence, add_pmu, drop_pmu, add_sub, drop_sub, grant, asks, announce, measure, tick, stats, pmu_stats, audit, standing}
 use Rattle.pg_gateway.specs.Sharing.{Offer, share}
-use Rattle.pg_gateway.specs.Shown.{SeatValue, GatewayValue}
+use Rattle.pg_gateway.specs.Shown.{SlotValue, GatewayValue}
 
 -- This holds of each subscriber whose bit in n is b.
-abbrev pub WhereBit : ℕ → ℕ → (SeatValue → Type 0) → List (ℕ × SeatValue) → Type 0
-WhereBit b n P entries = (j : ℕ) (v : SeatValue) → slice_get (values_of entries) j ≡ Some v → bit_at n j ≡ b → P v
+abbrev pub WhereBit : ℕ → ℕ → (SlotValue → Type 0) → List (ℕ × SlotValue) → Type 0
+WhereBit b n P entries = (j : ℕ) (v : SlotValue) → slice_get (values_of entries) j ≡ Some v → bit_at n j ≡ b → P v
 
 -- only the first of these many bits may be set
 abbrev pub HasBits : ℕ → ℕ → Type 0
 HasBits len n = (j : ℕ) → len ≤ j → bit_at n j ≡ 0
 
 -- the event is nothing to it
-abbrev pub IsPassed : Offer → SeatValue → Type 0
+abbrev pub IsPassed : Offer → SlotValue → Type 0
 IsPassed o v = share o v.subscriber.own.grants ≡ None
 
 -- the bit of a subscriber in the mask of a PMU
-abbrev pub bit_of : PmuKey → Option SeatValue → ℕ
+abbrev pub bit_of : PmuKey → Option SlotValue → ℕ
 bit_of key None = 0
 bit_of key (Some v) = if has_key v.subscriber.own.grants key then 1 else 0
 
 -- The mask has just those bits set whose subscribers hold the PMU.
-abbrev pub IsMask : List (ℕ × SeatValue) → PmuKey → ℕ → Type 0
+abbrev pub IsMask : List (ℕ × SlotValue) → PmuKey → ℕ → Type 0
 IsMask entries key n = (j : ℕ) → bit_at n j ≡ bit_of key (slice_get (values_of entries) j)
 
 -- each PMU's mask, in the order of the PMUs
-abbrev pub AreMasks : List (ℕ × SeatValue) → List PmuKey → List ℕ → Type 0
+abbrev pub AreMasks : List (ℕ × SlotValue) → List PmuKey → List ℕ → Type 0
 AreMasks entries [] [] = Unit {0}
 AreMasks entries (k ∷ keys) (n ∷ masks) = IsMask entries k n × AreMasks entries keys masks
 AreMasks entries [] (n ∷ masks) = ⊥
@@ -45,7 +45,7 @@ pub record RoutesValue : Type 0 where
   pub masks : List ℕ
 
 -- What is kept is what would be computed afresh: while it is fresh, it has each registered PMU's mask.
-abbrev pub AreRoutes : List (ℕ × SeatValue) → Pmus → RoutesValue → Type 0
+abbrev pub AreRoutes : List (ℕ × SlotValue) → Pmus → RoutesValue → Type 0
 AreRoutes entries pmus routes = routes.fresh ≡ true → AreMasks entries (keys_of pmus) routes.masks
 
 abbrev pub IsRouted : GatewayValue → RoutesValue → Type 0

@@ -11,13 +11,13 @@ use Rattle.pg_session.specs.Shown.{Model}
 use Rattle.pg_session.specs.ByAll.{by_arrivals, by_numbers}
 
 -- a subscriber: its private gateway, and all that was noted of it
-pub record Seat : Type 0 where
+pub record SubscriberSlot : Type 0 where
   pub own : Model
   pub noted : List Noted
 
 -- by their numbers, in the order in which they were added
-abbrev pub Seats : Type 0
-Seats = List (ℕ × Seat)
+abbrev pub SubscriberSlots : Type 0
+SubscriberSlots = List (ℕ × SubscriberSlot)
 
 -- what happens to all subscribers
 pub data Offer : Type 0 where
@@ -57,23 +57,23 @@ frames_in_share None p = 0
 frames_in_share (Some x) p = length (frames_of by_arrivals by_numbers p x)
 
 -- the frames that it makes for one subscriber, and for all
-abbrev pub frames_for : Offer → Seat → ℕ
+abbrev pub frames_for : Offer → SubscriberSlot → ℕ
 frames_for o s = frames_in_share (share o s.own.grants) s.own
 
-abbrev pub total : Offer → Seats → ℕ
+abbrev pub total : Offer → SubscriberSlots → ℕ
 total o [] = 0
-total o (s ∷ seats) = frames_for o s.1 + total o seats
+total o (s ∷ slots) = frames_for o s.1 + total o slots
 
 -- a subscriber after its share, with the first k of its frames kept
-abbrev pub after_share : Option Happening → List Noted → Seat → ℕ → Seat
+abbrev pub after_share : Option Happening → List Noted → SubscriberSlot → ℕ → SubscriberSlot
 after_share None notes s k = s
 after_share (Some x) notes s k = record { own = effect by_arrivals by_numbers s.own x k; noted = s.noted ++ notes }
 
-abbrev pub shared_to : Offer → Seat → ℕ → Seat
+abbrev pub shared_to : Offer → SubscriberSlot → ℕ → SubscriberSlot
 shared_to o s k = after_share (share o s.own.grants) (notes_of o) s k
 
 -- each subscriber takes its share; of all frames, in the order of the subscribers, the first k are kept
-abbrev pub fan_out : Offer → Seats → ℕ → Seats
+abbrev pub fan_out : Offer → SubscriberSlots → ℕ → SubscriberSlots
 fan_out o [] k = []
-fan_out o (s ∷ seats) k =
-    (s.0, shared_to o s.1 (min k (frames_for o s.1))) ∷ fan_out o seats (k - frames_for o s.1)
+fan_out o (s ∷ slots) k =
+    (s.0, shared_to o s.1 (min k (frames_for o s.1))) ∷ fan_out o slots (k - frames_for o s.1)

@@ -6,19 +6,19 @@ use Rattle.pg_audit.specs.Noting.{AuditValue}
 use Rattle.pg_session.specs.Shown as session
 use Rattle.pg_session.specs.Shown.{SubscriberValue}
 use Rattle.pg_gateway.specs.Occurrences.{Occurrence, Answer}
-use Rattle.pg_gateway.specs.Sharing.{Seat}
-use Rattle.pg_gateway.specs.Shared.{Shared, May, next}
+use Rattle.pg_gateway.specs.Sharing.{SubscriberSlot}
+use Rattle.pg_gateway.specs.State.{SharedMachine, May, next}
 use Rattle.pg_gateway.specs.Related.{Related}
 
 -- A subscriber with its audit, and whether it is spared the event that is under way, which does not concern it.
-pub record SeatValue : Type 0 where
+pub record SlotValue : Type 0 where
   pub subscriber : SubscriberValue
   pub audit : AuditValue
   pub spared : Bool
 
 pub record GatewayValue : Type 0 where
   pub pmus : Pmus
-  pub subs : List (ℕ × SeatValue)
+  pub subs : List (ℕ × SlotValue)
   pub last_tick : Option ℕ
 
 -- at most 256 registered PMUs and 64 subscribers
@@ -26,21 +26,21 @@ abbrev pub IsWithinLimits : GatewayValue → Type 0
 IsWithinLimits v = (length v.pmus ≤ 256) × (length v.subs ≤ 64)
 
 -- The value shows this subscriber.
-pub record SeatShows (v : SeatValue) (s : Seat) : Type 0 where
-  pub subscriber : session.Shows v.subscriber s.own
-  pub audit : audit.Shows v.audit s.noted
+pub record SlotShows (v : SlotValue) (s : SubscriberSlot) : Type 0 where
+  pub subscriber : session.ShowsPrivate v.subscriber s.own
+  pub audit : audit.ShowsAudit v.audit s.noted
 
 -- The value shows this state.
-pub record GatewayShows (v : GatewayValue) (S : Shared) : Type 0 where
+pub record GatewayShows (v : GatewayValue) (S : SharedMachine) : Type 0 where
   pub pmus : v.pmus ≡ S.pmus
-  pub subs : Related SeatShows v.subs S.subs
+  pub subs : Related SlotShows v.subs S.subs
   pub last_tick : v.last_tick ≡ S.last_tick
 
 -- This answer may come to the event in this state, and the value then shows the state's successor.
-pub record Steps (S : Shared) (e : Occurrence) (a : Answer) (v : GatewayValue) : Type 0 where
+pub record Steps (S : SharedMachine) (e : Occurrence) (a : Answer) (v : GatewayValue) : Type 0 where
   pub may : May S e a
   pub shows : GatewayShows v (next S e a)
 
 -- Whatever state the value shows before the event, the answer follows from that state.
 abbrev pub Goes : GatewayValue → Occurrence → Answer → GatewayValue → Type 0
-Goes old e a new = (S : Shared) → GatewayShows old S → Steps S e a new
+Goes old e a new = (S : SharedMachine) → GatewayShows old S → Steps S e a new

@@ -16,13 +16,13 @@ use Rattle.pg_session.specs.Steps.{HasNoCopies}
 use Rattle.pg_session.specs.Ready.{IsReady, IsFor, NeedsNone, AreRising}
 use Rattle.pg_gateway.specs.declared.event.Event.{Event}
 use Rattle.pg_gateway.specs.declared.event.Event.TheVariants as event
-use Rattle.pg_gateway.specs.Sharing.{Seat, Seats, Offer, revokes, announces, measures, ticks, share, frames_for, shared_to, total, fan_out}
+use Rattle.pg_gateway.specs.Sharing.{SubscriberSlot, SubscriberSlots, Offer, revokes, announces, measures, ticks, share, frames_for, shared_to, total, fan_out}
 use Rattle.pg_audit.specs.declared.audit.What.{What}
 use Rattle.pg_audit.specs.declared.audit.What.TheVariants as audited
 use Rattle.pg_gateway.specs.Occurrences.{Occurrence, add_pmu, drop_pmu, add_sub, drop_sub, grant, asks, announce, measure, tick, stats, pmu_stats, audit, standing, Answer, tells}
-use Rattle.pg_gateway.specs.Shared.{seat_of, at_seat, moved, names, with_note, code_of, seats_noted}
+use Rattle.pg_gateway.specs.State.{slot_of, at_slot, moved, names, with_note, code_of, slots_noted}
 use Rattle.pg_gateway.specs.Related.{Related}
-use Rattle.pg_gateway.specs.Shown.{SeatValue, SeatShows}
+use Rattle.pg_gateway.specs.Shown.{SlotValue, SlotShows}
 use Rattle.pg_gateway.specs.Frugal.{Spares}
 
 -- the blocks of a frame at some places
@@ -87,28 +87,28 @@ abbrev pub IsLaid : SubscriberValue → Option Happening → Type 0
 IsLaid v None = HasNoCopies v
 IsLaid v (Some x) = IsReady v x
 
-pub record Awaits (o : Offer) (v : SeatValue) : Type 0 where
+pub record Awaits (o : Offer) (v : SlotValue) : Type 0 where
   pub fit : IsFit v.subscriber (share o v.subscriber.own.grants)
   pub laid : IsLaid v.subscriber (share o v.subscriber.own.grants)
   pub spared : v.spared ≡ true → share o v.subscriber.own.grants ≡ None
 
 -- One subscriber took its share.
-pub record TakesShare (o : Offer) (lost : Bool) (made kept : ℕ) (s : Seat) (v : SeatValue) : Type 0 where
+pub record TakesShare (o : Offer) (lost : Bool) (made kept : ℕ) (s : SubscriberSlot) (v : SlotValue) : Type 0 where
   pub count : made ≡ frames_for o s
   pub none_kept : lost ≡ true → kept ≡ 0
-  pub shows : SeatShows v (shared_to o s kept)
+  pub shows : SlotShows v (shared_to o s kept)
 
 -- Whatever a subscriber shows, it took its share, of few frames, and no copies lie ready.
-pub record TakesOffer (o : Offer) (lost : Bool) (old : SeatValue) (counts : ℕ × ℕ) (new : SeatValue) : Type 0 where
-  pub shares : (s : Seat) → SeatShows old s → TakesShare o lost counts.0 counts.1 s new
+pub record TakesOffer (o : Offer) (lost : Bool) (old : SlotValue) (counts : ℕ × ℕ) (new : SlotValue) : Type 0 where
+  pub shares : (s : SubscriberSlot) → SlotShows old s → TakesShare o lost counts.0 counts.1 s new
   pub few : counts.0 ≤ 640
   pub kept : counts.1 ≤ counts.0
   pub none : HasNoCopies new.subscriber
 
 -- All subscribers took their shares.
-pub record FansOut (o : Offer) (made kept : ℕ) (seats : Seats) (entries : List (ℕ × SeatValue)) : Type 0 where
-  pub count : made ≡ total o seats
-  pub shows : Related SeatShows entries (fan_out o seats kept)
+pub record FansOut (o : Offer) (made kept : ℕ) (slots : SubscriberSlots) (entries : List (ℕ × SlotValue)) : Type 0 where
+  pub count : made ≡ total o slots
+  pub shows : Related SlotShows entries (fan_out o slots kept)
 
 -- what a reply counts
 abbrev pub counts_of : Told → ℕ × ℕ
@@ -117,15 +117,15 @@ counts_of (refused r) = (0, 0)
 counts_of (handed bytes begun gap) = (0, 0)
 
 -- no copies lie ready, and it is spared nothing; its share is as it asks it to be
-abbrev pub HasNone : SeatValue → Type 0
+abbrev pub HasNone : SlotValue → Type 0
 HasNone v = HasNoCopies v.subscriber × (v.spared ≡ false)
 
-abbrev pub Fits : Offer → SeatValue → Type 0
+abbrev pub Fits : Offer → SlotValue → Type 0
 Fits o v = IsFit v.subscriber (share o v.subscriber.own.grants)
 
 -- A subscriber laid the copies that its share needs, or memory was refused; where it needs none, it was not. A subscriber that
 -- is spared has no share. Nothing that it shows changed.
-pub record LaysShare (o : Offer) (old : SeatValue) (result : Result Unit Refusal) (new : SeatValue) : Type 0 where
+pub record LaysShare (o : Offer) (old : SlotValue) (result : Result Unit Refusal) (new : SlotValue) : Type 0 where
   pub laid : IfOk result (λ u. IsLaid new.subscriber (share o old.subscriber.own.grants))
   pub memory : IfErr result (λ r. r ≡ NoMemory)
   pub needless : Spares o old → IsOk result
@@ -148,49 +148,49 @@ AsksNothing (private.Command asked) = Unit {0}
 AsksNothing (private.Drain buf) = Unit {0}
 
 -- this may come to an event for the subscriber, which may not be there
-abbrev pub OwnMay : Option Seat → Happening → Told → Type 0
+abbrev pub OwnMay : Option SubscriberSlot → Happening → Told → Type 0
 OwnMay None x t = t ≡ refused NoSuchSub
 OwnMay (Some s) x t = May by_arrivals by_numbers s.own x false t
 
 -- The subscriber of a number took an event for it alone, which is noted where such are.
-pub record TakesAt (u : ℕ) (x : Happening) (t : Told) (seats : Seats) (entries : List (ℕ × SeatValue)) : Type 0 where
-  pub may : OwnMay (seat_of u seats) x t
-  pub shows : Related SeatShows entries (seats_noted (names (asks u x)) t (at_seat u (moved x t) seats))
+pub record TakesAt (u : ℕ) (x : Happening) (t : Told) (slots : SubscriberSlots) (entries : List (ℕ × SlotValue)) : Type 0 where
+  pub may : OwnMay (slot_of u slots) x t
+  pub shows : Related SlotShows entries (slots_noted (names (asks u x)) t (at_slot u (moved x t) slots))
 
 -- A subscriber took an event for it alone, which is noted as this, or not.
-abbrev pub noted_by : Option What → Told → Seat → Seat
+abbrev pub noted_by : Option What → Told → SubscriberSlot → SubscriberSlot
 noted_by None t s = s
 noted_by (Some what) t s = with_note (what, code_of t) s
 
-pub record Asks (s : Seat) (x : Happening) (t : Told) (named : Option What) (v : SeatValue) : Type 0 where
+pub record Asks (s : SubscriberSlot) (x : Happening) (t : Told) (named : Option What) (v : SlotValue) : Type 0 where
   pub may : May by_arrivals by_numbers s.own x false t
-  pub shows : SeatShows v (noted_by named t (moved x t s))
+  pub shows : SlotShows v (noted_by named t (moved x t s))
 
 -- The subscriber of a number was drained.
-pub record DrainsAt (u n : ℕ) (a : Answer) (seats : Seats) (entries : List (ℕ × SeatValue)) : Type 0 where
+pub record DrainsAt (u n : ℕ) (a : Answer) (slots : SubscriberSlots) (entries : List (ℕ × SlotValue)) : Type 0 where
   pub t : Told
   pub is : a ≡ tells t
-  pub takes : TakesAt u (drain n) t seats entries
+  pub takes : TakesAt u (drain n) t slots entries
 
 -- this may come to a grant of a registered PMU to the subscriber, which may not be there
-abbrev pub GrantMay : Option Seat → Happening → Told → Type 0
+abbrev pub GrantMay : Option SubscriberSlot → Happening → Told → Type 0
 GrantMay None x t = t ≡ refused NoSuchSub
 GrantMay (Some s) x t = May by_arrivals by_numbers s.own x false t ⊎ ((refusal by_arrivals by_numbers s.own x ≡ None) × (t ≡ refused NoMemory))
 
 -- A subscriber took a grant, or memory was refused before it did; it is noted as this, or not.
-pub record Grants (s : Seat) (x : Happening) (t : Told) (named : Option What) (v : SeatValue) : Type 0 where
+pub record Grants (s : SubscriberSlot) (x : Happening) (t : Told) (named : Option What) (v : SlotValue) : Type 0 where
   pub may : GrantMay (Some s) x t
-  pub shows : SeatShows v (noted_by named t (moved x t s))
+  pub shows : SlotShows v (noted_by named t (moved x t s))
 
 -- Whatever a subscriber shows, it took a grant, and no memory is refused to one that needs no copy. No copies lie ready.
-pub record TakesGrant (x : Happening) (named : Option What) (old : SeatValue) (t : Told) (new : SeatValue) : Type 0 where
-  pub grants : (s : Seat) → SeatShows old s → Grants s x t named new
-  pub frugal : (s : Seat) → SeatShows old s → refusal by_arrivals by_numbers s.own x ≡ None → NeedsNone old.subscriber x → t ≢ refused NoMemory
+pub record TakesGrant (x : Happening) (named : Option What) (old : SlotValue) (t : Told) (new : SlotValue) : Type 0 where
+  pub grants : (s : SubscriberSlot) → SlotShows old s → Grants s x t named new
+  pub frugal : (s : SubscriberSlot) → SlotShows old s → refusal by_arrivals by_numbers s.own x ≡ None → NeedsNone old.subscriber x → t ≢ refused NoMemory
   pub none : HasNone new
 
-pub record GrantsAt (u : ℕ) (x : Happening) (t : Told) (seats : Seats) (entries : List (ℕ × SeatValue)) : Type 0 where
-  pub may : GrantMay (seat_of u seats) x t
-  pub shows : Related SeatShows entries (at_seat u (with_note (audited.Grant, code_of t)) (at_seat u (moved x t) seats))
+pub record GrantsAt (u : ℕ) (x : Happening) (t : Told) (slots : SubscriberSlots) (entries : List (ℕ × SlotValue)) : Type 0 where
+  pub may : GrantMay (slot_of u slots) x t
+  pub shows : Related SlotShows entries (at_slot u (with_note (audited.Grant, code_of t)) (at_slot u (moved x t) slots))
 
 -- events that are offered to all subscribers
 abbrev pub IsForAll : Event → Type 0

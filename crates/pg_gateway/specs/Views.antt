@@ -9,7 +9,7 @@ use Rattle.pg_session.specs.Shown.{Model, begin}
 use Rattle.pg_session.specs.ByAll.{by_arrivals, by_numbers}
 use Rattle.pg_gateway.specs.Occurrences.{Occurrence, add_pmu, drop_pmu, add_sub, drop_sub, grant, asks, announce, measure, tick, stats, pmu_stats, audit, standing, Answer, tells, sub_counts, pmu_counts, entry, stands}
 use Rattle.pg_gateway.specs.Sharing.{Offer, share}
-use Rattle.pg_gateway.specs.Shared.{Shared, own_of, refusal, Reach, to_all, to_one, adds, drops, to_none, reach, made, answer, next}
+use Rattle.pg_gateway.specs.State.{SharedMachine, own_of, refusal, Reach, to_all, to_one, adds, drops, to_none, reach, made, answer, next}
 
 -- what a private gateway is told
 pub data Seen : Type 0 where
@@ -65,17 +65,17 @@ abbrev pub full_by : Option Refusal → Answer → Answer
 full_by None a = a
 full_by (Some r) a = tells (refused r)
 
-abbrev pub full_answer : Shared → Occurrence → Answer
+abbrev pub full_answer : SharedMachine → Occurrence → Answer
 full_answer S e = full_by (refusal S e) (answer S e (made S e))
 
-abbrev pub shared_step : Shared → Occurrence → Shared
+abbrev pub shared_step : SharedMachine → Occurrence → SharedMachine
 shared_step S e = next S e (full_answer S e)
 
-abbrev pub shared_run : Shared → List Occurrence → Shared
+abbrev pub shared_run : SharedMachine → List Occurrence → SharedMachine
 shared_run S [] = S
 shared_run S (e ∷ es) = shared_run (shared_step S e) es
 
-abbrev pub full_answers : Shared → List Occurrence → List Answer
+abbrev pub full_answers : SharedMachine → List Occurrence → List Answer
 full_answers S [] = []
 full_answers S (e ∷ es) = full_answer S e ∷ full_answers (shared_step S e) es
 
@@ -95,11 +95,11 @@ part_of u own (adds w size bytes last) = if nat_eq u w then begins size bytes la
 part_of u own (drops w) = if nat_eq u w then ends ∷ [] else []
 part_of u own to_none = []
 
-abbrev pub part : ℕ → Shared → Occurrence → List Seen
+abbrev pub part : ℕ → SharedMachine → Occurrence → List Seen
 part u S e = part_of u (own_of u S) (reach S e)
 
 -- all that u sees of the events, each at the state that those before it leave
-abbrev pub view : ℕ → Shared → List Occurrence → List Seen
+abbrev pub view : ℕ → SharedMachine → List Occurrence → List Seen
 view u S [] = []
 view u S (e ∷ es) = part u S e ++ view u (shared_step S e) es
 

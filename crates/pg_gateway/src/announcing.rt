@@ -8,14 +8,14 @@ ghost use Rattle.pg_session.specs.Events.{announced_at, config_of};
 ghost use Rattle.pg_session.specs.Ready.{AreRising};
 ghost use Rattle.pg_gateway.specs.Judging.{all_announced, memory_counted};
 ghost use Rattle.pg_gateway.specs.Related.{Related};
-ghost use Rattle.pg_gateway.specs.Sharing.{Seats};
-ghost use Rattle.pg_gateway.specs.Shown.{SeatShows};
+ghost use Rattle.pg_gateway.specs.Sharing.{SubscriberSlots};
+ghost use Rattle.pg_gateway.specs.Shown.{SlotShows};
 ghost use Rattle.pg_gateway.specs.Taking.{offered, IsRising, Awaits, HasNone, Fits};
-ghost use Rattle.pg_gateway.specs.Frugal.{AllSeats};
+ghost use Rattle.pg_gateway.specs.Frugal.{AllSlots};
 
 use crate::event::Event;
 use crate::fan::lay_copies;
-use crate::seat::Seat;
+use crate::slot::SubscriberSlot;
 use circular_buffer::HeapCircularBuffer;
 use indexmap::IndexMap;
 use pg_config::{PmuConfig, SourceConfig};
@@ -69,7 +69,7 @@ fn copy_parts(
 ///
 /// `NoMemory`, and then no subscriber's copies lie ready.
 pub(crate) fn copy_announced(
-    subs: &mut IndexMap<SubId, Seat>,
+    subs: &mut IndexMap<SubId, SubscriberSlot>,
     event: &Event,
     config: &SourceConfig,
     places: &[usize],
@@ -80,13 +80,13 @@ pub(crate) fn copy_announced(
     requires rising { AreRising 0 (length config.now.parts) places.now }
     requires room { 16 ≤ vec_capacity held.old }
     requires capacity { copies.old.capacity ≡ 16 }
-    requires none { AllSeats HasNone subs.old.entries }
-    requires fits { AllSeats (Fits (offered event.now places.now)) subs.old.entries }
+    requires none { AllSlots HasNone subs.old.entries }
+    requires fits { AllSlots (Fits (offered event.now places.now)) subs.old.entries }
     ensures copied { OnOk result (map arc_value copies.new.items ≡ map config_of (announced_at config.now places.now)) }
-    ensures laid { IfOk result (λ u. AllSeats (Awaits (offered event.now places.now)) subs.new.entries) }
-    ensures none { IfErr result (λ refusal. AllSeats HasNone subs.new.entries) }
+    ensures laid { IfOk result (λ u. AllSlots (Awaits (offered event.now places.now)) subs.new.entries) }
+    ensures none { IfErr result (λ refusal. AllSlots HasNone subs.new.entries) }
     ensures memory { IfErr result (λ refusal. refusal ≡ Refusal.NoMemory) }
-    ensures shows { (seats : Seats) → Related SeatShows subs.old.entries seats → Related SeatShows subs.new.entries seats }
+    ensures shows { (slots : SubscriberSlots) → Related SlotShows subs.old.entries slots → Related SlotShows subs.new.entries slots }
     ensures len { index_map_len subs.new ≡ index_map_len subs.old }
     ensures room { 16 ≤ vec_capacity held.new }
     ensures capacity { copies.new.capacity ≡ 16 }

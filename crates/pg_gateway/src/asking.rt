@@ -14,15 +14,15 @@ ghost use Rattle.pg_session.specs.Ready.{ReturnsBuffer};
 ghost use Rattle.pg_session.specs.Private.{told as private_told, refused};
 ghost use Rattle.pg_gateway.specs.Occurrences.{told, tells};
 ghost use Rattle.pg_gateway.specs.Related.{Related};
-ghost use Rattle.pg_gateway.specs.Sharing.{Seats};
-ghost use Rattle.pg_gateway.specs.Shared.{noted_as, code_of, at_seat, with_note, added, seat_of, grant_refusal};
-ghost use Rattle.pg_gateway.specs.Shown.{SeatShows};
+ghost use Rattle.pg_gateway.specs.Sharing.{SubscriberSlots};
+ghost use Rattle.pg_gateway.specs.State.{noted_as, code_of, at_slot, with_note, added, slot_of, grant_refusal};
+ghost use Rattle.pg_gateway.specs.Shown.{SlotShows};
 ghost use Rattle.pg_gateway.specs.Taking.{AsksNothing, TakesAt, DrainsAt, HasNone};
 ghost use Rattle.pg_gateway.specs.Posting.{IsPlain, KeepsBuffer};
-ghost use Rattle.pg_gateway.specs.Frugal.{AllSeats};
+ghost use Rattle.pg_gateway.specs.Frugal.{AllSlots};
 
 use crate::event::Reply;
-use crate::seat::Seat;
+use crate::slot::SubscriberSlot;
 use indexmap::IndexMap;
 use pg_audit::What;
 use pg_config::PmuConfig;
@@ -48,23 +48,23 @@ pub(crate) fn code(reply: &PrivateReply) -> Option<Refusal>
 
 /// The subscriber of a number takes an event for it alone, and has it noted.
 pub(crate) fn ask_at(
-    subs: &mut IndexMap<SubId, Seat>,
+    subs: &mut IndexMap<SubId, SubscriberSlot>,
     sub: SubId,
     what: What,
     event: PrivateEvent<'_>,
 ) -> PrivateReply
     requires own { AsksNothing event }
     requires noted { noted_as (happening event) ≡ Some what }
-    requires none { AllSeats HasNone subs.old.entries }
-    ensures takes { (seats : Seats) → Related SeatShows subs.old.entries seats
-        → TakesAt sub (happening event.entry) (private_told result) seats subs.new.entries }
+    requires none { AllSlots HasNone subs.old.entries }
+    ensures takes { (slots : SubscriberSlots) → Related SlotShows subs.old.entries slots
+        → TakesAt sub (happening event.entry) (private_told result) slots subs.new.entries }
     ensures plain { PlainReply result }
-    ensures none { AllSeats HasNone subs.new.entries }
+    ensures none { AllSlots HasNone subs.new.entries }
     ensures len { index_map_len subs.new ≡ index_map_len subs.old }
 {
     match subs.get_mut(&sub) {
         None => PrivateReply::Refused(Refusal::NoSuchSub),
-        Some(seat) => seat.ask(what, event),
+        Some(slot) => slot.ask(what, event),
     }
 }
 
@@ -82,12 +82,16 @@ pub(crate) fn reply_of(reply: PrivateReply) -> Reply
 }
 
 /// The bytes of the subscriber of a number are handed out.
-pub(crate) fn drain_at(subs: &mut IndexMap<SubId, Seat>, sub: SubId, buf: Vec<u8>) -> Reply
-    requires none { AllSeats HasNone subs.old.entries }
-    ensures takes { (seats : Seats) → Related SeatShows subs.old.entries seats
-        → DrainsAt sub (length buf.items) (told result) seats subs.new.entries }
+pub(crate) fn drain_at(
+    subs: &mut IndexMap<SubId, SubscriberSlot>,
+    sub: SubId,
+    buf: Vec<u8>,
+) -> Reply
+    requires none { AllSlots HasNone subs.old.entries }
+    ensures takes { (slots : SubscriberSlots) → Related SlotShows subs.old.entries slots
+        → DrainsAt sub (length buf.items) (told result) slots subs.new.entries }
     ensures buffer { KeepsBuffer buf.items result }
-    ensures none { AllSeats HasNone subs.new.entries }
+    ensures none { AllSlots HasNone subs.new.entries }
     ensures len { index_map_len subs.new ≡ index_map_len subs.old }
 {
     match subs.get_mut(&sub) {
@@ -95,50 +99,50 @@ pub(crate) fn drain_at(subs: &mut IndexMap<SubId, Seat>, sub: SubId, buf: Vec<u8
             buf,
             out: Err(Refusal::NoSuchSub),
         },
-        Some(seat) => reply_of(seat.drain(buf)),
+        Some(slot) => reply_of(slot.drain(buf)),
     }
 }
 
 /// The subscriber of a number, where there is one, has something noted.
 pub(crate) fn note_at(
-    subs: &mut IndexMap<SubId, Seat>,
+    subs: &mut IndexMap<SubId, SubscriberSlot>,
     sub: SubId,
     what: What,
     code: Option<Refusal>,
 )
-    requires none { AllSeats HasNone subs.old.entries }
-    ensures notes { (seats : Seats) → Related SeatShows subs.old.entries seats
-        → Related SeatShows subs.new.entries (at_seat sub (with_note (what, code)) seats) }
-    ensures none { AllSeats HasNone subs.new.entries }
+    requires none { AllSlots HasNone subs.old.entries }
+    ensures notes { (slots : SubscriberSlots) → Related SlotShows subs.old.entries slots
+        → Related SlotShows subs.new.entries (at_slot sub (with_note (what, code)) slots) }
+    ensures none { AllSlots HasNone subs.new.entries }
     ensures len { index_map_len subs.new ≡ index_map_len subs.old }
 {
     match subs.get_mut(&sub) {
         None => {}
-        Some(seat) => seat.note(what, code),
+        Some(slot) => slot.note(what, code),
     }
 }
 
 /// A new subscriber stands last, and that it was added is noted. The one refusal is `NoMemory`, and nothing changes then.
 pub(crate) fn insert_new(
     alloc: Global,
-    subs: &mut IndexMap<SubId, Seat>,
+    subs: &mut IndexMap<SubId, SubscriberSlot>,
     sub: SubId,
     ring: RingSize,
     bytes: RingBytes,
     last: Option<u32>,
 ) -> Result<(), Refusal>
     requires new { get nat_eq subs.old sub ≡ None }
-    requires none { AllSeats HasNone subs.old.entries }
-    ensures added { IfOk result (λ u. (seats : Seats) → Related SeatShows subs.old.entries seats
-        → Related SeatShows subs.new.entries (seats ++ (sub, with_note (What.AddSub, None) (added ring bytes last)) ∷ [])) }
+    requires none { AllSlots HasNone subs.old.entries }
+    ensures added { IfOk result (λ u. (slots : SubscriberSlots) → Related SlotShows subs.old.entries slots
+        → Related SlotShows subs.new.entries (slots ++ (sub, with_note (What.AddSub, None) (added ring bytes last)) ∷ [])) }
     ensures refused { IfErr result (λ refusal. subs.new.entries ≡ subs.old.entries) }
     ensures memory { IfErr result (λ refusal. refusal ≡ Refusal.NoMemory) }
-    ensures none { AllSeats HasNone subs.new.entries }
+    ensures none { AllSlots HasNone subs.new.entries }
     ensures len { index_map_len subs.new ≤ index_map_len subs.old + 1 }
 {
-    let mut seat = Seat::new(alloc, ring, bytes, last)?;
-    seat.note(What::AddSub, None);
-    match subs.insert(sub, seat) {
+    let mut slot = SubscriberSlot::new(alloc, ring, bytes, last)?;
+    slot.note(What::AddSub, None);
+    match subs.insert(sub, slot) {
         Ok(_) => Ok(()),
         Err(_) => Err(Refusal::NoMemory),
     }
@@ -146,25 +150,25 @@ pub(crate) fn insert_new(
 
 /// A PMU is granted to the subscriber of a number, with what it has announced.
 pub(crate) fn grant_at(
-    subs: &mut IndexMap<SubId, Seat>,
+    subs: &mut IndexMap<SubId, SubscriberSlot>,
     sub: SubId,
     key: &PmuKey,
     config: Option<&Arc<PmuConfig>>,
 ) -> PrivateReply
-    requires none { AllSeats HasNone subs.old.entries }
+    requires none { AllSlots HasNone subs.old.entries }
     requires keyed { IfSome (option_map (λ c. arc_value c.now) config) (λ c. block_id c.block ≡ key.now.pmu) }
-    ensures takes { (seats : Seats) → Related SeatShows subs.old.entries seats
-        → GrantsAt sub (grant key.now (option_map (λ c. arc_value c.now) config.entry)) (private_told result) seats subs.new.entries }
-    ensures frugal { (seats : Seats) → Related SeatShows subs.old.entries seats
-        → grant_refusal (seat_of sub seats) true (grant key.now (option_map (λ c. arc_value c.now) config.entry)) ≡ None
+    ensures takes { (slots : SubscriberSlots) → Related SlotShows subs.old.entries slots
+        → GrantsAt sub (grant key.now (option_map (λ c. arc_value c.now) config.entry)) (private_told result) slots subs.new.entries }
+    ensures frugal { (slots : SubscriberSlots) → Related SlotShows subs.old.entries slots
+        → grant_refusal (slot_of sub slots) true (grant key.now (option_map (λ c. arc_value c.now) config.entry)) ≡ None
         → IfSome (lookup (nat_eq sub) subs.old.entries) (λ v. NeedsNone v.subscriber (grant key.now (option_map (λ c. arc_value c.now) config.entry)))
         → private_told result ≢ refused Refusal.NoMemory }
     ensures plain { PlainReply result }
-    ensures none { AllSeats HasNone subs.new.entries }
+    ensures none { AllSlots HasNone subs.new.entries }
     ensures len { index_map_len subs.new ≡ index_map_len subs.old }
 {
     match subs.get_mut(&sub) {
         None => PrivateReply::Refused(Refusal::NoSuchSub),
-        Some(seat) => seat.grant_noted(key, config),
+        Some(slot) => slot.grant_noted(key, config),
     }
 }

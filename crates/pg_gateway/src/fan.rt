@@ -3,20 +3,20 @@
 ghost use Rattle.std.specs.Prelude.{◌≡◌, ◌≤◌, ℕ, List, vec_capacity, IfOk, IfErr, IsOk};
 ghost use Rattle.indexmap.specs.IndexMap.{index_map_len};
 ghost use Rattle.pg_gateway.specs.Related.{Related};
-ghost use Rattle.pg_gateway.specs.Sharing.{Seats};
-ghost use Rattle.pg_gateway.specs.Shown.{SeatShows};
+ghost use Rattle.pg_gateway.specs.Sharing.{SubscriberSlots};
+ghost use Rattle.pg_gateway.specs.Shown.{SlotShows};
 ghost use Rattle.pg_gateway.specs.Taking.{offered, IsRising, Awaits, HasNone, Fits, FansOut};
-ghost use Rattle.pg_gateway.specs.Frugal.{AllSeats, Spares};
+ghost use Rattle.pg_gateway.specs.Frugal.{AllSlots, Spares};
 
 use crate::event::Event;
-use crate::seat::Seat;
+use crate::slot::SubscriberSlot;
 use indexmap::IndexMap;
 use pg_wire::{Refusal, SubId};
 
 /// Each subscriber takes its share, in their order. Once a data frame found no memory, all later ones of the event are
 /// lost. It answers the frames made, and those of them that are kept.
 pub(crate) fn fan_out(
-    subs: &mut IndexMap<SubId, Seat>,
+    subs: &mut IndexMap<SubId, SubscriberSlot>,
     event: &Event,
     places: &[usize],
     held: &mut Vec<usize>,
@@ -24,10 +24,10 @@ pub(crate) fn fan_out(
     requires few { index_map_len subs.old ≤ 64 }
     requires rising { IsRising event.now places.now }
     requires room { 16 ≤ vec_capacity held.old }
-    requires awaits { AllSeats (Awaits (offered event.now places.now)) subs.old.entries }
-    ensures fans_out { (seats : Seats) → Related SeatShows subs.old.entries seats
-        → FansOut (offered event.now places.now) result.0 result.1 seats subs.new.entries }
-    ensures none { AllSeats HasNone subs.new.entries }
+    requires awaits { AllSlots (Awaits (offered event.now places.now)) subs.old.entries }
+    ensures fans_out { (slots : SubscriberSlots) → Related SlotShows subs.old.entries slots
+        → FansOut (offered event.now places.now) result.0 result.1 slots subs.new.entries }
+    ensures none { AllSlots HasNone subs.new.entries }
     ensures kept { result.1 ≤ result.0 }
     ensures len { index_map_len subs.new ≡ index_map_len subs.old }
     ensures room { 16 ≤ vec_capacity held.new }
@@ -52,20 +52,20 @@ pub(crate) fn fan_out(
 ///
 /// `NoMemory`, and then no copies lie ready.
 pub(crate) fn lay_copies(
-    subs: &mut IndexMap<SubId, Seat>,
+    subs: &mut IndexMap<SubId, SubscriberSlot>,
     event: &Event,
     places: &[usize],
     held: &mut Vec<usize>,
 ) -> Result<(), Refusal>
     requires rising { IsRising event.now places.now }
     requires room { 16 ≤ vec_capacity held.old }
-    requires none { AllSeats HasNone subs.old.entries }
-    requires fits { AllSeats (Fits (offered event.now places.now)) subs.old.entries }
-    ensures laid { IfOk result (λ u. AllSeats (Awaits (offered event.now places.now)) subs.new.entries) }
-    ensures none { IfErr result (λ refusal. AllSeats HasNone subs.new.entries) }
+    requires none { AllSlots HasNone subs.old.entries }
+    requires fits { AllSlots (Fits (offered event.now places.now)) subs.old.entries }
+    ensures laid { IfOk result (λ u. AllSlots (Awaits (offered event.now places.now)) subs.new.entries) }
+    ensures none { IfErr result (λ refusal. AllSlots HasNone subs.new.entries) }
     ensures memory { IfErr result (λ refusal. refusal ≡ Refusal.NoMemory) }
-    ensures needless { AllSeats (Spares (offered event.now places.now)) subs.old.entries → IsOk result }
-    ensures shows { (seats : Seats) → Related SeatShows subs.old.entries seats → Related SeatShows subs.new.entries seats }
+    ensures needless { AllSlots (Spares (offered event.now places.now)) subs.old.entries → IsOk result }
+    ensures shows { (slots : SubscriberSlots) → Related SlotShows subs.old.entries slots → Related SlotShows subs.new.entries slots }
     ensures len { index_map_len subs.new ≡ index_map_len subs.old }
     ensures room { 16 ≤ vec_capacity held.new }
 {
@@ -80,19 +80,19 @@ pub(crate) fn lay_copies(
 
 /// Each subscriber lays the copies that its share needs, as far as memory goes.
 fn lay_all(
-    subs: &mut IndexMap<SubId, Seat>,
+    subs: &mut IndexMap<SubId, SubscriberSlot>,
     event: &Event,
     places: &[usize],
     held: &mut Vec<usize>,
 ) -> Result<(), Refusal>
     requires rising { IsRising event.now places.now }
     requires room { 16 ≤ vec_capacity held.old }
-    requires none { AllSeats HasNone subs.old.entries }
-    requires fits { AllSeats (Fits (offered event.now places.now)) subs.old.entries }
-    ensures laid { IfOk result (λ u. AllSeats (Awaits (offered event.now places.now)) subs.new.entries) }
+    requires none { AllSlots HasNone subs.old.entries }
+    requires fits { AllSlots (Fits (offered event.now places.now)) subs.old.entries }
+    ensures laid { IfOk result (λ u. AllSlots (Awaits (offered event.now places.now)) subs.new.entries) }
     ensures memory { IfErr result (λ refusal. refusal ≡ Refusal.NoMemory) }
-    ensures needless { AllSeats (Spares (offered event.now places.now)) subs.old.entries → IsOk result }
-    ensures shows { (seats : Seats) → Related SeatShows subs.old.entries seats → Related SeatShows subs.new.entries seats }
+    ensures needless { AllSlots (Spares (offered event.now places.now)) subs.old.entries → IsOk result }
+    ensures shows { (slots : SubscriberSlots) → Related SlotShows subs.old.entries slots → Related SlotShows subs.new.entries slots }
     ensures len { index_map_len subs.new ≡ index_map_len subs.old }
     ensures room { 16 ≤ vec_capacity held.new }
 {
@@ -103,9 +103,9 @@ fn lay_all(
 }
 
 /// Each subscriber gives up the copies that lie ready.
-pub(crate) fn forget_all(subs: &mut IndexMap<SubId, Seat>)
-    ensures none { AllSeats HasNone subs.new.entries }
-    ensures shows { (seats : Seats) → Related SeatShows subs.old.entries seats → Related SeatShows subs.new.entries seats }
+pub(crate) fn forget_all(subs: &mut IndexMap<SubId, SubscriberSlot>)
+    ensures none { AllSlots HasNone subs.new.entries }
+    ensures shows { (slots : SubscriberSlots) → Related SlotShows subs.old.entries slots → Related SlotShows subs.new.entries slots }
     ensures len { index_map_len subs.new ≡ index_map_len subs.old }
 {
     for i in 0..subs.len() {

@@ -5,8 +5,8 @@ ghost use Rattle.std.specs.Map.{lookup};
 ghost use Rattle.std.specs.Option.{option_map_or};
 ghost use Rattle.pg_registry.specs.Registered.{has_source};
 ghost use Rattle.pg_gateway.specs.Occurrences.{occurrence, told};
-ghost use Rattle.pg_gateway.specs.Shared.{Shared, opening, seat_of, own_of};
-ghost use Rattle.pg_gateway.specs.Shown.{SeatValue, GatewayShows, Goes, IsWithinLimits};
+ghost use Rattle.pg_gateway.specs.State.{SharedMachine, opening, slot_of, own_of};
+ghost use Rattle.pg_gateway.specs.Shown.{SlotValue, GatewayShows, Goes, IsWithinLimits};
 ghost use Rattle.pg_gateway.specs.Alike.{LeavesAlike, TakesOwnBlocks};
 ghost use Rattle.pg_gateway.specs.Frugal.{Frugal};
 ghost use Rattle.pg_gateway.specs.Posting.{Answers};
@@ -16,7 +16,7 @@ ghost use Rattle.pg_gateway.specs.Routes.{KeepsRoutes};
 use crate::event::{Event, Reply};
 use crate::kernel::Kernel;
 use crate::routes::Routes;
-use crate::seat::announced;
+use crate::slot::announced;
 use pg_ring::OutQueue;
 use pg_wire::{PmuId, Refusal, SubId};
 use std::alloc::Global;
@@ -98,28 +98,28 @@ impl Gateway {
 
     /// Whether a subscriber is there.
     pub fn has_sub(&self, sub: SubId) -> bool
-        ensures value { (S : Shared) → GatewayShows self.now S → result ≡ is_some (seat_of sub S.subs) }
+        ensures value { (S : SharedMachine) → GatewayShows self.now S → result ≡ is_some (slot_of sub S.subs) }
     {
         self.kernel.has_sub(sub)
     }
 
     /// Whether a subscriber is there and connected.
     pub fn is_connected(&self, sub: SubId) -> bool
-        ensures value { (S : Shared) → GatewayShows self.now S → result ≡ option_map_or (λ p. p.connected) (own_of sub S) false }
+        ensures value { (S : SharedMachine) → GatewayShows self.now S → result ≡ option_map_or (λ p. p.connected) (own_of sub S) false }
     {
         self.kernel.is_connected(sub)
     }
 
     /// Whether a PMU of a source is registered. It looks through the keys.
     pub fn has_source(&self, source: PmuId) -> bool
-        ensures value { (S : Shared) → GatewayShows self.now S → result ≡ has_source S.pmus source }
+        ensures value { (S : SharedMachine) → GatewayShows self.now S → result ≡ has_source S.pmus source }
     {
         self.kernel.has_source(source)
     }
 
     /// Whether 256 PMUs are registered, so that there is no room for another.
     pub fn is_full(&self) -> bool
-        ensures value { (S : Shared) → GatewayShows self.now S → result ≡ nat_le 256 (length S.pmus) }
+        ensures value { (S : SharedMachine) → GatewayShows self.now S → result ≡ nat_le 256 (length S.pmus) }
     {
         self.kernel.is_full()
     }
@@ -127,7 +127,7 @@ impl Gateway {
     /// What waits to be handed out to a subscriber, where it is there.
     pub fn queue(&self, sub: SubId) -> Option<&OutQueue>
         ensures value { option_map (λ queue. queue.now) result
-            ≡ option_map (λ (s : SeatValue). s.subscriber.own.output.queue) (lookup (nat_eq sub) self.now.subs) }
+            ≡ option_map (λ (s : SlotValue). s.subscriber.own.output.queue) (lookup (nat_eq sub) self.now.subs) }
     {
         self.kernel.queue(sub)
     }

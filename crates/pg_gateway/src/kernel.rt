@@ -5,15 +5,15 @@ ghost use Rattle.indexmap.specs.IndexMap.{index_map_len, get};
 ghost use Rattle.pg_session.specs.Events.{announced_at, happening, drain};
 ghost use Rattle.pg_session.specs.Private.{told as private_told};
 ghost use Rattle.pg_gateway.specs.Related.{Related};
-ghost use Rattle.pg_gateway.specs.Sharing.{Seats, announces, revokes, ticks};
+ghost use Rattle.pg_gateway.specs.Sharing.{SubscriberSlots, announces, revokes, ticks};
 ghost use Rattle.pg_gateway.specs.Occurrences.{occurrence, told, tells, add_pmu, drop_pmu, add_sub, drop_sub, asks, tick, stats, pmu_stats, audit, standing, announce, measure, grant};
 ghost use Rattle.std.specs.Map.{lookup};
 ghost use Rattle.std.specs.Option.{option_map_or};
 ghost use Rattle.pg_registry.specs.Registered.{has_source};
-ghost use Rattle.pg_gateway.specs.Shared.{Shared, added, noted_as, seat_of, own_of};
-ghost use Rattle.pg_gateway.specs.Shown.{SeatShows, SeatValue, GatewayShows, Goes, IsWithinLimits};
+ghost use Rattle.pg_gateway.specs.State.{SharedMachine, added, noted_as, slot_of, own_of};
+ghost use Rattle.pg_gateway.specs.Shown.{SlotShows, SlotValue, GatewayShows, Goes, IsWithinLimits};
 ghost use Rattle.pg_gateway.specs.Taking.{offered, IsRising, AsksNothing, HasNone, measured};
-ghost use Rattle.pg_gateway.specs.Frugal.{AllSeats, Frugal};
+ghost use Rattle.pg_gateway.specs.Frugal.{AllSlots, Frugal};
 ghost use Rattle.pg_gateway.specs.Posting.{IsPlain, KeepsBuffer};
 ghost use Rattle.pg_gateway.specs.Taking.{MayCopy};
 ghost use Rattle.pg_gateway.specs.Consistent.{IsReached};
@@ -31,7 +31,7 @@ use crate::event::{Event, Reply};
 use crate::fan::fan_out;
 use crate::marked::{fan_out_marked, lay_copies_marked};
 use crate::routes::Routes;
-use crate::seat::{Seat, announced};
+use crate::slot::{SubscriberSlot, announced};
 use circular_buffer::HeapCircularBuffer;
 use indexmap::IndexMap;
 use pg_audit::What;
@@ -59,7 +59,7 @@ const MOST_BLOCKS: usize = 16;
 pub(crate) struct Kernel {
     alloc: Global,
     registry: Registry,
-    subs: IndexMap<SubId, Seat>,
+    subs: IndexMap<SubId, SubscriberSlot>,
     last_tick: Option<u32>,
     // Room for the places of a frame's blocks: those that were taken, and of them those that a subscriber holds.
     taken: Vec<usize>,
@@ -75,13 +75,13 @@ impl Model for Kernel {
     ghost use Rattle.indexmap.specs.IndexMap.{index_map_len};
     ghost use Rattle.pg_gateway.specs.Shown.{GatewayValue};
     ghost use Rattle.pg_gateway.specs.Taking.{HasNone};
-    ghost use Rattle.pg_gateway.specs.Frugal.{AllSeats};
+    ghost use Rattle.pg_gateway.specs.Frugal.{AllSlots};
 
     ghost Value = { GatewayValue };
 
     ghost view = { λ g. record { pmus = g.registry; subs = g.subs.entries; last_tick = g.last_tick } };
 
-    ghost invariant = { λ g. (index_map_len g.subs ≤ 64) × AllSeats HasNone g.subs.entries × (16 ≤ vec_capacity g.taken) × (16 ≤ vec_capacity g.held) × (16 ≤ vec_capacity g.judged) × (g.copies.capacity ≡ 16) };
+    ghost invariant = { λ g. (index_map_len g.subs ≤ 64) × AllSlots HasNone g.subs.entries × (16 ≤ vec_capacity g.taken) × (16 ≤ vec_capacity g.held) × (16 ≤ vec_capacity g.judged) × (g.copies.capacity ≡ 16) };
 }
 
 impl Kernel {
@@ -159,18 +159,18 @@ impl Kernel {
 
     /// Whether a subscriber is there.
     pub(crate) fn has_sub(&self, sub: SubId) -> bool
-        ensures value { (S : Shared) → GatewayShows self.now S → result ≡ is_some (seat_of sub S.subs) }
+        ensures value { (S : SharedMachine) → GatewayShows self.now S → result ≡ is_some (slot_of sub S.subs) }
     {
         self.subs.contains_key(&sub)
     }
 
     /// Whether a subscriber is there and connected.
     pub(crate) fn is_connected(&self, sub: SubId) -> bool
-        ensures value { (S : Shared) → GatewayShows self.now S → result ≡ option_map_or (λ p. p.connected) (own_of sub S) false }
+        ensures value { (S : SharedMachine) → GatewayShows self.now S → result ≡ option_map_or (λ p. p.connected) (own_of sub S) false }
     {
         match self.subs.get(&sub) {
             None => false,
-            Some(seat) => seat.subscriber.is_connected(),
+            Some(slot) => slot.subscriber.is_connected(),
         }
     }
 
@@ -191,11 +191,11 @@ impl Kernel {
     /// What waits to be handed out to a subscriber, where it is there.
     pub(crate) fn queue(&self, sub: SubId) -> Option<&OutQueue>
         ensures value { option_map (λ queue. queue.now) result
-            ≡ option_map (λ (s : SeatValue). s.subscriber.own.output.queue) (lookup (nat_eq sub) self.now.subs) }
+            ≡ option_map (λ (s : SlotValue). s.subscriber.own.output.queue) (lookup (nat_eq sub) self.now.subs) }
     {
         match self.subs.get(&sub) {
             None => None,
-            Some(seat) => Some(seat.subscriber.queue()),
+            Some(slot) => Some(slot.subscriber.queue()),
         }
     }
 
@@ -394,7 +394,7 @@ impl Kernel {
     {
         match self.subs.get(&sub) {
             None => Reply::Refused(Refusal::NoSuchSub),
-            Some(seat) => Reply::Stats(*seat.stats()),
+            Some(slot) => Reply::Stats(*slot.stats()),
         }
     }
 
@@ -416,7 +416,7 @@ impl Kernel {
     {
         match self.subs.get(&sub) {
             None => Reply::Refused(Refusal::NoSuchSub),
-            Some(seat) => Reply::Audit(seat.noted(index)),
+            Some(slot) => Reply::Audit(slot.noted(index)),
         }
     }
 
@@ -427,7 +427,7 @@ impl Kernel {
     {
         match self.subs.get(&sub) {
             None => Reply::Refused(Refusal::NoSuchSub),
-            Some(seat) => Reply::Standing(seat.standing(place)),
+            Some(slot) => Reply::Standing(slot.standing(place)),
         }
     }
 }

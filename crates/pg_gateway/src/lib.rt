@@ -15,7 +15,7 @@ mod laws;
 mod machine;
 mod marked;
 mod routes;
-mod seat;
+mod slot;
 
 pub use edit::Edit;
 pub use event::{Event, Reply};

@@ -1,4 +1,4 @@
-//! The gateway as a machine that seats share, and as a gate.
+//! The gateway as a machine that slots share, and as a gate.
 
 ghost use Rattle.std.specs.Prelude.{[], ◌∷◌, None};
 ghost use Rattle.pg_gateway.specs.Occurrences.{occurrence, told};

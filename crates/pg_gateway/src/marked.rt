@@ -3,21 +3,21 @@
 ghost use Rattle.std.specs.Prelude.{◌≡◌, ◌≤◌, ℕ, List, vec_capacity, IfOk, IfErr, IsOk};
 ghost use Rattle.indexmap.specs.IndexMap.{index_map_len};
 ghost use Rattle.pg_gateway.specs.Related.{Related};
-ghost use Rattle.pg_gateway.specs.Sharing.{Seats};
-ghost use Rattle.pg_gateway.specs.Shown.{SeatShows};
+ghost use Rattle.pg_gateway.specs.Sharing.{SubscriberSlots};
+ghost use Rattle.pg_gateway.specs.Shown.{SlotShows};
 ghost use Rattle.pg_gateway.specs.Taking.{offered, IsRising, Awaits, HasNone, Fits, FansOut};
-ghost use Rattle.pg_gateway.specs.Frugal.{AllSeats, Spares};
+ghost use Rattle.pg_gateway.specs.Frugal.{AllSlots, Spares};
 ghost use Rattle.pg_gateway.specs.Routes.{WhereBit, HasBits, IsPassed};
 
 use crate::event::Event;
 use crate::fan::forget_all;
-use crate::seat::Seat;
+use crate::slot::SubscriberSlot;
 use indexmap::IndexMap;
 use pg_wire::{Refusal, SubId};
 
 /// Each marked subscriber takes its share, in their order. The event is nothing to the others.
 pub(crate) fn fan_out_marked(
-    subs: &mut IndexMap<SubId, Seat>,
+    subs: &mut IndexMap<SubId, SubscriberSlot>,
     marks: u64,
     event: &Event,
     places: &[usize],
@@ -30,9 +30,9 @@ pub(crate) fn fan_out_marked(
     requires awaits { WhereBit 1 marks (Awaits (offered event.now places.now)) subs.old.entries }
     requires passed { WhereBit 0 marks (IsPassed (offered event.now places.now)) subs.old.entries }
     requires none { WhereBit 0 marks HasNone subs.old.entries }
-    ensures fans_out { (seats : Seats) → Related SeatShows subs.old.entries seats
-        → FansOut (offered event.now places.now) result.0 result.1 seats subs.new.entries }
-    ensures none { AllSeats HasNone subs.new.entries }
+    ensures fans_out { (slots : SubscriberSlots) → Related SlotShows subs.old.entries slots
+        → FansOut (offered event.now places.now) result.0 result.1 slots subs.new.entries }
+    ensures none { AllSlots HasNone subs.new.entries }
     ensures kept { result.1 ≤ result.0 }
     ensures len { index_map_len subs.new ≡ index_map_len subs.old }
     ensures room { 16 ≤ vec_capacity held.new }
@@ -60,7 +60,7 @@ pub(crate) fn fan_out_marked(
 ///
 /// `NoMemory`, and then no copies lie ready.
 pub(crate) fn lay_copies_marked(
-    subs: &mut IndexMap<SubId, Seat>,
+    subs: &mut IndexMap<SubId, SubscriberSlot>,
     marks: u64,
     event: &Event,
     places: &[usize],
@@ -69,16 +69,16 @@ pub(crate) fn lay_copies_marked(
     requires bits { HasBits (index_map_len subs.old) marks }
     requires rising { IsRising event.now places.now }
     requires room { 16 ≤ vec_capacity held.old }
-    requires none { AllSeats HasNone subs.old.entries }
-    requires fits { AllSeats (Fits (offered event.now places.now)) subs.old.entries }
+    requires none { AllSlots HasNone subs.old.entries }
+    requires fits { AllSlots (Fits (offered event.now places.now)) subs.old.entries }
     requires passed { WhereBit 0 marks (IsPassed (offered event.now places.now)) subs.old.entries }
     ensures laid { IfOk result (λ u. WhereBit 1 marks (Awaits (offered event.now places.now)) subs.new.entries) }
     ensures passed { IfOk result (λ u. WhereBit 0 marks (IsPassed (offered event.now places.now)) subs.new.entries) }
     ensures passed_none { IfOk result (λ u. WhereBit 0 marks HasNone subs.new.entries) }
-    ensures none { IfErr result (λ refusal. AllSeats HasNone subs.new.entries) }
+    ensures none { IfErr result (λ refusal. AllSlots HasNone subs.new.entries) }
     ensures memory { IfErr result (λ refusal. refusal ≡ Refusal.NoMemory) }
-    ensures needless { AllSeats (Spares (offered event.now places.now)) subs.old.entries → IsOk result }
-    ensures shows { (seats : Seats) → Related SeatShows subs.old.entries seats → Related SeatShows subs.new.entries seats }
+    ensures needless { AllSlots (Spares (offered event.now places.now)) subs.old.entries → IsOk result }
+    ensures shows { (slots : SubscriberSlots) → Related SlotShows subs.old.entries slots → Related SlotShows subs.new.entries slots }
     ensures len { index_map_len subs.new ≡ index_map_len subs.old }
     ensures room { 16 ≤ vec_capacity held.new }
 {
@@ -93,7 +93,7 @@ pub(crate) fn lay_copies_marked(
 
 /// Each marked subscriber lays the copies that its share needs, as far as memory goes.
 fn lay_marked(
-    subs: &mut IndexMap<SubId, Seat>,
+    subs: &mut IndexMap<SubId, SubscriberSlot>,
     marks: u64,
     event: &Event,
     places: &[usize],
@@ -102,15 +102,15 @@ fn lay_marked(
     requires bits { HasBits (index_map_len subs.old) marks }
     requires rising { IsRising event.now places.now }
     requires room { 16 ≤ vec_capacity held.old }
-    requires none { AllSeats HasNone subs.old.entries }
-    requires fits { AllSeats (Fits (offered event.now places.now)) subs.old.entries }
+    requires none { AllSlots HasNone subs.old.entries }
+    requires fits { AllSlots (Fits (offered event.now places.now)) subs.old.entries }
     requires passed { WhereBit 0 marks (IsPassed (offered event.now places.now)) subs.old.entries }
     ensures laid { IfOk result (λ u. WhereBit 1 marks (Awaits (offered event.now places.now)) subs.new.entries) }
     ensures passed { IfOk result (λ u. WhereBit 0 marks (IsPassed (offered event.now places.now)) subs.new.entries) }
     ensures passed_none { IfOk result (λ u. WhereBit 0 marks HasNone subs.new.entries) }
     ensures memory { IfErr result (λ refusal. refusal ≡ Refusal.NoMemory) }
-    ensures needless { AllSeats (Spares (offered event.now places.now)) subs.old.entries → IsOk result }
-    ensures shows { (seats : Seats) → Related SeatShows subs.old.entries seats → Related SeatShows subs.new.entries seats }
+    ensures needless { AllSlots (Spares (offered event.now places.now)) subs.old.entries → IsOk result }
+    ensures shows { (slots : SubscriberSlots) → Related SlotShows subs.old.entries slots → Related SlotShows subs.new.entries slots }
     ensures len { index_map_len subs.new ≡ index_map_len subs.old }
     ensures room { 16 ≤ vec_capacity held.new }
 {

@@ -7,7 +7,7 @@ ghost use Rattle.indexmap.specs.IndexMap.{index_map_len};
 ghost use Rattle.pg_entitle.specs.Grants.{has_key};
 ghost use Rattle.pg_gateway.specs.Routes.{IsMask, AreMasks, AreRoutes};
 
-use crate::seat::Seat;
+use crate::slot::SubscriberSlot;
 use indexmap::IndexMap;
 use pg_registry::Registry;
 use pg_wire::{PmuKey, Refusal, SubId};
@@ -63,14 +63,14 @@ fn with_mask(marks: u64, mask: u64, on: bool) -> u64
 }
 
 /// Whether a subscriber holds a PMU.
-fn is_holder(seat: &Seat, key: &PmuKey) -> bool
-    ensures value { result ≡ has_key seat.now.subscriber.own.grants key.now }
+fn is_holder(slot: &SubscriberSlot, key: &PmuKey) -> bool
+    ensures value { result ≡ has_key slot.now.subscriber.own.grants key.now }
 {
-    seat.subscriber.holds(*key)
+    slot.subscriber.holds(*key)
 }
 
 /// The subscribers that hold a PMU.
-fn mask_of(key: &PmuKey, subs: &IndexMap<SubId, Seat>) -> u64
+fn mask_of(key: &PmuKey, subs: &IndexMap<SubId, SubscriberSlot>) -> u64
     requires few { index_map_len subs.now ≤ 64 }
     ensures mask { IsMask subs.now.entries key.now result }
 {
@@ -104,7 +104,7 @@ impl Routes {
     }
 
     /// Finds them anew where they are not fresh.
-    pub(crate) fn refresh(&mut self, registry: &Registry, subs: &IndexMap<SubId, Seat>)
+    pub(crate) fn refresh(&mut self, registry: &Registry, subs: &IndexMap<SubId, SubscriberSlot>)
         requires few { index_map_len subs.now ≤ 64 }
         requires routes { AreRoutes subs.now.entries registry.now self.old }
         ensures masks { AreMasks subs.now.entries (keys_of registry.now) self.new.masks }
@@ -116,7 +116,7 @@ impl Routes {
     }
 
     /// Finds them anew.
-    fn recompute(&mut self, registry: &Registry, subs: &IndexMap<SubId, Seat>)
+    fn recompute(&mut self, registry: &Registry, subs: &IndexMap<SubId, SubscriberSlot>)
         requires few { index_map_len subs.now ≤ 64 }
         ensures masks { AreMasks subs.now.entries (keys_of registry.now) self.new.masks }
     {

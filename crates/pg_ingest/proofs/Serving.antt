@@ -14,7 +14,7 @@ use Rattle.pg_ingest.specs.declared.run.End.TheVariants.{Closed, Quiet, Stalled,
 use Rattle.pg_ingest.specs.Items.{Item, AreTold}
 use Rattle.pg_ingest.specs.Commands.{Act, tells, asks, told_in, is_accepted, is_start, is_question, owes_config, owes_start, owed_word}
 use Rattle.pg_ingest.specs.Linking.{Linking}
-use Rattle.pg_ingest.specs.Shown.{LinkPast, Shows, IsAllTold, feeding, doing, word_due}
+use Rattle.pg_ingest.specs.Shown.{LinkPast, ShowsLink, IsAllTold, feeding, doing, word_due}
 use Rattle.pg_ingest.specs.Runs.{Step, begins, reads, posts, stepping, after_steps, AreSteps, bytes_of, events_of, events_told, frame_of, Wires, RanFrom}
 use Rattle.pg_ingest.specs.Ends.{is_cut, LastRead, Why, TookAll, Ends}
 use Rattle.pg_ingest.specs.Served.{IsFresh, EndsDry, IsCall, SoFar, Turn, bytes_read, items_read, words_due, turning, AreTurns, after_turns, commands_in, frames_of, Served}
@@ -405,7 +405,7 @@ ends_last Quiet turns left r past steps ends some uncut = by ends.why
 ends_last Stalled turns left r past steps ends some uncut = let last = ends.last uncut some in (last.0, tt, last.1)
 ends_last (Fault n) turns left r past steps ends some uncut = let last = ends.last uncut some in (last.0, tt, last.1)
 
-pub first_call : (end : End) (turns : ℕ) (past : LinkPast) (v v' : Linking) (before after : Wires) → 0 < turns → Shows v past → v.left ≡ []
+pub first_call : (end : End) (turns : ℕ) (past : LinkPast) (v v' : Linking) (before after : Wires) → 0 < turns → ShowsLink v past → v.left ≡ []
     → IsCall end turns v v' before after → SoFar end past v' before after
 first_call end turns past v v' before after some shows empty call =
     let a = subst (λ left. (x : RanFrom past left v' before after) × Ends end turns v'.left after.unread past x.steps) empty (call.ran past shows) in

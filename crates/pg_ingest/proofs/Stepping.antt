@@ -12,7 +12,7 @@ use Rattle.pg_ingest.specs.Items.{Item, announces, measures, skips, rejects_conf
 use Rattle.pg_ingest.specs.Begun.{Begins}
 use Rattle.pg_ingest.specs.Commands.{tells}
 use Rattle.pg_ingest.specs.Linking.{Linking}
-use Rattle.pg_ingest.specs.Shown.{LinkPast, Shows, IsAllTold, doing}
+use Rattle.pg_ingest.specs.Shown.{LinkPast, ShowsLink, IsAllTold, doing}
 use Rattle.pg_ingest.specs.Runs.{Step, begins, reads, posts, stepping, after_steps, MayStep, AreSteps, bytes_of, events_of, events_told, frame_of, event_posted, wires, RanFrom, Ran, RanOn}
 use Rattle.pg_ingest.proofs.Known.{notes_nil, notes_more, appends_nil, appends_more, consumes_nil, consumes_more}
 
@@ -44,7 +44,7 @@ source_stays past [] = refl
 source_stays past (s ∷ a) = source_stays (stepping past s) a ∙ source_same past s
 
 -- nothing but a write of what was left
-pub from_wrote : (past : LinkPast) (left : List ℕ) (v' : Linking) (r w w' : Bytes) (p : Calls) (out : List ℕ) → Appends w w' out → out ++ v'.left ≡ left → Shows v' past
+pub from_wrote : (past : LinkPast) (left : List ℕ) (v' : Linking) (r w w' : Bytes) (p : Calls) (out : List ℕ) → Appends w w' out → out ++ v'.left ≡ left → ShowsLink v' past
     → Did [] past left v' r r w w' p p
 from_wrote past left v' r w w' p out wrote is shows = (
   record {
@@ -63,7 +63,7 @@ from_wrote past left v' r w w' p out wrote is shows = (
 )
 
 -- one step that writes nothing by itself
-pub from_step : (past : LinkPast) (left : List ℕ) (v' : Linking) (r r' w : Bytes) (p p' : Calls) (step : Step) (calls : List Posted) → MayStep past step → Shows v' (stepping past step)
+pub from_step : (past : LinkPast) (left : List ℕ) (v' : Linking) (r r' w : Bytes) (p p' : Calls) (step : Step) (calls : List Posted) → MayStep past step → ShowsLink v' (stepping past step)
     → Consumes r r' (bytes_of step) → Notes p p' calls → map event_posted calls ≡ events_of step → v'.left ≡ left ++ frame_of past.source step
     → Did (step ∷ []) past left v' r r' w w p p'
 from_step past left v' r r' w p p' step calls may shows read posted events is = (
@@ -92,7 +92,7 @@ from_more past left v' v'' r r' r'' w w' w'' p p' p'' a b =
       record {
         steps = a.steps ++ b.steps;
         are = are-append past a.steps b.steps a.are b.are;
-        shows = subst (Shows v'') (sym (after-append past a.steps b.steps)) b.shows;
+        shows = subst (ShowsLink v'') (sym (after-append past a.steps b.steps)) b.shows;
         read = subst (Consumes r r'') (sym (flat_map-append bytes_of a.steps b.steps)) (consumes_more r r' r'' _ _ a.read b.read);
         calls = a.calls ++ b.calls;
         posted = notes_more p p' p'' a.calls b.calls a.posted b.posted;
@@ -150,14 +150,14 @@ abbrev pub Nothing : LinkPast → List Step → Type 0
 Nothing past steps = steps ≡ []
 
 pub ran_wrote : (v v' : Linking) (r w w' : Bytes) (p : Calls) (out : List ℕ) → Appends w w' out → out ++ v'.left ≡ v.left
-    → ((past : LinkPast) → Shows v past → Shows v' past) → Ran Nothing v v' (wires r w p) (wires r w' p)
+    → ((past : LinkPast) → ShowsLink v past → ShowsLink v' past) → Ran Nothing v v' (wires r w p) (wires r w' p)
 ran_wrote v v' r w w' p out wrote is keeps past shows = from_wrote past v.left v' r w w' p out wrote is (keeps past shows)
 
 pub ran_nothing : (v : Linking) (r w : Bytes) (p : Calls) → Ran Nothing v v (wires r w p) (wires r w p)
 ran_nothing v r w p = ran_wrote v v r w w p [] (appends_nil w) refl (λ past shows. shows)
 
 -- what was told was posted
-pub from_told : (past : LinkPast) (v v' : Linking) (r w : Bytes) (p p' : Calls) (item : Item) (call : Posted) → Shows v' (doing past (tells item))
+pub from_told : (past : LinkPast) (v v' : Linking) (r w : Bytes) (p p' : Calls) (item : Item) (call : Posted) → ShowsLink v' (doing past (tells item))
     → Notes p p' (call ∷ []) → events_told item ≡ event_posted call ∷ [] → v'.left ≡ v.left → Did (posts item ∷ []) past v.left v' r r w w p p'
 from_told past v v' r w p p' item call told posted is left =
     from_step past v.left v' r r w p p' (posts item) (call ∷ []) tt told (consumes_nil r) posted (sym is) (left ∙ sym (append-nil v.left))
@@ -172,7 +172,7 @@ no_event passes_over r h = refl
 
 -- a frame was ignored
 pub from_ignored : (past : LinkPast) (v v' : Linking) (r w : Bytes) (p : Calls) (refusal : Refusal) (item : Item) → reason_of item ≡ Some refusal
-    → Shows v' (doing past (tells item)) → v'.left ≡ v.left → Did (posts item ∷ []) past v.left v' r r w w p p
+    → ShowsLink v' (doing past (tells item)) → v'.left ≡ v.left → Did (posts item ∷ []) past v.left v' r r w w p p
 from_ignored past v v' r w p refusal item reason told left =
     from_step past v.left v' r r w p p (posts item) [] tt told (consumes_nil r) (notes_nil p) (sym (no_event item refusal reason)) (left ∙ sym (append-nil v.left))
 
@@ -183,8 +183,8 @@ from_begun past v v' r w p empty told given =
     from_step past v.left v' r r w p p (begins given.0) [] (told, given.1) given.2 (consumes_nil r) (notes_nil p) refl (given.3 ∙ ap (λ x. x ++ written past.source 0 (word_number given.0)) (sym empty))
 
 -- what is left to write is no part of what a link shows
-pub left_unshown : (v v' : Linking) (past : LinkPast) → v' ≡ record v { left = v'.left } → Shows v past → Shows v' past
-left_unshown v v' past same shows = subst (λ x. Shows x past) (sym same) (record {
+pub left_unshown : (v v' : Linking) (past : LinkPast) → v' ≡ record v { left = v'.left } → ShowsLink v past → ShowsLink v' past
+left_unshown v v' past same shows = subst (λ x. ShowsLink x past) (sym same) (record {
   source = shows.source;
   frames = shows.frames;
   bytes = shows.bytes;

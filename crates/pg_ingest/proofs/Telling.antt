@@ -21,8 +21,8 @@ use Rattle.pg_ingest.specs.Items.{Item, Tells, announced_last, known_after, brea
 use Rattle.pg_ingest.specs.Commands.{Act, tells, asks, told_in}
 use Rattle.pg_ingest.specs.Linking.{Linking, ignoring, with_item, with_items, stats_of, after_item}
 use Rattle.pg_ingest.specs.Asked.{asking_of, asking_after, asking_less, next_word}
-use Rattle.pg_ingest.specs.Shown.{LinkPast, Shows, IsAllTold, doing, told_before, command_due, commanding, word_due}
-use Rattle.pg_ingest.specs.Links.{IsEventOf, GivesOf, Counts}
+use Rattle.pg_ingest.specs.Shown.{LinkPast, ShowsLink, IsAllTold, doing, told_before, command_due, commanding, word_due}
+use Rattle.pg_ingest.specs.Links.{IsEventOf, GivesEventOf, Counts}
 use Rattle.pg_ingest.proofs.Owing.{asking_told, asking_given, word_owed}
 
 pub told_in-append : (acts more : List Act) → told_in (acts ++ more) ≡ told_in acts ++ told_in more
@@ -42,9 +42,9 @@ told_one_more : (past : LinkPast) (item : Item) → told_before (doing past (tel
 told_one_more past item = ap reverse (told_in-append past.acts (tells item ∷ [])) ∙ reverse-last (told_in past.acts) item
 
 -- a frame's item was told
-pub item_shown : (old new : Linking) (bytes : Deframing) (past : LinkPast) (frame : List ℕ) (item : Item) (shows : Shows old past)
-    → Tells old.source old.known frame item → wire.Shows bytes past.stream (shows.frames ++ frame ∷ [])
-    → new ≡ after_item (record old { bytes = bytes }) item → Shows new (doing past (tells item))
+pub item_shown : (old new : Linking) (bytes : Deframing) (past : LinkPast) (frame : List ℕ) (item : Item) (shows : ShowsLink old past)
+    → Tells old.source old.known frame item → wire.ShowsStream bytes past.stream (shows.frames ++ frame ∷ [])
+    → new ≡ after_item (record old { bytes = bytes }) item → ShowsLink new (doing past (tells item))
 item_shown old new bytes past frame item shows tells_it given is = record {
   source = ap (λ (v : Linking). v.source) is ∙ shows.source;
   frames = shows.frames ++ frame ∷ [];
@@ -58,9 +58,9 @@ item_shown old new bytes past frame item shows tells_it given is = record {
 }
 
 -- the event that is given of an item
-pub event_given : (new : Linking) (past : LinkPast) (event : LinkEvent) (item : Item) → IsEventOf event item → Shows new (doing past (tells item)) → GivesOf past event new
-event_given new past (Announce config) item is shows = subst (λ (i : Item). Shows new (doing past (tells i))) is shows
-event_given new past (Measure frame) item is shows = subst (λ (i : Item). Shows new (doing past (tells i))) is shows
+pub event_given : (new : Linking) (past : LinkPast) (event : LinkEvent) (item : Item) → IsEventOf event item → ShowsLink new (doing past (tells item)) → GivesEventOf past event new
+event_given new past (Announce config) item is shows = subst (λ (i : Item). ShowsLink new (doing past (tells i))) is shows
+event_given new past (Measure frame) item is shows = subst (λ (i : Item). ShowsLink new (doing past (tells i))) is shows
 event_given new past (Ignored r) item is shows = (item, is, shows)
 event_given new past (Ended r) item is shows = absurd is
 event_given new past More item is shows = absurd is
@@ -70,9 +70,9 @@ pub skip_told : (source : ℕ) (known : Option Source) (frame : List ℕ) (r : R
 skip_told source known frame r is = inl (sym (ap (λ o. item_unless o source known frame) is))
 
 -- all frames were told, and this is the break behind them
-pub ended : (old new : Linking) (past : LinkPast) (rest : List ℕ) (broken : Option Refusal) (shows : Shows old past)
-    → Splits past.stream shows.frames rest → break_of rest ≡ broken → wire.Shows new.bytes past.stream shows.frames
-    → new ≡ record old { bytes = new.bytes } → IsAllTold past × (break_in past.stream ≡ broken) × Shows new past
+pub ended : (old new : Linking) (past : LinkPast) (rest : List ℕ) (broken : Option Refusal) (shows : ShowsLink old past)
+    → Splits past.stream shows.frames rest → break_of rest ≡ broken → wire.ShowsStream new.bytes past.stream shows.frames
+    → new ≡ record old { bytes = new.bytes } → IsAllTold past × (break_in past.stream ≡ broken) × ShowsLink new past
 ended old new past rest broken shows split broke bytes is =
     let only = frames_in-only past.stream shows.frames rest split in (
       rw (← only.0) shows.told,
@@ -102,8 +102,8 @@ same_told past = told_in-append past.acts (option_to_list (option_map asks (word
     ∙ append-nil (told_in past.acts)
 
 -- the command that is owed was given, if any
-pub command_shown : (old : Linking) (asking : Asking) (past : LinkPast) → Shows old past → asking ≡ asking_less old.asking
-    → Shows (record old { asking = asking }) (commanding past)
+pub command_shown : (old : Linking) (asking : Asking) (past : LinkPast) → ShowsLink old past → asking ≡ asking_less old.asking
+    → ShowsLink (record old { asking = asking }) (commanding past)
 command_shown old asking past shows is =
     let same = same_told past in
     record {
@@ -119,7 +119,7 @@ command_shown old asking past shows is =
     }
 
 -- the frame of the command that is owed
-pub command_framed : (old : Linking) (past : LinkPast) (word : Option Word) → Shows old past → word ≡ next_word old.asking
+pub command_framed : (old : Linking) (past : LinkPast) (word : Option Word) → ShowsLink old past → word ≡ next_word old.asking
     → option_map (λ w. written old.source 0 (word_number w)) word ≡ command_due past
 command_framed old past word shows is =
     ap₂ (λ source w. option_map (λ w. written source 0 (word_number w)) w) shows.source

@@ -15,7 +15,7 @@ use Rattle.pg_ingest.specs.declared.run.End.TheVariants.{Closed, Quiet, Stalled,
 use Rattle.pg_ingest.specs.Items.{Item, AreTold, break_in, reason_of}
 use Rattle.pg_ingest.specs.Commands.{tells, asks, told_in}
 use Rattle.pg_ingest.specs.Linking.{Linking}
-use Rattle.pg_ingest.specs.Shown.{LinkPast, Shows, IsAllTold, feeding, doing, word_due}
+use Rattle.pg_ingest.specs.Shown.{LinkPast, ShowsLink, IsAllTold, feeding, doing, word_due}
 use Rattle.pg_wire.specs.Split.{frames_in}
 use Rattle.pg_gateway.specs.Posting.{Posted as Call, Notes}
 use Rattle.pg_ingest.specs.Begun.{Begins}
@@ -104,14 +104,14 @@ pub posted_none : (past : LinkPast) (a : List Step) → a ≡ [] → Posted past
 posted_none past a is = ([], is)
 
 -- a command was begun
-pub ran_begun : (v v' : Linking) (r w : Bytes) (p : Calls) → v.left ≡ [] → ((past : LinkPast) → Shows v past → Begins past v' true) → RanOn Begun v v' (wires r w p) (wires r w p)
+pub ran_begun : (v v' : Linking) (r w : Bytes) (p : Calls) → v.left ≡ [] → ((past : LinkPast) → ShowsLink v past → Begins past v' true) → RanOn Begun v v' (wires r w p) (wires r w p)
 ran_begun v v' r w p empty gives past shows told =
     let given = gives past shows in
     let did = from_begun past v v' r w p empty told given in
     (did.0, (given.0 ∷ [], did.1))
 
 -- what was told was posted
-pub ran_told : (v v' : Linking) (r w : Bytes) (p p' : Calls) (item : Item) (call : Call) → ((past : LinkPast) → Shows v past → Shows v' (doing past (tells item)))
+pub ran_told : (v v' : Linking) (r w : Bytes) (p p' : Calls) (item : Item) (call : Call) → ((past : LinkPast) → ShowsLink v past → ShowsLink v' (doing past (tells item)))
     → Notes p p' (call ∷ []) → events_told item ≡ event_posted call ∷ [] → v'.left ≡ v.left → Ran Posted v v' (wires r w p) (wires r w p')
 ran_told v v' r w p p' item call told posted is left past shows =
     let did = from_told past v v' r w p p' item call (told past shows) posted is left in
@@ -119,7 +119,7 @@ ran_told v v' r w p p' item call told posted is left past shows =
 
 -- a frame was ignored
 pub ran_ignored : (v v' : Linking) (r w : Bytes) (p : Calls) (refusal : Refusal)
-    → ((past : LinkPast) → Shows v past → (item : Item) × (reason_of item ≡ Some refusal) × Shows v' (doing past (tells item))) → v'.left ≡ v.left → Ran Posted v v' (wires r w p) (wires r w p)
+    → ((past : LinkPast) → ShowsLink v past → (item : Item) × (reason_of item ≡ Some refusal) × ShowsLink v' (doing past (tells item))) → v'.left ≡ v.left → Ran Posted v v' (wires r w p) (wires r w p)
 ran_ignored v v' r w p refusal gives left past shows =
     let given = gives past shows in
     let did = from_ignored past v v' r w p refusal given.0 given.1 given.2 left in
@@ -127,7 +127,7 @@ ran_ignored v v' r w p refusal gives left past shows =
 
 -- the events were told, and there are no more
 pub ran_told_all : (v v' v'' : Linking) (r w : Bytes) (p p' : Calls) (broken : Option Refusal) → Ran Posted v v' (wires r w p) (wires r w p')
-    → ((past : LinkPast) → Shows v' past → IsAllTold past × (break_in past.stream ≡ broken) × Shows v'' past) → v''.left ≡ v'.left → Ran (TellsAll broken) v v'' (wires r w p) (wires r w p')
+    → ((past : LinkPast) → ShowsLink v' past → IsAllTold past × (break_in past.stream ≡ broken) × ShowsLink v'' past) → v''.left ≡ v'.left → Ran (TellsAll broken) v v'' (wires r w p) (wires r w p')
 ran_told_all v v' v'' r w p p' broken first gives left past shows =
     let a = first past shows in
     let now = after_steps past a.0.steps in
@@ -144,8 +144,8 @@ Completes piece broken past steps =
     LastRead piece steps × (pieces_in steps ≡ piece ∷ []) × IsAllTold (after_steps past steps) × (break_after past steps ≡ broken)
 
 pub turn_done : (v v1 v2 v3 : Linking) (r r' w w' : Bytes) (p p' : Calls) (piece : List ℕ) (broken : Option Refusal)
-    → RanOn Begun v v1 (wires r w p) (wires r w' p) → ((past : LinkPast) → Shows v1 past → word_due past ≡ None)
-    → length piece ≤ 4096 → Consumes r r' piece → ((past : LinkPast) → Shows v1 past → Shows v2 (feeding past piece)) → v2.left ≡ v1.left
+    → RanOn Begun v v1 (wires r w p) (wires r w' p) → ((past : LinkPast) → ShowsLink v1 past → word_due past ≡ None)
+    → length piece ≤ 4096 → Consumes r r' piece → ((past : LinkPast) → ShowsLink v1 past → ShowsLink v2 (feeding past piece)) → v2.left ≡ v1.left
     → Ran (TellsAll broken) v2 v3 (wires r' w' p) (wires r' w' p') → RanOn (Completes piece broken) v v3 (wires r w p) (wires r' w' p')
 turn_done v v1 v2 v3 r r' w w' p p' piece broken asked none small read fed left tell past shows told =
     let a = asked past shows told in

@@ -5,9 +5,9 @@ use Rattle.pg_command.specs.Words.{word_number}
 use Rattle.pg_command.specs.Spelling.{written}
 use Rattle.pg_ingest.specs.Commands.{asks}
 use Rattle.pg_ingest.specs.Linking.{Linking}
-use Rattle.pg_ingest.specs.Shown.{LinkPast, Shows, doing, word_due}
+use Rattle.pg_ingest.specs.Shown.{LinkPast, ShowsLink, doing, word_due}
 
 -- The command that is owed was begun; or none is owed, and nothing changed.
 abbrev pub Begins : LinkPast → Linking → Bool → Type 0
-Begins past v true = (word : Word) × (word_due past ≡ Some word) × Shows v (doing past (asks word)) × (v.left ≡ written past.source 0 (word_number word))
-Begins past v false = (word_due past ≡ None) × Shows v past
+Begins past v true = (word : Word) × (word_due past ≡ Some word) × ShowsLink v (doing past (asks word)) × (v.left ≡ written past.source 0 (word_number word))
+Begins past v false = (word_due past ≡ None) × ShowsLink v past

@@ -9,7 +9,7 @@ use Rattle.pg_ingest.specs.Items.{Item, announces, measures, reason_of, break_in
 use Rattle.pg_ingest.specs.Commands.{tells}
 use Rattle.pg_wire.specs.Held.{IsBreak}
 use Rattle.pg_ingest.specs.Linking.{Linking, taking, ignoring}
-use Rattle.pg_ingest.specs.Shown.{LinkPast, doing, Shows, IsAllTold}
+use Rattle.pg_ingest.specs.Shown.{LinkPast, doing, ShowsLink, IsAllTold}
 
 -- the event that an item is given as
 abbrev pub IsEventOf : LinkEvent → Item → Type 0
@@ -21,16 +21,16 @@ IsEventOf More item = ⊥
 
 -- What a call gives of the past that was shown before: what is told of the next frame, and More or Ended only where all
 -- of the stream's frames were told.
-abbrev pub GivesOf : LinkPast → LinkEvent → Linking → Type 0
-GivesOf past (Announce config) new = Shows new (doing past (tells (announces (arc_value config))))
-GivesOf past (Measure frame) new = Shows new (doing past (tells (measures (arc_value frame))))
-GivesOf past (Ignored r) new = (item : Item) × (reason_of item ≡ Some r) × Shows new (doing past (tells item))
-GivesOf past (Ended r) new = IsAllTold past × (break_in past.stream ≡ Some r) × Shows new past
-GivesOf past More new = IsAllTold past × (break_in past.stream ≡ None) × Shows new past
+abbrev pub GivesEventOf : LinkPast → LinkEvent → Linking → Type 0
+GivesEventOf past (Announce config) new = ShowsLink new (doing past (tells (announces (arc_value config))))
+GivesEventOf past (Measure frame) new = ShowsLink new (doing past (tells (measures (arc_value frame))))
+GivesEventOf past (Ignored r) new = (item : Item) × (reason_of item ≡ Some r) × ShowsLink new (doing past (tells item))
+GivesEventOf past (Ended r) new = IsAllTold past × (break_in past.stream ≡ Some r) × ShowsLink new past
+GivesEventOf past More new = IsAllTold past × (break_in past.stream ≡ None) × ShowsLink new past
 
 -- Whatever past the link shows before a call, it shows what follows of it after it.
-abbrev pub Gives : Linking → LinkEvent → Linking → Type 0
-Gives old event new = (past : LinkPast) → Shows old past → GivesOf past event new
+abbrev pub GivesEvent : Linking → LinkEvent → Linking → Type 0
+GivesEvent old event new = (past : LinkPast) → ShowsLink old past → GivesEventOf past event new
 
 -- What an event says by itself of the link: a frame came off the bytes that are held, or they broke and nothing else
 -- changed, or they are less than a frame, so that there is room, and nothing changed.

@@ -10,7 +10,7 @@ use Rattle.pg_gateway.specs.Posting.{Posted, Notes}
 use Rattle.pg_ingest.specs.Items.{Item, announces, measures, skips, rejects_config, rejects_data, passes_over}
 use Rattle.pg_ingest.specs.Commands.{asks, tells}
 use Rattle.pg_ingest.specs.Linking.{Linking}
-use Rattle.pg_ingest.specs.Shown.{LinkPast, Shows, IsAllTold, feeding, doing, word_due}
+use Rattle.pg_ingest.specs.Shown.{LinkPast, ShowsLink, IsAllTold, feeding, doing, word_due}
 
 -- a step of the loop
 pub data Step : Type 0 where
@@ -82,7 +82,7 @@ wires unread written posted = record { unread = unread; written = written; poste
 pub record RanFrom (past : LinkPast) (left : List ℕ) (v : Linking) (before after : Wires) : Type 0 where
   pub steps : List Step
   pub are : AreSteps past steps
-  pub shows : Shows v (after_steps past steps)
+  pub shows : ShowsLink v (after_steps past steps)
   pub read : Consumes before.unread after.unread (flat_map bytes_of steps)
   pub calls : List Posted
   pub posted : Notes before.posted after.posted calls
@@ -93,8 +93,8 @@ pub record RanFrom (past : LinkPast) (left : List ℕ) (v : Linking) (before aft
 
 -- Whatever past the link shows before, it ran from there, and this holds of that past and of its steps.
 abbrev pub Ran : (LinkPast → List Step → Type 0) → Linking → Linking → Wires → Wires → Type 0
-Ran Did v v' before after = (past : LinkPast) → Shows v past → (ran : RanFrom past v.left v' before after) × Did past ran.steps
+Ran Did v v' before after = (past : LinkPast) → ShowsLink v past → (ran : RanFrom past v.left v' before after) × Did past ran.steps
 
 -- the same where all that it was fed is told
 abbrev pub RanOn : (LinkPast → List Step → Type 0) → Linking → Linking → Wires → Wires → Type 0
-RanOn Did v v' before after = (past : LinkPast) → Shows v past → IsAllTold past → (ran : RanFrom past v.left v' before after) × Did past ran.steps
+RanOn Did v v' before after = (past : LinkPast) → ShowsLink v past → IsAllTold past → (ran : RanFrom past v.left v' before after) × Did past ran.steps

@@ -40,10 +40,10 @@ abbrev pub told_before : LinkPast → List Item
 told_before past = reverse (told_in past.acts)
 
 -- The link shows its past: it gave these items of the frames of its stream, and holds what follows of them.
-pub record Shows (v : Linking) (past : LinkPast) : Type 0 where
+pub record ShowsLink (v : Linking) (past : LinkPast) : Type 0 where
   pub source : v.source ≡ past.source
   pub frames : List (List ℕ)
-  pub bytes : wire.Shows v.bytes past.stream frames
+  pub bytes : wire.ShowsStream v.bytes past.stream frames
   pub told : AreTold past.source (reverse frames) (told_before past)
   pub known : v.known ≡ announced_last (told_before past)
   pub asking : v.asking ≡ asking_of (reverse past.acts)

@@ -10,7 +10,7 @@ ghost use Rattle.pg_ingest.specs.Commands.{Act, asks, is_unanswered, owes_config
 ghost use Rattle.pg_ingest.specs.Owed.{HasUnanswered, HasOwed};
 ghost use Rattle.pg_ingest.specs.Linking.{Linking};
 ghost use Rattle.pg_ingest.specs.Runs.{Wires};
-ghost use Rattle.pg_ingest.specs.Shown.{LinkPast, Shows, doing, word_due};
+ghost use Rattle.pg_ingest.specs.Shown.{LinkPast, ShowsLink, doing, word_due};
 ghost use Rattle.pg_ingest.specs.Served.{IsFresh, IsCall, SoFar, Served, words_due};
 
 /// Where no memory is wanted, the stream alone says what is told of it.
@@ -47,7 +47,7 @@ pub fn words_are_due()
 /// call, each where the one before it ended, its reader, writer and gate as that one left them.
 pub fn calls_are_one_run()
     ensures first { (end : End) (turns : ℕ) (past : LinkPast) (v v' : Linking) (before after : Wires)
-        → 0 < turns → Shows v past → v.left ≡ [] → IsCall end turns v v' before after → SoFar end past v' before after }
+        → 0 < turns → ShowsLink v past → v.left ≡ [] → IsCall end turns v v' before after → SoFar end past v' before after }
     ensures next { (end end' : End) (turns : ℕ) (past : LinkPast) (v v' : Linking) (first before after : Wires)
         → 0 < turns → SoFar end past v first before → IsCall end' turns v v' before after → SoFar end' past v' first after }
 {}

@@ -2,7 +2,6 @@
 #![tactic(auto)]
 
 mod asking;
-pub mod fakes;
 mod laws;
 mod link;
 mod pending;

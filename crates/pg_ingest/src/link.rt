@@ -4,9 +4,9 @@ ghost use Rattle.std.specs.Prelude.{◌≡◌, ◌+◌, ◌≤◌, ◌<◌, ◌+
 ghost use Rattle.pg_ingest.specs.Reading.{item_told, IsPaired};
 ghost use Rattle.pg_ingest.specs.Commands.{told_in};
 ghost use Rattle.pg_ingest.specs.Linking.{unfed, heard, after_item, stats_of, ignoring, words_owed};
-ghost use Rattle.pg_ingest.specs.Shown.{LinkPast, beginning, feeding, renewed, Shows, command_due, commanding};
+ghost use Rattle.pg_ingest.specs.Shown.{LinkPast, beginning, feeding, renewed, ShowsLink, command_due, commanding};
 ghost use Rattle.pg_ingest.specs.Begun.{Begins};
-ghost use Rattle.pg_ingest.specs.Links.{IsEventOf, Gives, Holds, Counts};
+ghost use Rattle.pg_ingest.specs.Links.{IsEventOf, GivesEvent, Holds, Counts};
 ghost use Rattle.pg_audit.specs.Counting.{no_pmu_stats};
 
 use crate::asking::Asking;
@@ -70,7 +70,7 @@ impl Link {
     /// A link of this source that was fed nothing, all counters at 0. The one refusal is `NoMemory`.
     pub fn new(alloc: Global, source: PmuId) -> Result<Link, Refusal>
         ensures state { IfOk result (λ l. l ≡ unfed source no_pmu_stats) }
-        ensures shows { IfOk result (λ l. Shows l (beginning source)) }
+        ensures shows { IfOk result (λ l. ShowsLink l (beginning source)) }
         ensures memory { IfErr result (λ refusal. refusal ≡ Refusal.NoMemory) }
     {
         Ok(Link {
@@ -103,14 +103,14 @@ impl Link {
         requires { length self.old.bytes.held + length piece.now ≤ 65535 }
         ensures state { self.new ≡ heard self.old piece.now }
         // Whatever its past was, the piece comes after it.
-        ensures shows { (past : LinkPast) → Shows self.old past → Shows self.new (feeding past piece.now) }
+        ensures shows { (past : LinkPast) → ShowsLink self.old past → ShowsLink self.new (feeding past piece.now) }
     {
         self.deframer.feed(piece);
     }
 
     /// The next event, as soon as its frame is whole, or why a frame was ignored. Events and ignored frames are counted.
     pub fn next_event(&mut self) -> LinkEvent
-        ensures gives { Gives self.old result self.new }
+        ensures gives { GivesEvent self.old result self.new }
         ensures holds { Holds self.old result self.new }
         ensures counts { Counts self.old.stats result self.new.stats }
         ensures same { self.new.source ≡ self.old.source }
@@ -168,7 +168,7 @@ impl Link {
 
     /// The next command that the source is owed, as a frame of SOC 0, if any: 5, send CFG-2, before 2, start data.
     pub fn next_out(&mut self) -> Option<[u8; 18]>
-        ensures gives { (past : LinkPast) → Shows self.old past → (result ≡ command_due past) × Shows self.new (commanding past) }
+        ensures gives { (past : LinkPast) → ShowsLink self.old past → (result ≡ command_due past) × ShowsLink self.new (commanding past) }
         ensures fewer { OnSome result (words_owed self.new < words_owed self.old) }
         ensures none { IfNone result (self.new ≡ self.old) }
         ensures same { self.new ≡ record self.old { asking = self.new.asking } }
@@ -195,7 +195,7 @@ impl Link {
     /// Begins the next command that the source is owed, if any: all of it is left to write.
     pub(crate) fn begin(&mut self) -> bool
         requires { self.old.left ≡ [] }
-        ensures begins { (past : LinkPast) → Shows self.old past → Begins past self.new result }
+        ensures begins { (past : LinkPast) → ShowsLink self.old past → Begins past self.new result }
         ensures fewer { result ≡ true → words_owed self.new < words_owed self.old }
         ensures held { self.new.bytes ≡ self.old.bytes }
         ensures none { result ≡ false → self.new ≡ self.old }
@@ -213,7 +213,7 @@ impl Link {
     /// that had begun. The counters stay, and so does its memory.
     pub fn reset(&mut self)
         ensures state { self.new ≡ unfed self.old.source self.old.stats }
-        ensures shows { (past : LinkPast) → Shows self.old past → Shows self.new (renewed past) }
+        ensures shows { (past : LinkPast) → ShowsLink self.old past → ShowsLink self.new (renewed past) }
     {
         self.deframer.reset();
         self.known = None;
@@ -224,7 +224,7 @@ impl Link {
     /// What it counted since it was new: the events that it gave, and the frames that it ignored by their reason.
     pub fn stats(&self) -> &PmuStats
         ensures value { result.now ≡ self.now.stats }
-        ensures counts { (past : LinkPast) → Shows self.now past → result.now ≡ stats_of (past.earlier ++ told_in past.acts) }
+        ensures counts { (past : LinkPast) → ShowsLink self.now past → result.now ≡ stats_of (past.earlier ++ told_in past.acts) }
     {
         &self.stats
     }

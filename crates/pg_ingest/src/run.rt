@@ -8,7 +8,7 @@ ghost use Rattle.pg_ingest.specs.Ends.{is_cut};
 ghost use Rattle.pg_ingest.specs.Turning.{EndsTurn, EndsRead, IsStuck, OnlyBegins, TellsAll};
 ghost use Rattle.pg_ingest.specs.Runs.{wires, Ran, RanOn};
 ghost use Rattle.pg_ingest.specs.Served.{IsCall};
-ghost use Rattle.pg_ingest.specs.Shown.{LinkPast, Shows, word_due};
+ghost use Rattle.pg_ingest.specs.Shown.{LinkPast, ShowsLink, word_due};
 
 use crate::link::{Link, LinkEvent};
 use pg_gateway::{Event, Gate};
@@ -54,7 +54,7 @@ fn write_owed<W: Write>(link: &mut Link, writer: &mut W) -> Option<End>
     ensures ran { (r : Option (List ℕ)) (p : Option (List Posted))
         → RanOn (λ past steps. OnlyBegins steps) link.old link.new (wires r (W.contents writer.old) p) (wires r (W.contents writer.new) p) }
     ensures whole { result ≡ None → link.new.left ≡ [] }
-    ensures none { result ≡ None → (past : LinkPast) → Shows link.new past → word_due past ≡ None }
+    ensures none { result ≡ None → (past : LinkPast) → ShowsLink link.new past → word_due past ≡ None }
     ensures held { link.new.bytes ≡ link.old.bytes }
     ensures stuck { IfSome result (λ end. IsStuck end link.new.left) }
 {

@@ -2,8 +2,8 @@ ghost use Rattle.std.specs.Prelude.{map, Some};
 ghost use Rattle.pg_gateway.specs.Posting.{Posted};
 ghost use Rattle.pg_gateway.specs.Occurrences.{occurrence, told};
 
+use pg_fakes::{FakeGate, FakeReader, FakeWriter};
 use pg_gateway::{Event, Gate, Reply};
-use pg_ingest::fakes::{FakeGate, FakeReader, FakeWriter};
 use pg_ingest::*;
 use pg_wire::{PmuId, Refusal, SubId, check};
 use std::alloc::Global;

@@ -4,7 +4,7 @@ use Rattle.std.specs.List.{cons_option}
 use Rattle.pg_wire.specs.declared.ids.PmuKey.{PmuKey}
 use Rattle.pg_wire.specs.Stream.{joined}
 use Rattle.pg_config.specs.Parts.{Part}
-use Rattle.pg_data.specs.Shared.{Piece}
+use Rattle.pg_data.specs.Pieces.{Piece}
 use Rattle.pg_outcfg.specs.Listing.{Listing, config_at}
 use Rattle.pg_outcfg.specs.Frames.{block_or_filler, member_block, data_blocks}
 

@@ -5,7 +5,7 @@ use Rattle.std.proofs.lemmas.Grind.{common_steps}
 use Rattle.std.specs.Ordering.{ord_max, nat_cmp}
 use Rattle.std.specs.List.{cons_option}
 use Rattle.std.specs.Int.Bits.{bit_or}
-use Rattle.pg_data.specs.Shared.{Piece}
+use Rattle.pg_data.specs.Pieces.{Piece}
 use Rattle.pg_outcfg.specs.Frames.{qualities_of}
 use Rattle.pg_outcfg.specs.Quality.{leap_flags, quality_code, joined_flags, greatest_code}
 

@@ -45,6 +45,13 @@ some-stands f (y ∷ ys) key zero x rising at is = rw at (ap (λ z. Some (f z).1
 some-stands f (y ∷ ys) key (suc i) x rising at is =
     rw (after_is_other (f y).0 key (stands-after (f y).0 (map f ys) key i rising.0 at)) (some-stands f ys key i x rising.1 at is)
 
+-- a key that is compared with the entry at a place
+pub stands-here : {A : Type 0} (f : A → PmuKey × Part) (xs : List A) (key : PmuKey) (i : ℕ) (d : A) → i < length xs
+    → key_eq key (f (get_or xs i d)).0 ≡ true → StandsAt (map f xs) key i
+stands-here f [] key i d lt same = absurd (omega arith)
+stands-here f (y ∷ ys) key zero d lt same = same
+stands-here f (y ∷ ys) key (suc i) d lt same = stands-here f ys key i d (omega arith) same
+
 -- ---- putting
 
 pub put-insert : {A : Type 0} (f : A → PmuKey × Part) (xs : List A) (i : ℕ) (x : A) → FitsAt (map f xs) (f x).0 i

@@ -13,7 +13,7 @@ use Rattle.pg_config.specs.Writing.{IsReadable, config_frame}
 use Rattle.pg_config.proofs.Fields.{InBytes}
 use Rattle.pg_config.proofs.Written.{written-read-as, written-source, joined-in_bytes}
 use Rattle.pg_data.specs.Measurements.{resolution_of}
-use Rattle.pg_data.specs.Shared.{Piece}
+use Rattle.pg_data.specs.Pieces.{Piece}
 use Rattle.pg_data.proofs.Fillers.{filler-length, filler-bytes}
 use Rattle.pg_data.proofs.Blocks.{block_at, joined-length}
 use Rattle.pg_data.proofs.Spellings.{reads-back}

@@ -8,7 +8,7 @@ use Rattle.pg_wire.specs.Stream.{joined}
 use Rattle.pg_config.specs.Parts.{Part}
 use Rattle.pg_config.specs.Writing.{reply_heading, config_frame}
 use Rattle.pg_data.specs.Filler.{filler_of}
-use Rattle.pg_data.specs.Shared.{Piece}
+use Rattle.pg_data.specs.Pieces.{Piece}
 use Rattle.pg_stream.specs.declared.definition.Definition.{Definition}
 use Rattle.pg_stream.specs.Slots.{stamp_at}
 use Rattle.pg_outcfg.specs.Listing.{Listing, config_at}

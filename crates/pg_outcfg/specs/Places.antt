@@ -25,7 +25,7 @@ FitsAt [] key (suc i) = ⊥
 FitsAt (e ∷ es) key (suc i) = (key_before e.0 key ≡ true) × FitsAt es key i
 
 -- at most 32 entries by rising key, in room for 32
-pub record IsKept (entries : Vec Listed) : Type 0 where
+pub record ListIsKept (entries : Vec Listed) : Type 0 where
   pub rising : IsRising (map shown entries.items)
   pub few : length entries.items ≤ 32
   pub room : 32 ≤ vec_capacity entries

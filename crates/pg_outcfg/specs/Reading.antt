@@ -10,7 +10,7 @@ use Rattle.pg_config.specs.Reading.{config_of}
 use Rattle.pg_config.specs.Writing.{announced_with, written_part}
 use Rattle.pg_data.specs.Measurements.{Measurement, block_of}
 use Rattle.pg_data.specs.Reading.{IsDataFrame, data_of}
-use Rattle.pg_data.specs.Shared.{Piece}
+use Rattle.pg_data.specs.Pieces.{Piece}
 use Rattle.pg_stream.specs.declared.definition.Definition.{Definition}
 use Rattle.pg_stream.specs.Limits.{IsWithinLimits}
 use Rattle.pg_stream.specs.Slots.{stamp_at}

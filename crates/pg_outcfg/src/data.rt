@@ -1,9 +1,10 @@
 //! The data frame of a slot.
-ghost use Rattle.std.specs.Prelude.{◌≡◌, ◌+◌, ◌/◌, ◌<◌, ◌≤◌, ◌++◌, ◌^◌, List, length, drop, zip, IfOk, IfErr, IfSome, vec_len, vec_capacity};
+ghost use Rattle.std.specs.Prelude.{◌≡◌, ◌+◌, ◌/◌, ◌<◌, ◌≤◌, ◌++◌, ◌^◌, List, length, drop, zip, ℕ, IsTrue, IfOk, IfErr, IfSome, vec_len, vec_capacity};
+ghost use Rattle.pg_wire.specs.Heads.{start_of};
 ghost use Rattle.pg_wire.specs.Stream.{joined};
 ghost use Rattle.pg_stream.specs.Limits.{IsWithinLimits};
 ghost use Rattle.pg_outcfg.specs.Quality.{joined_quality};
-ghost use Rattle.pg_outcfg.specs.Frames.{block_or_filler, data_blocks, qualities_of, data_frame_of};
+ghost use Rattle.pg_outcfg.specs.Frames.{block_or_filler, data_blocks, data_heading, qualities_of, data_frame_of};
 
 use crate::list::ConfigList;
 use pg_config::PmuConfig;
@@ -14,6 +15,12 @@ use std::alloc::Global;
 
 /// How many bytes a frame has beside its body.
 const AROUND_BODY: u16 = 16;
+
+/// How many bytes CHK has.
+const CHECK_BYTES: usize = 2;
+
+/// The most bytes of a data frame: 32 blocks of 398 bytes, and what is around them.
+const MOST_BYTES: u16 = 12_752;
 
 /// The leap second flags of a time quality (C37.118.2, 6.2.2).
 const LEAP_FLAGS: u8 = 0x70;
@@ -27,6 +34,7 @@ const QUALITY_CODE: u8 = 0x0F;
 /// `parts` has for each member of the definition, in its order, the block that came for it in this slot, or none. It asks
 /// for a definition that `check_definition` accepts, and of the slot what `stamp_of` asks. The one refusal is `NoMemory`;
 /// the frame is one allocation of its size, at most 12,752 bytes, and blocks are copied as they are.
+#[inline(never)]
 pub fn data_frame(
     alloc: Global,
     definition: &Definition,
@@ -44,6 +52,87 @@ pub fn data_frame(
 {
     let members = definition.members.as_slice();
     let size = AROUND_BODY + body_len(members, listed, parts);
+    let mut frame = start_data(alloc, definition, slot, join_qualities(parts), size)?;
+    // All blocks fit, since these are the bytes that were counted.
+    let _fits = add_blocks(&mut frame, members, listed, parts);
+    end_frame(&mut frame);
+    Ok(frame)
+}
+
+/// The same, where the frame may well be `size` bytes long: if it is, the members are gone through once. `size` is then the size of
+/// this frame, which is that of the stream's next one while its effective members stay. 0 guesses nothing.
+pub fn data_frame_near(
+    alloc: Global,
+    definition: &Definition,
+    slot: u64,
+    listed: &ConfigList,
+    parts: &[Option<SharedBlock>],
+    size: &mut u16,
+) -> Result<Vec<u8>, Refusal>
+    requires limits { IsWithinLimits definition.now }
+    requires time { slot / definition.now.rate < 2 ^ 32 }
+    requires parts { length parts.now ≡ length definition.now.members }
+    ensures frame { IfOk result (λ v. v.items ≡ data_frame_of definition.now slot listed.now parts.now) }
+    ensures least { IfOk result (λ v. 16 ≤ vec_len v) }
+    ensures most { IfOk result (λ v. vec_len v ≤ 12752) }
+    ensures memory { IfErr result (λ refusal. refusal ≡ Refusal.NoMemory) }
+{
+    if let Some(frame) = guessed_frame(alloc, definition, slot, listed, parts, *size)? {
+        return Ok(frame);
+    }
+    let frame = data_frame(alloc, definition, slot, listed, parts)?;
+    *size = frame.len() as u16;
+    Ok(frame)
+}
+
+/// The data frame of a slot, if it is so many bytes long.
+fn guessed_frame(
+    alloc: Global,
+    definition: &Definition,
+    slot: u64,
+    listed: &ConfigList,
+    parts: &[Option<SharedBlock>],
+    size: u16,
+) -> Result<Option<Vec<u8>>, Refusal>
+    requires limits { IsWithinLimits definition.now }
+    requires time { slot / definition.now.rate < 2 ^ 32 }
+    requires parts { length parts.now ≡ length definition.now.members }
+    ensures frame { IfOk result (λ guessed. IfSome guessed (λ v. v.items ≡ data_frame_of definition.now slot listed.now parts.now)) }
+    ensures least { IfOk result (λ guessed. IfSome guessed (λ v. 16 ≤ vec_len v)) }
+    ensures most { IfOk result (λ guessed. IfSome guessed (λ v. vec_len v ≤ 12752)) }
+    ensures memory { IfErr result (λ refusal. refusal ≡ Refusal.NoMemory) }
+{
+    if size < AROUND_BODY || size > MOST_BYTES {
+        return Ok(None);
+    }
+    let members = definition.members.as_slice();
+    let mut frame = start_data(alloc, definition, slot, join_qualities(parts), size)?;
+    if !add_blocks(&mut frame, members, listed, parts) {
+        return Ok(None);
+    }
+    if frame.len() + CHECK_BYTES != usize::from(size) {
+        return Ok(None);
+    }
+    end_frame(&mut frame);
+    Ok(Some(frame))
+}
+
+/// Starts the data frame of a slot, with room for so many bytes of it.
+fn start_data(
+    alloc: Global,
+    definition: &Definition,
+    slot: u64,
+    quality: u8,
+    size: u16,
+) -> Result<Vec<u8>, Refusal>
+    requires limits { IsWithinLimits definition.now }
+    requires time { slot / definition.now.rate < 2 ^ 32 }
+    requires size { 16 ≤ size }
+    ensures bytes { IfOk result (λ v. v.items ≡ start_of (data_heading definition.now slot quality) size) }
+    ensures len { IfOk result (λ v. vec_len v ≡ 14) }
+    ensures room { IfOk result (λ v. size ≤ vec_capacity v) }
+    ensures memory { IfErr result (λ refusal. refusal ≡ Refusal.NoMemory) }
+{
     let (soc, frac) = stamp_of(definition.rate, definition.base, slot);
     let head = Head {
         kind: Kind::Measured,
@@ -51,12 +140,10 @@ pub fn data_frame(
         size,
         id: definition.stream.get(),
         soc,
-        quality: join_qualities(parts),
+        quality,
         frac,
     };
-    let mut frame = start_frame(alloc, &head)?;
-    add_blocks(&mut frame, members, listed, parts);
-    end_frame(&mut frame);
+    let frame = start_frame(alloc, &head)?;
     Ok(frame)
 }
 
@@ -88,19 +175,22 @@ fn part_len(config: &PmuConfig, part: &Option<SharedBlock>) -> u16
     }
 }
 
-/// Adds what stands for an effective member, in the room that is there.
-fn add_part(frame: &mut Vec<u8>, config: &PmuConfig, part: &Option<SharedBlock>)
-    requires { vec_len frame.old + length (block_or_filler config.now part.now) ≤ vec_capacity frame.old }
-    ensures bytes { frame.new.items ≡ frame.old.items ++ block_or_filler config.now part.now }
-    ensures len { vec_len frame.new ≡ vec_len frame.old + length (block_or_filler config.now part.now) }
+/// Adds what stands for an effective member, and tells whether there was room for it.
+fn add_part(frame: &mut Vec<u8>, config: &PmuConfig, part: &Option<SharedBlock>) -> bool
+    ensures fits { vec_len frame.old + length (block_or_filler config.now part.now) ≤ vec_capacity frame.old → IsTrue result }
+    ensures bytes { IsTrue result → frame.new.items ≡ frame.old.items ++ block_or_filler config.now part.now }
+    ensures len { IsTrue result → vec_len frame.new ≡ vec_len frame.old + length (block_or_filler config.now part.now) }
     ensures room { vec_capacity frame.old ≤ vec_capacity frame.new }
 {
     match part {
-        Some(block) => {
-            // It fits, by what is asked for.
-            let _ = frame.extend_from_slice(block.bytes());
+        Some(block) => frame.extend_from_slice(block.bytes()).is_ok(),
+        None => {
+            if frame.capacity() - frame.len() < config.block_len() {
+                return false;
+            }
+            filler_into(config, frame);
+            true
         }
-        None => filler_into(config, frame),
     }
 }
 
@@ -112,29 +202,36 @@ fn body_len(members: &[PmuKey], listed: &ConfigList, parts: &[Option<SharedBlock
     ensures most { result ≤ 12736 }
 {
     let mut len = 0;
+    let mut next = 0;
     for (i, key) in members.iter().enumerate() {
-        if let Some(config) = listed.get(key) {
+        if let Some(config) = listed.get_next(key, &mut next) {
             len += part_len(config, &parts[i]);
         }
     }
     len
 }
 
-/// Adds the data blocks of the effective members, in the room that is there.
+/// Adds the data blocks of the effective members, and tells whether there was room for all of them.
 fn add_blocks(
     frame: &mut Vec<u8>,
     members: &[PmuKey],
     listed: &ConfigList,
     parts: &[Option<SharedBlock>],
-)
+) -> bool
     requires parts { length parts.now ≡ length members.now }
-    requires room { vec_len frame.old + length (joined (data_blocks listed.now members.now parts.now)) ≤ vec_capacity frame.old }
-    ensures bytes { frame.new.items ≡ frame.old.items ++ joined (data_blocks listed.now members.now parts.now) }
+    ensures fits { vec_len frame.old + length (joined (data_blocks listed.now members.now parts.now)) ≤ vec_capacity frame.old
+        → IsTrue result }
+    ensures bytes { IsTrue result → frame.new.items ≡ frame.old.items ++ joined (data_blocks listed.now members.now parts.now) }
+    ensures len { IsTrue result → vec_len frame.new ≡ vec_len frame.old + length (joined (data_blocks listed.now members.now parts.now)) }
     ensures room { vec_capacity frame.old ≤ vec_capacity frame.new }
 {
+    let mut next = 0;
     for (i, key) in members.iter().enumerate() {
-        if let Some(config) = listed.get(key) {
-            add_part(frame, config, &parts[i]);
+        if let Some(config) = listed.get_next(key, &mut next) {
+            if !add_part(frame, config, &parts[i]) {
+                return false;
+            }
         }
     }
+    true
 }

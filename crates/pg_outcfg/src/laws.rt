@@ -4,7 +4,7 @@ ghost use Rattle.std.specs.Map.{values_of};
 ghost use Rattle.pg_wire.specs.declared.kind.Kind.{Kind};
 ghost use Rattle.pg_wire.specs.declared.kind.Kind.TheVariants.{CfgOne, CfgTwo};
 ghost use Rattle.pg_config.specs.Writing.{IsReadable};
-ghost use Rattle.pg_data.specs.Shared.{Piece};
+ghost use Rattle.pg_data.specs.Pieces.{Piece};
 ghost use Rattle.pg_stream.specs.declared.definition.Definition.{Definition};
 ghost use Rattle.pg_outcfg.specs.Listing.{Listing};
 ghost use Rattle.pg_outcfg.specs.Quality.{leap_flags, quality_code, joined_flags, greatest_code, joined_quality};

@@ -7,6 +7,6 @@ mod laws;
 mod list;
 
 pub use config::{OutCfg, header};
-pub use data::data_frame;
+pub use data::{data_frame, data_frame_near};
 pub use laws::{config_is_read, data_is_read, quality_is_joined};
 pub use list::{ConfigList, Listed};

@@ -37,11 +37,11 @@ impl Model for ConfigList {
 
     ghost Value = { Listing };
 
-    ghost use Rattle.pg_outcfg.specs.Places.{shown, IsKept};
+    ghost use Rattle.pg_outcfg.specs.Places.{shown, ListIsKept};
 
     ghost view = { λ l. map shown l.entries.items };
 
-    ghost invariant = { λ l. IsKept l.entries };
+    ghost invariant = { λ l. ListIsKept l.entries };
 }
 
 impl ConfigList {
@@ -82,6 +82,21 @@ impl ConfigList {
         }
     }
 
+    /// The same for a key that is guessed to stand at the place `next`: where it does there is no search. `next` is then
+    /// the place behind the one where the key was found, so that keys which are asked for in their order are found at once.
+    #[inline(always)]
+    pub fn get_next(&self, key: &PmuKey, next: &mut usize) -> Option<&Arc<PmuConfig>>
+        ensures value { option_map (λ config. arc_value config.now) result ≡ config_at self.now key.now }
+    {
+        match place_near(&self.entries, key, *next) {
+            Ok(place) => {
+                *next = place + 1;
+                Some(&self.entries[place].config)
+            }
+            Err(_) => None,
+        }
+    }
+
     /// Puts a configuration at its key's place, or in place of the one that stands there. It asks for fewer than 32 PMUs
     /// where the key is not there yet. It takes no memory.
     pub fn put(&mut self, key: PmuKey, config: Arc<PmuConfig>)
@@ -116,6 +131,7 @@ impl ConfigList {
 }
 
 /// Where the key stands, or where it would.
+#[inline(never)]
 fn place_of(entries: &[Listed], key: &PmuKey) -> Result<usize, usize>
     requires { IsRising (map shown entries.now) }
     ensures there { IfOk result (λ place. place < length entries.now) }
@@ -124,6 +140,20 @@ fn place_of(entries: &[Listed], key: &PmuKey) -> Result<usize, usize>
     ensures absent { IfErr result (FitsAt (map shown entries.now) key.now) }
 {
     entries.binary_search_by_key(key, |listed| listed.key)
+}
+
+/// The same, for a key that may well stand at the place `guess`.
+#[inline(always)]
+fn place_near(entries: &[Listed], key: &PmuKey, guess: usize) -> Result<usize, usize>
+    requires { IsRising (map shown entries.now) }
+    ensures there { IfOk result (λ place. place < length entries.now) }
+    ensures found { IfOk result (StandsAt (map shown entries.now) key.now) }
+    ensures absent { IfErr result (FitsAt (map shown entries.now) key.now) }
+{
+    if guess < entries.len() && *key == entries[guess].key {
+        return Ok(guess);
+    }
+    place_of(entries, key)
 }
 
 /// Puts an entry at a place, in room that is there.

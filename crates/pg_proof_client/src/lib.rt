@@ -5,7 +5,7 @@
 ghost use Rattle.std.specs.Prelude.{◌≡◌, ◌≤◌, ◌⊎◌, Some, None, IfOk, IfErr};
 ghost use Rattle.pg_serve.specs.Inputs.{facts, outcomes};
 ghost use Rattle.pg_serve.specs.Shown.{queue_shown};
-ghost use Rattle.pg_serve.specs.Full.{HasAnswered, AllLossless, Headline, handed_over};
+ghost use Rattle.pg_serve.specs.Full.{HasAnswered, OutcomesLossless, Headline, handed_over};
 ghost use Rattle.pg_serve.specs.Others.{without_others, adds_in};
 ghost use Rattle.pg_serve.specs.Beside.{SeeAlike, ServesAlike, StandsBeside};
 
@@ -26,9 +26,9 @@ pub struct Ran {
 /// A new world takes these inputs. The one refusal is `NoMemory`.
 pub fn run_anew(alloc: Global, inputs: &[Input]) -> Result<Ran, Refusal>
     ensures answers { IfOk result (λ ran. HasAnswered ran.world (facts inputs.now) (outcomes ran.outputs.items)) }
-    ensures isolates { IfOk result (λ ran. AllLossless (outcomes ran.outputs.items)
+    ensures isolates { IfOk result (λ ran. OutcomesLossless (outcomes ran.outputs.items)
         → Headline ran.world (facts inputs.now) (outcomes ran.outputs.items)) }
-    ensures beside { IfOk result (λ ran. AllLossless (outcomes ran.outputs.items)
+    ensures beside { IfOk result (λ ran. OutcomesLossless (outcomes ran.outputs.items)
         → StandsBeside ran.world (facts inputs.now) (outcomes ran.outputs.items)) }
     ensures memory { IfErr result (λ refusal. refusal ≡ Refusal.NoMemory) }
 {
@@ -55,19 +55,19 @@ pub struct Pair {
 pub fn compare(alloc: Global, sub: SubId, mine: &[Input], other: &[Input]) -> Result<Pair, Refusal>
     ensures mine { IfOk result (λ pair. HasAnswered pair.mine.world (facts mine.now) (outcomes pair.mine.outputs.items)) }
     ensures other { IfOk result (λ pair. HasAnswered pair.other.world (facts other.now) (outcomes pair.other.outputs.items)) }
-    ensures queued { IfOk result (λ pair. AllLossless (outcomes pair.mine.outputs.items)
-        → AllLossless (outcomes pair.other.outputs.items)
+    ensures queued { IfOk result (λ pair. OutcomesLossless (outcomes pair.mine.outputs.items)
+        → OutcomesLossless (outcomes pair.other.outputs.items)
         → adds_in (facts mine.now) ≤ 64 → adds_in (facts other.now) ≤ 64
         → without_others sub (facts mine.now) ≡ without_others sub (facts other.now)
         → queue_shown sub pair.mine.world ≡ queue_shown sub pair.other.world) }
-    ensures handed { IfOk result (λ pair. AllLossless (outcomes pair.mine.outputs.items)
-        → AllLossless (outcomes pair.other.outputs.items)
+    ensures handed { IfOk result (λ pair. OutcomesLossless (outcomes pair.mine.outputs.items)
+        → OutcomesLossless (outcomes pair.other.outputs.items)
         → adds_in (facts mine.now) ≤ 64 → adds_in (facts other.now) ≤ 64
         → without_others sub (facts mine.now) ≡ without_others sub (facts other.now)
         → handed_over sub (facts mine.now) (outcomes pair.mine.outputs.items)
         ≡ handed_over sub (facts other.now) (outcomes pair.other.outputs.items)) }
-    ensures shared { IfOk result (λ pair. AllLossless (outcomes pair.mine.outputs.items)
-        → AllLossless (outcomes pair.other.outputs.items)
+    ensures shared { IfOk result (λ pair. OutcomesLossless (outcomes pair.mine.outputs.items)
+        → OutcomesLossless (outcomes pair.other.outputs.items)
         → SeeAlike sub (facts mine.now) (facts other.now)
         → ServesAlike sub pair.mine.world (facts mine.now) (outcomes pair.mine.outputs.items)
         pair.other.world (facts other.now) (outcomes pair.other.outputs.items)) }

@@ -6,11 +6,11 @@ use Rattle.std.specs.Io.BufRead.{take_through, drop_through, first_line, ends_wi
 use Rattle.std.proofs.lemmas.List.{append-nil, append_assoc, append_cancel_left}
 use Rattle.std.proofs.Common.{is_some}
 use Rattle.pg_audit.specs.declared.counters.PmuStats.{PmuStats}
-use Rattle.pg_gateway.specs.Shared.{Shared, seat_of}
+use Rattle.pg_gateway.specs.State.{SharedMachine, slot_of}
 use Rattle.pg_gateway.specs.Shown.{GatewayShows}
 use Rattle.pg_serve.specs.Inputs.{Fact, Outcome}
 use Rattle.pg_serve.specs.Moments.{Moment, opening, outcome_of, after_turn, after_turns, all_outcomes}
-use Rattle.pg_serve.specs.Full.{AllLossless, HasAnswered, Headline, full_turn, full_turns, moment_of}
+use Rattle.pg_serve.specs.Full.{OutcomesLossless, HasAnswered, Headline, full_turn, full_turns, moment_of}
 use Rattle.pg_serve.proofs.Determined.{turns_are_full}
 use Rattle.pg_serve.proofs.Isolating.{isolated}
 use Rattle.pg_serve.specs.Shown.{WorldValue, queue_shown, link_counted, session_counted}
@@ -174,7 +174,7 @@ so-all w v script rest old new held line so empty read none =
 
 -- ---- what is printed is a function of the script
 
-lossless-front : (xs ys : List Outcome) → AllLossless (xs ++ ys) → AllLossless xs
+lossless-front : (xs ys : List Outcome) → OutcomesLossless (xs ++ ys) → OutcomesLossless xs
 lossless-front [] ys h = tt
 lossless-front (x ∷ xs) ys h = (h.0, lossless-front xs ys h.1)
 
@@ -184,9 +184,9 @@ outcomes_more m [] f = refl
 outcomes_more m (g ∷ fs) f = ap (λ os. outcome_of m (full_turn m g) ∷ os) (outcomes_more (after_turn m (full_turn m g)) fs f)
 
 -- the moment that a world shows
-shown_moment : (w : WorldValue) (before : List Fact) (had : List Outcome) → AllLossless had → HasAnswered w before had → GatewayShows w.gateway (moment_of before).shared
+shown_moment : (w : WorldValue) (before : List Fact) (had : List Outcome) → OutcomesLossless had → HasAnswered w before had → GatewayShows w.gateway (moment_of before).shared
 shown_moment w before had lossless has =
-    let all : has.turns ≡ full_turns opening before = turns_are_full has.turns has.shows.legal (subst AllLossless has.outcomes lossless) ∙ ap (full_turns opening) has.taken in
+    let all : has.turns ≡ full_turns opening before = turns_are_full has.turns has.shows.legal (subst OutcomesLossless has.outcomes lossless) ∙ ap (full_turns opening) has.taken in
     subst (λ ts. GatewayShows w.gateway (after_turns opening ts).shared) all has.shows.shows.gateway
 
 -- what a line leaves
@@ -207,17 +207,17 @@ kept_after w u m before had os here has does = by m does
     by (Some (link_stats n)) d = same d.0 d.2
     by (Some (session_stats n)) d = same d.0 d.2
 
-session_is : (w : WorldValue) (n : ℕ) (here : Text) (S : Shared) (found : Option PmuStats) → GatewayShows w.gateway S → SessionText w n here found
-    → here ≡ session_text (is_some (seat_of n S.subs)) found
+session_is : (w : WorldValue) (n : ℕ) (here : Text) (S : SharedMachine) (found : Option PmuStats) → GatewayShows w.gateway S → SessionText w n here found
+    → here ≡ session_text (is_some (slot_of n S.subs)) found
 session_is w n here S None shows text = text.2 ∙ ap refused_line (text.1 S shows)
 session_is w n here S (Some s) shows text = text
 
 -- what a line prints
 text_is : (w u : WorldValue) (m : Option Asked) (before : List Fact) (had os : List Outcome) (here : Text) → HasAnswered w before had → Does w m os here u
-    → AllLossless (had ++ os) → here ≡ text_at before m
+    → OutcomesLossless (had ++ os) → here ≡ text_at before m
 text_is w u m before had os here has does lossless = by m does
   where
-    first : AllLossless had
+    first : OutcomesLossless had
     first = lossless-front had os lossless
 
     headline : Headline w before had
@@ -235,16 +235,16 @@ text_is w u m before had os here has does lossless = by m does
     by (Some (link_stats n)) d = d.1 ∙ ap link_text (headline.links n)
     by (Some (session_stats n)) d =
         session_is w n here (moment_of before).shared (session_counted n w) (shown_moment w before had first has) d.1
-        ∙ ap (session_text (is_some (seat_of n (moment_of before).shared.subs))) (headline.sessions n)
+        ∙ ap (session_text (is_some (slot_of n (moment_of before).shared.subs))) (headline.sessions n)
 
 runs_print : (w v : WorldValue) (ms : List (Option Asked)) (before : List Fact) (had told : List Outcome) (text : Text) → HasAnswered w before had → Runs w ms told text v
-    → AllLossless (had ++ told) → text ≡ text_of before ms
+    → OutcomesLossless (had ++ told) → text ≡ text_of before ms
 runs_print w v [] before had told text has runs lossless = runs.1
 runs_print w v (m ∷ ms) before had told text has runs lossless =
     let u = runs.0 in
     let os = runs.1 in
     let more = runs.2 in
-    let all = subst AllLossless (ap (λ t. had ++ t) runs.5 ∙ sym (append_assoc had os more)) lossless in
+    let all = subst OutcomesLossless (ap (λ t. had ++ t) runs.5 ∙ sym (append_assoc had os more)) lossless in
     let here = text_is w u m before had os runs.3 has runs.7 (lossless-front (had ++ os) more all) in
     let rest = runs_print u v ms (before ++ handed_over m) (had ++ os) more runs.4 (kept_after w u m before had os runs.3 has runs.7) runs.8 all in
     runs.6 ∙ ap (λ t. t ++ runs.4) here ∙ ap (λ t. text_at before m ++ t) rest

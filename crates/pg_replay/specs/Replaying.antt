@@ -7,13 +7,13 @@ use Rattle.pg_wire.specs.declared.refusal.Refusal.{Refusal}
 use Rattle.pg_wire.specs.declared.refusal.Refusal.TheVariants.{BadLine, NoSuchPmu, NoSuchSub}
 use Rattle.pg_audit.specs.declared.counters.PmuStats.{PmuStats}
 use Rattle.pg_ring.specs.Shown.{Queue}
-use Rattle.pg_gateway.specs.Shared.{Shared, seat_of}
+use Rattle.pg_gateway.specs.State.{SharedMachine, slot_of}
 use Rattle.pg_gateway.specs.Views.{private_run}
 use Rattle.pg_gateway.specs.Shown.{GatewayShows}
 use Rattle.pg_serve.specs.Inputs.{Fact, Outcome}
 use Rattle.pg_serve.specs.Moments.{absence, outcome_of}
 use Rattle.pg_serve.specs.Shown.{WorldValue, queue_shown, link_counted, session_counted}
-use Rattle.pg_serve.specs.Full.{AllLossless, HasAnswered, full_turn, moment_of, queue_of, view_of, link_counts_of, session_counts_of}
+use Rattle.pg_serve.specs.Full.{OutcomesLossless, HasAnswered, full_turn, moment_of, queue_of, view_of, link_counts_of, session_counts_of}
 use Rattle.pg_replay.specs.Lines.{Asked, nothing, hands, queue, link_stats, session_stats, asked_in}
 use Rattle.pg_replay.specs.Printing.{Text, refusal_line, queue_lines, counters_line, output_lines}
 
@@ -64,7 +64,7 @@ Took w f told v = (inputs : List Fact) (before : List Outcome) → HasAnswered w
 -- a session's counters, or why the subscriber has none
 abbrev pub SessionText : WorldValue → ℕ → Text → Option PmuStats → Type 0
 SessionText w u text None =
-    (r : Refusal) × ((S : Shared) → GatewayShows w.gateway S → r ≡ absence (is_some (seat_of u S.subs))) × (text ≡ refused_line r)
+    (r : Refusal) × ((S : SharedMachine) → GatewayShows w.gateway S → r ≡ absence (is_some (slot_of u S.subs))) × (text ≡ refused_line r)
 SessionText w u text (Some s) = text ≡ session_text true (Some s)
 
 -- What a line asks for is done, and printed: of an input what the world answers, of a question what the world shows. Where it
@@ -94,7 +94,7 @@ text_at before (Some nothing) = []
 text_at before (Some (hands f)) = output_lines (outcome_of (moment_of before) (full_turn (moment_of before) f))
 text_at before (Some (queue u)) = queue_text (queue_of (private_run None (view_of u before)))
 text_at before (Some (link_stats s)) = link_text (link_counts_of s before)
-text_at before (Some (session_stats u)) = session_text (is_some (seat_of u (moment_of before).shared.subs)) (session_counts_of u before)
+text_at before (Some (session_stats u)) = session_text (is_some (slot_of u (moment_of before).shared.subs)) (session_counts_of u before)
 
 abbrev pub handed_over : Option Asked → List Fact
 handed_over None = []
@@ -126,7 +126,7 @@ pub record Replays (script printed : Text) : Type 0 where
   pub later : WorldValue
   pub runs : Runs new (asked_of script) told printed later
   pub answered : HasAnswered later (handed_in (asked_of script)) told
-  pub full : AllLossless told → printed ≡ printed_of script
+  pub full : OutcomesLossless told → printed ≡ printed_of script
 
 -- A reader had this left, and what may be printed of it was written.
 pub record PrintsScript (script : Text) (old new : Option (List ℕ)) : Type 0 where

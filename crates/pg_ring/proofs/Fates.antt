@@ -6,8 +6,8 @@ use Rattle.std.proofs.lemmas.Grind.{common_steps}
 use Rattle.std.proofs.lemmas.List.{append-nil}
 use Rattle.std.proofs.lemmas.List.Sums.{sum_by-append}
 use Rattle.pg_ring.specs.Shown.{Queue, gap_of, frames_begun, saturated}
-use Rattle.pg_ring.specs.Numbers.{Numbered, Shows, IsSound, Rising, last_number, with_gaps, shown_of, data_begun, none_made, push_made, lose_made, reply_made}
-use Rattle.pg_ring.specs.Fates.{Call, Placed, placed_from, gap_in, begun_by_call, History, longer, history_of, one_if, is_number, has_in_gap, places_of, waits, fates}
+use Rattle.pg_ring.specs.Numbers.{Numbered, ShowsNumbered, IsSound, Rising, last_number, with_gaps, shown_of, data_begun, none_made, push_made, lose_made, reply_made}
+use Rattle.pg_ring.specs.Fates.{Call, PlacedNumber, placed_from, gap_in, begun_by_call, QueueHistory, longer, history_of, one_if, is_number, has_in_gap, places_of, waits, fates}
 use Rattle.pg_ring.specs.Fates.Call.{Push, Lose, Reply, Drain, HangUp}
 use Rattle.pg_ring.proofs.Numbering.{last_number-ge, Shows-data, Shows-lost, Shows-reply, Shows-drain, Shows-clear, Shows-none}
 
@@ -32,7 +32,7 @@ empty_stretch a k = grind (arith, common_steps)
 counted_places : (before k : ℕ) (numbers : List ℕ) → Rising before numbers → places_of k (placed_from before numbers) ≡ one_if (nat_lt before k && nat_le k (last_number before numbers))
 counted_places before k [] h = sym (empty_stretch before k)
 counted_places before k (number ∷ numbers) h =
-    let place : Placed = record { before = before; number = number } in
+    let place : PlacedNumber = record { before = before; number = number } in
     let n = count_by-cons (is_number k) place (placed_from number numbers) in
     let g = count_by-cons (has_in_gap k) place (placed_from number numbers) in
     let below = counted_places number k numbers h.1 in
@@ -45,7 +45,7 @@ Rising-take zero before numbers h = tt
 Rising-take (suc n) before [] h = tt
 Rising-take (suc n) before (number ∷ numbers) h = (h.0, Rising-take n number numbers h.1)
 
-places_of-append : (k : ℕ) (xs ys : List Placed) → places_of k (xs ++ ys) ≡ places_of k xs + places_of k ys
+places_of-append : (k : ℕ) (xs ys : List PlacedNumber) → places_of k (xs ++ ys) ≡ places_of k xs + places_of k ys
 places_of-append k xs ys = omega (arith, count_by-append (is_number k) xs ys, count_by-append (has_in_gap k) xs ys)
 
 -- what waits is past the mark
@@ -57,22 +57,22 @@ waits-sound m k h =
     omega (arith, places, joined)
 
 -- What is settled: each number up to the mark is begun, in the gap of a frame begun, or cleared, and just one of these.
-pub record IsSettled (h : History) : Type 0 where
+pub record IsSettled (h : QueueHistory) : Type 0 where
   pub sound : IsSound h.now
   pub settled : (k : ℕ) → places_of k h.begun + sum_by (λ m. waits m k) h.cleared ≡ one_if (nat_lt 0 k && nat_le k h.now.mark)
 
 -- a call that begins and clears nothing, and leaves the mark
-nothing_more : (h : History) (now : Numbered) → IsSettled h → IsSound now → now.mark ≡ h.now.mark → IsSettled (record { now = now; begun = h.begun ++ []; cleared = h.cleared ++ [] })
+nothing_more : (h : QueueHistory) (now : Numbered) → IsSettled h → IsSound now → now.mark ≡ h.now.mark → IsSettled (record { now = now; begun = h.begun ++ []; cleared = h.cleared ++ [] })
 nothing_more h now s sound mark = record { sound = sound; settled = λ k. rw (append-nil, append-nil, mark) (s.settled k) }
 
 reply_mark : (m : Numbered) (bytes : List ℕ) (b : Bool) → nat_lt (length m.replies) 8 ≡ b → (reply_made m bytes).mark ≡ m.mark
 reply_mark m bytes true e = rw e
 reply_mark m bytes false e = rw e
 
-shows_itself : (m : Numbered) → IsSound m → Shows (shown_of m) m
+shows_itself : (m : Numbered) → IsSound m → ShowsNumbered (shown_of m) m
 shows_itself m h = record { sound = h; same = refl }
 
-pub settled_on : (h : History) (call : Call) → IsSettled h → IsSettled (longer h call)
+pub settled_on : (h : QueueHistory) (call : Call) → IsSettled h → IsSettled (longer h call)
 settled_on h (Push bytes) s = nothing_more h (push_made h.now bytes) s (Shows-data (shown_of h.now) h.now bytes (shows_itself h.now s.sound)).sound refl
 settled_on h Lose s = nothing_more h (lose_made h.now) s (Shows-lost (shown_of h.now) h.now (shows_itself h.now s.sound)).sound refl
 settled_on h (Reply bytes) s = nothing_more h (reply_made h.now bytes) s (Shows-reply (shown_of h.now) h.now bytes (shows_itself h.now s.sound)).sound (reply_mark h.now bytes _ refl)
@@ -100,7 +100,7 @@ settled_on h HangUp s =
           rw append-nil (omega (arith, a, waiting, joined, old));
     }
 
-settled_all : (h : History) (calls : List Call) → IsSettled h → IsSettled (fold longer h calls)
+settled_all : (h : QueueHistory) (calls : List Call) → IsSettled h → IsSettled (fold longer h calls)
 settled_all h [] s = s
 settled_all h (call ∷ calls) s = settled_all (longer h call) calls (settled_on h call s)
 
@@ -110,7 +110,7 @@ settled_at_first size limit h = record {
   settled = λ k. sym (empty_stretch 0 k);
 }
 
-one_fate : (h : History) (k : ℕ) → IsSettled h → fates h k ≡ one_if (nat_le 1 k && nat_le k (length h.now.made))
+one_fate : (h : QueueHistory) (k : ℕ) → IsSettled h → fates h k ≡ one_if (nat_le 1 k && nat_le k (length h.now.made))
 one_fate h k s =
     let waiting = waits-sound h.now k s.sound in
     let joined = one_stretch 0 h.now.mark (length h.now.made) k (omega arith) (omega (arith, s.sound.given, last_number-ge h.now.mark h.now.queue s.sound.rising)) in
@@ -130,8 +130,8 @@ gaps-taken zero made before numbers = refl
 gaps-taken (suc n) made before [] = refl
 gaps-taken (suc n) made before (number ∷ numbers) = ap (λ gaps. saturated (number - before - 1) ∷ gaps) (gaps-taken n made number numbers)
 
-pub queued_gaps : (queue : Queue) (m : Numbered) → Shows queue m → map gap_of queue.frames ≡ map gap_in (placed_from m.mark m.queue)
+pub queued_gaps : (queue : Queue) (m : Numbered) → ShowsNumbered queue m → map gap_of queue.frames ≡ map gap_in (placed_from m.mark m.queue)
 queued_gaps queue m h = rw h.same (gaps-placed m.made m.mark m.queue)
 
-pub begun_gaps : (queue : Queue) (m : Numbered) (n : ℕ) → Shows queue m → map gap_of (frames_begun queue n) ≡ map gap_in (begun_by_call m (Drain n))
+pub begun_gaps : (queue : Queue) (m : Numbered) (n : ℕ) → ShowsNumbered queue m → map gap_of (frames_begun queue n) ≡ map gap_in (begun_by_call m (Drain n))
 begun_gaps queue m n h = rw h.same (gaps-taken (data_begun m n) m.made m.mark m.queue)

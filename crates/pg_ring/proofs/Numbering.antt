@@ -5,7 +5,7 @@ use Rattle.std.proofs.lemmas.Grind.{common_steps}
 use Rattle.std.proofs.lemmas.List.{length_push, get_or_push}
 use Rattle.pg_ring.specs.Shown.{Framed, Queue, saturated, bytes_in, data_frames, empty_queue, emptied, drained}
 use Rattle.pg_ring.specs.Steps.{has_room, room, pass_on, with_data, with_lost, with_reply}
-use Rattle.pg_ring.specs.Numbers.{Numbered, dropped_by, cleared_by, bytes_made, bytes_in_all, last_number, with_gaps, shown_of, newest, push_made, lose_made, data_begun, drain_made, clear_made, reply_made, none_made, Rising, IsSound, Shows}
+use Rattle.pg_ring.specs.Numbers.{Numbered, dropped_by, cleared_by, bytes_made, bytes_in_all, last_number, with_gaps, shown_of, newest, push_made, lose_made, data_begun, drain_made, clear_made, reply_made, none_made, Rising, IsSound, ShowsNumbered}
 
 -- a sum that stopped at the limit goes on as the true one
 pub saturated_add : (a b : ℕ) → saturated (saturated a + saturated b) ≡ saturated (a + b)
@@ -131,7 +131,7 @@ Rising-newest made size limit mark before (first ∷ numbers) m h =
 pending_more : (made last : ℕ) → last ≤ made → saturated (saturated (made - last) + 1) ≡ saturated (made + 1 - last)
 pending_more made last h = omega arith
 
-pub Shows-lost : (queue : Queue) (m : Numbered) → Shows queue m → Shows (with_lost queue) (lose_made m)
+pub Shows-lost : (queue : Queue) (m : Numbered) → ShowsNumbered queue m → ShowsNumbered (with_lost queue) (lose_made m)
 Shows-lost queue m h =
     record {
       sound = record { some_size = h.sound.some_size; rising = h.sound.rising; given = grind (arith, common_steps, h.sound.given) };
@@ -148,7 +148,7 @@ nothing_since n = omega arith
 gap_is_pending : (made last : ℕ) → saturated (made + 1 - last - 1) ≡ saturated (made - last)
 gap_is_pending made last = omega arith
 
-data_step : (m : Numbered) (bytes : List ℕ) (b : Bool) → nat_le (length bytes) m.byte_limit ≡ b → IsSound m → Shows (with_data (shown_of m) bytes) (push_made m bytes)
+data_step : (m : Numbered) (bytes : List ℕ) (b : Bool) → nat_le (length bytes) m.byte_limit ≡ b → IsSound m → ShowsNumbered (with_data (shown_of m) bytes) (push_made m bytes)
 data_step m bytes true e h =
     let made = m.made ++ Some bytes ∷ [] in
     let number : ℕ = length m.made + 1 in
@@ -175,7 +175,7 @@ data_step m bytes false e h =
       same = rw (more, length_push m.made (Some bytes), pending_more (length m.made) (last_number m.mark m.queue) h.given);
     }
 
-pub Shows-data : (queue : Queue) (m : Numbered) (bytes : List ℕ) → Shows queue m → Shows (with_data queue bytes) (push_made m bytes)
+pub Shows-data : (queue : Queue) (m : Numbered) (bytes : List ℕ) → ShowsNumbered queue m → ShowsNumbered (with_data queue bytes) (push_made m bytes)
 Shows-data queue m bytes h = rw h.same (data_step m bytes (nat_le (length bytes) m.byte_limit) refl h.sound)
 
 -- what is left of the frames is what is left of the numbers
@@ -194,7 +194,7 @@ Rising-drop zero before numbers h = h
 Rising-drop (suc k) before [] h = h
 Rising-drop (suc k) before (number ∷ numbers) h = Rising-drop k number numbers h.1
 
-pub Shows-drain : (queue : Queue) (m : Numbered) (n : ℕ) → Shows queue m → Shows (drained queue n) (drain_made m n)
+pub Shows-drain : (queue : Queue) (m : Numbered) (n : ℕ) → ShowsNumbered queue m → ShowsNumbered (drained queue n) (drain_made m n)
 Shows-drain queue m n h =
     let k = data_begun m n in
     record {
@@ -206,26 +206,26 @@ Shows-drain queue m n h =
       same = rw (h.same, with_gaps-drop m.made k m.mark m.queue, last_number-drop k m.mark m.queue);
     }
 
-pub Shows-clear : (queue : Queue) (m : Numbered) → Shows queue m → Shows (emptied queue) (clear_made m)
+pub Shows-clear : (queue : Queue) (m : Numbered) → ShowsNumbered queue m → ShowsNumbered (emptied queue) (clear_made m)
 Shows-clear queue m h =
     record {
       sound = record { some_size = h.sound.some_size; rising = tt; given = omega arith };
       same = rw (h.same, nothing_since (length m.made));
     }
 
-reply_step : (m : Numbered) (bytes : List ℕ) (b : Bool) → nat_lt (length m.replies) 8 ≡ b → IsSound m → Shows (with_reply (shown_of m) bytes) (reply_made m bytes)
+reply_step : (m : Numbered) (bytes : List ℕ) (b : Bool) → nat_lt (length m.replies) 8 ≡ b → IsSound m → ShowsNumbered (with_reply (shown_of m) bytes) (reply_made m bytes)
 reply_step m bytes true e h = rw e record { sound = record { some_size = h.some_size; rising = h.rising; given = h.given }; same = refl }
 reply_step m bytes false e h = rw e record { sound = h; same = refl }
 
-pub Shows-cleared : (queue : Queue) (m : Numbered) (count : ℕ) → Shows queue m → count ≡ data_frames queue → count ≡ cleared_by m
+pub Shows-cleared : (queue : Queue) (m : Numbered) (count : ℕ) → ShowsNumbered queue m → count ≡ data_frames queue → count ≡ cleared_by m
 Shows-cleared queue m count h e =
     let same : data_frames queue ≡ cleared_by m = rw (h.same, length-with_gaps m.made m.mark m.queue) refl in
     e ∙ same
 
-pub Shows-reply : (queue : Queue) (m : Numbered) (bytes : List ℕ) → Shows queue m → Shows (with_reply queue bytes) (reply_made m bytes)
+pub Shows-reply : (queue : Queue) (m : Numbered) (bytes : List ℕ) → ShowsNumbered queue m → ShowsNumbered (with_reply queue bytes) (reply_made m bytes)
 Shows-reply queue m bytes h = rw h.same (reply_step m bytes _ refl h.sound)
 
-pub Shows-none : (size limit : ℕ) → 0 < size → Shows (empty_queue size limit) (none_made size limit)
+pub Shows-none : (size limit : ℕ) → 0 < size → ShowsNumbered (empty_queue size limit) (none_made size limit)
 Shows-none size limit h = record { sound = record { some_size = h; rising = tt; given = omega arith }; same = refl }
 
 -- a count that makes up for what a push leaves is that of the frames dropped
@@ -234,10 +234,10 @@ dropped_step m bytes count true e h = rw (e, length_push m.queue (length m.made 
 dropped_step m bytes count false e h = rw e (omega (arith, rw e at h))
 
 -- what is shown after a push shows what the numbers are then, and its count is that of the frames dropped
-pub Shows-push : (old new : Queue) (m : Numbered) (bytes : List ℕ) (count : ℕ) → new ≡ with_data old bytes → count + length new.frames ≡ length old.frames + 1 → Shows old m → Shows new (push_made m bytes) × (count ≡ dropped_by m bytes)
+pub Shows-push : (old new : Queue) (m : Numbered) (bytes : List ℕ) (count : ℕ) → new ≡ with_data old bytes → count + length new.frames ≡ length old.frames + 1 → ShowsNumbered old m → ShowsNumbered new (push_made m bytes) × (count ≡ dropped_by m bytes)
 Shows-push old new m bytes count s e h =
     let now = push_made m bytes in
-    let shows : Shows new now = rw s (Shows-data old m bytes h) in
+    let shows : ShowsNumbered new now = rw s (Shows-data old m bytes h) in
     let before : length old.frames ≡ length m.queue = ap (λ (q : Queue). length q.frames) h.same ∙ length-with_gaps m.made m.mark m.queue in
     let behind : length new.frames ≡ length now.queue = ap (λ (q : Queue). length q.frames) shows.same ∙ length-with_gaps now.made now.mark now.queue in
     (shows, dropped_step m bytes count _ refl (omega (arith, e, before, behind)))

@@ -20,7 +20,7 @@ queue_of a =
       pending = a.pending;
     }
 
-pub record IsKept (a : Inside) : Type 0 where
+pub record QueueIsKept (a : Inside) : Type 0 where
   pub taken : a.taken ≤ length a.hand.items
   pub counted : a.held ≡ bytes_in (shown a.frames.items)
   pub within_limit : a.held ≤ a.byte_limit

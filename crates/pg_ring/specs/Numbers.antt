@@ -121,6 +121,6 @@ pub record IsSound (m : Numbered) : Type 0 where
   pub given : last_number m.mark m.queue ≤ length m.made
 
 -- a queue shows this state
-pub record Shows (queue : Queue) (m : Numbered) : Type 0 where
+pub record ShowsNumbered (queue : Queue) (m : Numbered) : Type 0 where
   pub sound : IsSound m
   pub same : queue ≡ shown_of m

@@ -3,7 +3,7 @@ ghost use Rattle.std.specs.Prelude.{◌≡◌, ◌+◌, ◌-◌, ◌^◌, ◌<�
 ghost use Rattle.std.specs.List.{flat_map};
 ghost use Rattle.pg_ring.specs.Shown.{Queue, Framed, IsWithinLimits, empty_queue, emptied, data_frames, drained, bytes_to_leave, begun_of, frames_begun, frames_to_leave, saturated, gap_of};
 ghost use Rattle.pg_ring.specs.Steps.{with_data, with_lost, with_reply, takes_reply, begun_next};
-ghost use Rattle.pg_ring.specs.Numbers.{Numbered, Shows, push_made, dropped_by, lose_made, drain_made, clear_made, cleared_by, none_made, reply_made};
+ghost use Rattle.pg_ring.specs.Numbers.{Numbered, ShowsNumbered, push_made, dropped_by, lose_made, drain_made, clear_made, cleared_by, none_made, reply_made};
 
 use crate::ring::{QueuedFrame, copy_front, push_frame};
 use crate::sizes::{RingBytes, RingSize};
@@ -32,11 +32,11 @@ impl Model for OutQueue {
 
     ghost Value = { Queue };
 
-    ghost use Rattle.pg_ring.specs.Fields.{queue_of, IsKept};
+    ghost use Rattle.pg_ring.specs.Fields.{queue_of, QueueIsKept};
 
     ghost view = { queue_of };
 
-    ghost invariant = { IsKept };
+    ghost invariant = { QueueIsKept };
 }
 
 /// What a drain handed out.
@@ -54,7 +54,7 @@ impl OutQueue {
     /// An empty queue, with room reserved for the ring and for 8 replies. Refused with `NoMemory` alone.
     pub fn new(alloc: Global, ring: RingSize, bytes: RingBytes) -> Result<OutQueue, Refusal>
         ensures shown { IfOk result (λ queue. queue ≡ empty_queue ring bytes) }
-        ensures numbered { IfOk result (λ queue. Shows queue (none_made ring bytes)) }
+        ensures numbered { IfOk result (λ queue. ShowsNumbered queue (none_made ring bytes)) }
         ensures memory { IfErr result (λ refusal. refusal ≡ Refusal.NoMemory) }
     {
         let byte_limit = bytes.get() as usize;
@@ -175,8 +175,8 @@ impl OutQueue {
         requires { 0 < vec_len frame }
         ensures dropped { result + length self.new.frames ≡ length self.old.frames + 1 }
         ensures shown { self.new ≡ with_data self.old frame.items }
-        ensures numbered { (m : Numbered) → Shows self.old m
-            → Shows self.new (push_made m frame.items) × (result ≡ dropped_by m frame.items) }
+        ensures numbered { (m : Numbered) → ShowsNumbered self.old m
+            → ShowsNumbered self.new (push_made m frame.items) × (result ≡ dropped_by m frame.items) }
     {
         if frame.len() > self.byte_limit {
             self.pending = self.pending.saturating_add(1);
@@ -194,7 +194,7 @@ impl OutQueue {
     /// Counts a data frame that was lost: it was not composed, for want of memory.
     pub fn push_lost(&mut self)
         ensures shown { self.new ≡ with_lost self.old }
-        ensures numbered { (m : Numbered) → Shows self.old m → Shows self.new (lose_made m) }
+        ensures numbered { (m : Numbered) → ShowsNumbered self.old m → ShowsNumbered self.new (lose_made m) }
     {
         self.pending = self.pending.saturating_add(1);
     }
@@ -205,8 +205,8 @@ impl OutQueue {
         requires { 0 < vec_len frame }
         ensures answer { result ≡ (if takes_reply self.old then Ok tt else Err Refusal.ReplyFull) }
         ensures shown { self.new ≡ with_reply self.old frame.items }
-        ensures numbered { (m : Numbered) → Shows self.old m
-            → Shows self.new (reply_made m frame.items) }
+        ensures numbered { (m : Numbered) → ShowsNumbered self.old m
+            → ShowsNumbered self.new (reply_made m frame.items) }
     {
         if self.replies.is_full() {
             return Err(Refusal::ReplyFull);
@@ -220,8 +220,8 @@ impl OutQueue {
     pub fn clear(&mut self) -> u64
         ensures count { result ≡ data_frames self.old }
         ensures shown { self.new ≡ emptied self.old }
-        ensures numbered { (m : Numbered) → Shows self.old m
-            → Shows self.new (clear_made m) × (result ≡ cleared_by m) }
+        ensures numbered { (m : Numbered) → ShowsNumbered self.old m
+            → ShowsNumbered self.new (clear_made m) × (result ≡ cleared_by m) }
     {
         let in_hand = self.data_in_hand && self.taken < self.hand.len();
         let cleared = self.frames.len() as u64 + u64::from(in_hand);
@@ -277,8 +277,8 @@ impl OutQueue {
         ensures begun { result.begun ≡ begun_of self.old (length buf.old) }
         ensures gap { result.gap ≡ saturated (sum_by gap_of (frames_begun self.old (length buf.old))) }
         ensures shown { self.new ≡ drained self.old (length buf.old) }
-        ensures numbered { (m : Numbered) → Shows self.old m
-            → Shows self.new (drain_made m (length buf.old)) }
+        ensures numbered { (m : Numbered) → ShowsNumbered self.old m
+            → ShowsNumbered self.new (drain_made m (length buf.old)) }
     {
         // shows the proof what the fields keep: at most 8 replies and 1,024 data frames wait
         let _ = &self.hand;

@@ -3,12 +3,15 @@
 
 mod clerk;
 mod failure;
+mod making;
 mod opening;
 mod operator;
 mod patient;
 mod reloading;
 mod running;
 mod seeing;
+mod serving;
+mod sharing;
 mod steering;
 mod workers;
 
@@ -16,3 +19,4 @@ pub use clerk::Counter;
 pub use failure::Failure;
 pub use operator::{Console, EditsAlone, Steering, Told, answer_lines};
 pub use running::{run, run_for};
+pub use sharing::{Seated, SetUp, serve_by, set_up};

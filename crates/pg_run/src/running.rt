@@ -5,23 +5,18 @@ ghost use Rattle.std.specs.Duration.{as_nanos};
 ghost use Rattle.pg_run.specs.Limits.{limit_of};
 
 use crate::failure::{Failure, not_bound};
-use crate::opening::{Openings, window_worker};
-use crate::operator::{Desk, Operator, Told};
+use crate::making::Place;
+use crate::opening::Openings;
+use crate::operator::Desk;
 use crate::patient::Patient;
-use crate::reloading::{InForce, filter_of};
-use crate::workers::{
-    Worker, join_all, mailboxes, port_workers, share_ports, share_sources, source_workers, told_as,
-};
+use crate::reloading::filter_of;
+use crate::serving::{Known, Plan, serve_all};
+use crate::sharing::{SetUp, set_up};
+use crate::workers::told_as;
 use mio::net::TcpListener as PortListener;
-use pg_gateway::Gateway;
 use pg_limits::ClockGuard;
 use pg_operator::{BoundBy, PortRules, Setup, SourceRules, read_setup};
-use pg_serve::{Named, Seat, SeatGate, Shared, SharedGate, run_workers};
-use pg_service::{
-    Address, Board, Detail, Dial, DoorRules, Entry, Finder, Journal, Logger, Lookup, Mailbox,
-    Neighbours, Notice, Port, PortOrder, Registered, SourceOrder, Ticker, Waiting, Whom,
-    post_edits,
-};
+use pg_service::{Address, Board, Dial, DoorRules, Journal, Port};
 use pg_wire::{PmuId, Refusal, SubId};
 use std::alloc::Global;
 use std::io::{BufReader, BufWriter, StdinLock};
@@ -33,18 +28,6 @@ use std::sync::{Mutex, Wait};
 use std::thread::Threads;
 use std::time::{Duration, Instant};
 use std::{fs, io};
-
-/// What is served, and by how many.
-#[derive(Drop)]
-struct Plan {
-    ports: Vec<Port>,
-    dials: Vec<Dial>,
-    openings: Openings,
-    tick: Duration,
-    ingest: usize,
-    serve: usize,
-    now: Instant,
-}
 
 /// The work of `pdcgw run`, with the lines of standard input, answered on standard output: reads the setup, posts its edits, listens
 /// on the subscribers' ports and where an operator is served, and then serves until the line `quit` comes (own rule). The end of the
@@ -148,12 +131,11 @@ where
         status,
     } = setup_in(files, alloc, file)?;
     let in_force = Mutex::new(setup_in(files, alloc, file)?);
-    let (shared, seat) = Shared::new(alloc, Gateway::new(alloc)?)?;
-    let mut registered = Registered::new(alloc)?;
-    let mut gate = SeatGate::new(rt, &shared, seat);
-    post_edits(&mut gate, edits, &mut registered)?;
-    let gateway = gate.gateway();
-    let seat = gate.into_seat();
+    let SetUp {
+        shared,
+        seat,
+        registered,
+    } = set_up(rt, alloc, edits)?;
     let now = match Instant::now(rt) {
         Ok(now) => now,
         Err(error) => return Err(Failure::Refused(told_as(error))),
@@ -179,36 +161,13 @@ where
         file,
         setup: &in_force,
     };
-    let ended = serve_all::<R, Brand>(rt, alloc, gateway, seat, plan, desk, &known, place, stop);
+    let ended = serve_all::<R, Brand>(rt, alloc, &shared, seat, plan, desk, &known, place, stop);
     if let Some(path) = control {
         // Where it can't be removed, the next start replaces it.
         let _ = fs::remove_file(files, path.as_str());
     }
     ended?;
     Ok(())
-}
-
-/// What all workers know.
-#[derive(Drop)]
-struct Known {
-    journal: Journal,
-    board: Board,
-    registered: Mutex<Registered>,
-}
-
-/// Where the setup stands by which the service runs.
-#[derive(Clone, Copy)]
-pub(crate) struct Place<'a> {
-    files: &'a HostRuntime,
-    file: &'a str,
-    setup: &'a Mutex<Setup>,
-}
-
-impl<'a> Place<'a> {
-    /// For who answers lines.
-    pub(crate) fn in_force<R: Net + Clock>(self, rt: &'a R) -> InForce<'a, R> {
-        InForce::new(rt, self.files, self.file, self.setup)
-    }
 }
 
 /// The setup that a file has.
@@ -393,186 +352,4 @@ fn dial_of(alloc: Global, link: &(PmuId, String), sources: &[SourceRules]) -> Re
         silence,
         guard,
     })
-}
-
-/// What workers wait with and are told by.
-#[derive(Drop)]
-struct Boxes {
-    sources: Vec<Mailbox<SourceOrder>>,
-    ports: Vec<Mailbox<PortOrder>>,
-    names: Vec<Mailbox<Lookup>>,
-    window: Option<Mailbox<()>>,
-}
-
-/// The waits of the workers of each kind.
-#[derive(Drop)]
-struct Waits {
-    sources: Vec<Waiting>,
-    ports: Vec<Waiting>,
-    names: Vec<Waiting>,
-    window: Option<Waiting>,
-}
-
-/// Serves by workers until they are stopped. Their seats are split from this one, and joined to it at the end.
-fn serve_all<
-    R: Input<Reader = StdinLock<'static>>
-        + Print
-        + Eprint
-        + Clock
-        + Net<Listener = TcpListener, Stream = TcpStream>
-        + Threads
-        + Wait
-        + Sync,
-    N: Named + Send,
->(
-    rt: &R,
-    alloc: Global,
-    shared: &Shared,
-    seat: Seat,
-    plan: Plan,
-    desk: Desk<'_, R>,
-    known: &Known,
-    place: Place<'_>,
-    stop: &AtomicBool,
-) -> Result<(), Refusal>
-    requires shared { shared.now ≡ N.table }
-    requires seat { seat.table ≡ N.table }
-{
-    let (source_waits, sources) = mailboxes(rt, alloc, plan.ingest)?;
-    let (port_waits, ports) = mailboxes(rt, alloc, plan.serve)?;
-    let (name_waits, names) = mailboxes(rt, alloc, 1)?;
-    let windows = usize::from(plan.openings.is_any());
-    let (mut window_waits, mut window_boxes) = mailboxes(rt, alloc, windows)?;
-    let waits = Waits {
-        sources: source_waits,
-        ports: port_waits,
-        names: name_waits,
-        window: window_waits.pop(),
-    };
-    let boxes = Boxes {
-        sources,
-        ports,
-        names,
-        window: window_boxes.pop(),
-    };
-    let (seat, workers) = make_workers::<R, N>(
-        rt, alloc, shared, seat, plan, waits, &boxes, desk, known, place, stop,
-    )?;
-    let back = run_workers(rt, alloc, workers, u64::MAX, stop)?;
-    join_all(shared, seat, back);
-    Ok(())
-}
-
-/// All workers. The one that waits for lines is the last, so that where a thread can't be started it is not there to wait for.
-fn make_workers<
-    'a,
-    R: Input<Reader = StdinLock<'static>>
-        + Print
-        + Eprint
-        + Clock
-        + Net<Listener = TcpListener, Stream = TcpStream>
-        + Wait,
-    N: Named,
->(
-    rt: &'a R,
-    alloc: Global,
-    shared: &'a Shared,
-    seat: Seat,
-    plan: Plan,
-    waits: Waits,
-    boxes: &'a Boxes,
-    desk: Desk<'a, R>,
-    known: &'a Known,
-    place: Place<'a>,
-    stop: &'a AtomicBool,
-) -> Result<(Seat, Vec<Worker<'a, R, N>>), Refusal>
-    requires shared { shared.now ≡ N.table }
-    requires seat { seat.table ≡ N.table }
-    ensures seat { IfOk result (λ made. made.0.table ≡ N.table) }
-{
-    let Some(finder) = boxes.names.first() else {
-        return Err(Refusal::NoMemory);
-    };
-    let neighbours = Neighbours {
-        ports: &boxes.ports,
-        finder,
-        journal: &known.journal,
-        board: &known.board,
-    };
-    let told = Told {
-        sources: &boxes.sources,
-        neighbours,
-        registered: &known.registered,
-        window: boxes.window.as_ref(),
-        stop,
-    };
-    let mut workers = Vec::new(alloc);
-    let (seat, mut callers) = source_workers::<R, N>(
-        rt,
-        alloc,
-        shared,
-        seat,
-        waits.sources,
-        &boxes.sources,
-        neighbours,
-        plan.now,
-    )?;
-    share_sources(&mut callers, plan.dials)?;
-    for worker in callers {
-        workers.push(Worker::Sources(worker))?;
-    }
-    let (seat, mut servers) = port_workers::<R, N>(
-        rt,
-        alloc,
-        shared,
-        seat,
-        waits.ports,
-        neighbours,
-        plan.now,
-    )?;
-    tell_ports(rt, &known.journal, &plan.ports);
-    share_ports(&mut servers, plan.ports)?;
-    for worker in servers {
-        workers.push(Worker::Subscribers(worker))?;
-    }
-    for waiting in waits.names {
-        let names = Finder::new(rt, alloc, waiting, finder, &boxes.sources, &known.journal);
-        workers.push(Worker::Names(names))?;
-    }
-    let (seat, window) = window_worker::<R, N>(
-        rt,
-        alloc,
-        shared,
-        seat,
-        waits.window,
-        plan.openings,
-        told,
-        place,
-        plan.now,
-    )?;
-    if let Some(worker) = window {
-        workers.push(worker)?;
-    }
-    let (seat, own) = shared.split(seat);
-    let gate = SharedGate::new(rt, shared, own);
-    workers.push(Worker::Ticks(Ticker::new(rt, gate, plan.tick, neighbours)))?;
-    match Logger::new(rt, alloc, &known.journal, plan.now) {
-        Ok(log) => workers.push(Worker::Log(log))?,
-        Err(error) => return Err(told_as(error)),
-    }
-    let (seat, own) = shared.split(seat);
-    let gate = SharedGate::new(rt, shared, own);
-    let in_force = place.in_force(rt);
-    workers.push(Worker::Lines(Operator::new(rt, alloc, gate, desk, told, in_force)))?;
-    Ok((seat, workers))
-}
-
-/// Tells the log where each subscriber may connect.
-fn tell_ports<R: Wait>(rt: &R, journal: &Journal, ports: &[Port]) {
-    for port in ports {
-        if let Ok(address) = port.address() {
-            let whom = Whom::Subscriber(port.sub());
-            journal.tell(rt, Entry::new(Notice::Listening, whom, Detail::At(address)));
-        }
-    }
 }

@@ -1,16 +1,15 @@
 //! The workers of the running program.
 
-ghost use Rattle.std.specs.Prelude.{◌≡◌, ◌≢◌, IfOk};
+ghost use Rattle.std.specs.Prelude.{◌≡◌, ◌≢◌, is_some};
 ghost use Rattle.std.specs.IoError.{error_kind};
+ghost use Rattle.pg_run.specs.Kinds.{has_seat};
 
 use crate::clerk::Counter;
 use crate::operator::Operator;
 use crate::reloading::InForce;
-use pg_serve::{Named, Seat, Shared, SharedGate, Work};
-use pg_service::{
-    Dial, Finder, Logger, Mailbox, Neighbours, Port, PortOrder, PortWorker, SourceOrder,
-    SourceWorker, Ticker, Waiting,
-};
+use crate::sharing::Seated;
+use pg_serve::{Named, Seat, Work};
+use pg_service::{Dial, Finder, Logger, Mailbox, Port, PortWorker, SourceWorker, Ticker, Waiting};
 use pg_window::Window;
 use pg_wire::Refusal;
 use std::alloc::Global;
@@ -19,7 +18,6 @@ use std::io::{ErrorKind, StdinLock};
 use std::net::{Net, TcpListener, TcpStream};
 use std::rt::Clock;
 use std::sync::Wait;
-use std::time::Instant;
 
 /// A worker of any kind, so that one list has them all.
 #[derive(Drop)]
@@ -65,7 +63,6 @@ impl<
 }
 
 impl<
-    'a,
     R: Wait
         + Net<Listener = TcpListener, Stream = TcpStream>
         + Clock
@@ -73,41 +70,23 @@ impl<
         + Print
         + Eprint,
     N: Named,
-> Worker<'a, R, N> {
-    /// Its gate, if it has one.
-    fn into_gate(self) -> Option<SharedGate<'a, R, N>> {
-        match self {
-            Worker::Sources(worker) => Some(worker.into_gate()),
-            Worker::Subscribers(worker) => Some(worker.into_gate()),
-            Worker::Names(_) | Worker::Log(_) => None,
-            Worker::Ticks(worker) => Some(worker.into_gate()),
-            Worker::Lines(worker) => Some(worker.into_gate()),
-            Worker::Window(worker) => Some(worker.into_clerk().into_gate()),
-        }
-    }
-}
+> Seated for Worker<'_, R, N> {
+    ghost table = { N.table };
 
-/// Joins the seats of the workers to this one.
-pub fn join_all<
-    R: Wait
-        + Net<Listener = TcpListener, Stream = TcpStream>
-        + Clock
-        + Input<Reader = StdinLock<'static>>
-        + Print
-        + Eprint,
-    N: Named,
->(shared: &Shared, seat: Seat, workers: Vec<Worker<'_, R, N>>) -> Seat
-    requires shared { shared.now ≡ N.table }
-    requires seat { seat.table ≡ N.table }
-    ensures seat { result.table ≡ N.table }
-{
-    let mut joined = seat;
-    'workers: for worker in workers {
-        if let Some(gate) = worker.into_gate() {
-            joined = shared.join(joined, gate.into_seat());
-        }
+    // Just who looks up names and who writes the log have none.
+    ghost gives = { λ worker seat. is_some seat ≡ has_seat worker };
+
+    fn into_seat(self) -> Option<Seat> {
+        let gate = match self {
+            Worker::Sources(worker) => worker.into_gate(),
+            Worker::Subscribers(worker) => worker.into_gate(),
+            Worker::Names(_) | Worker::Log(_) => return None,
+            Worker::Ticks(worker) => worker.into_gate(),
+            Worker::Lines(worker) => worker.into_gate(),
+            Worker::Window(worker) => worker.into_clerk().into_gate(),
+        };
+        Some(gate.into_seat())
     }
-    joined
 }
 
 /// What the system's fault ends the program with, where it starts: want of memory, or what it waits for or listens to can't be
@@ -122,6 +101,18 @@ pub fn told_as(error: io::Error) -> Refusal
     }
 }
 
+/// What a worker waits with, and its mailbox.
+pub fn mailbox<R: Net, O: Drop>(rt: &R, alloc: Global) -> Result<(Waiting, Mailbox<O>), Refusal> {
+    let made = match Waiting::new(rt, alloc) {
+        Ok(made) => made,
+        Err(error) => return Err(told_as(error)),
+    };
+    match Mailbox::new(alloc, made.poll()) {
+        Ok(mailbox) => Ok((made, mailbox)),
+        Err(error) => Err(told_as(error)),
+    }
+}
+
 /// The waits of so many workers, and a mailbox for each.
 pub fn mailboxes<R: Net, O: Drop>(
     rt: &R,
@@ -131,79 +122,11 @@ pub fn mailboxes<R: Net, O: Drop>(
     let mut waits = Vec::new(alloc);
     let mut boxes = Vec::new(alloc);
     for _ in 0..count {
-        let made = match Waiting::new(rt, alloc) {
-            Ok(made) => made,
-            Err(error) => return Err(told_as(error)),
-        };
-        match Mailbox::new(alloc, made.poll()) {
-            Ok(mailbox) => boxes.push(mailbox)?,
-            Err(error) => return Err(told_as(error)),
-        }
+        let (made, mailbox) = mailbox(rt, alloc)?;
         waits.push(made)?;
+        boxes.push(mailbox)?;
     }
     Ok((waits, boxes))
-}
-
-/// A worker that calls sources for each of these waits, with its mailbox and a seat that is split from this one.
-pub fn source_workers<'a, R: Wait + Net + Clock, N: Named>(
-    rt: &'a R,
-    alloc: Global,
-    shared: &'a Shared,
-    seat: Seat,
-    waits: Vec<Waiting>,
-    boxes: &'a [Mailbox<SourceOrder>],
-    neighbours: Neighbours<'a>,
-    now: Instant,
-) -> Result<(Seat, Vec<SourceWorker<'a, R, N>>), Refusal>
-    requires shared { shared.now ≡ N.table }
-    requires seat { seat.table ≡ N.table }
-    ensures seat { IfOk result (λ made. made.0.table ≡ N.table) }
-{
-    let mut rest = seat;
-    let mut made = Vec::new(alloc);
-    let mut number = 0;
-    'workers: for waiting in waits {
-        let Some(mailbox) = boxes.get(number) else {
-            break;
-        };
-        let (next, own) = shared.split(rest);
-        rest = next;
-        let gate = SharedGate::new(rt, shared, own);
-        made.push(SourceWorker::new(rt, alloc, gate, waiting, number, mailbox, neighbours, now))?;
-        number += 1;
-    }
-    Ok((rest, made))
-}
-
-/// A worker that serves subscribers for each of these waits, with its mailbox and a seat that is split from this one.
-pub fn port_workers<'a, R: Wait + Net + Clock, N: Named>(
-    rt: &'a R,
-    alloc: Global,
-    shared: &'a Shared,
-    seat: Seat,
-    waits: Vec<Waiting>,
-    neighbours: Neighbours<'a>,
-    now: Instant,
-) -> Result<(Seat, Vec<PortWorker<'a, R, N>>), Refusal>
-    requires shared { shared.now ≡ N.table }
-    requires seat { seat.table ≡ N.table }
-    ensures seat { IfOk result (λ made. made.0.table ≡ N.table) }
-{
-    let mut rest = seat;
-    let mut made = Vec::new(alloc);
-    let mut number = 0;
-    'workers: for waiting in waits {
-        let Some(mailbox) = neighbours.ports.get(number) else {
-            break;
-        };
-        let (next, own) = shared.split(rest);
-        rest = next;
-        let gate = SharedGate::new(rt, shared, own);
-        let Neighbours { journal, board, .. } = neighbours;
-        made.push(PortWorker::new(rt, alloc, gate, waiting, mailbox, journal, board, now))?;
-        number += 1;
-    }
-    Ok((rest, made))
 }
 
 /// Gives each source to one of the workers, in turn.

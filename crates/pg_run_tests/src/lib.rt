@@ -8,4 +8,6 @@ mod peers;
 #[cfg(test)]
 mod reloads;
 #[cfg(test)]
+mod sharing;
+#[cfg(test)]
 mod windows;

@@ -1,6 +1,6 @@
 //! Lines are answered in order, edits posted, and `quit` ends all workers.
+use pg_fakes::FakeWriter;
 use pg_gateway::{Event, Gate, Gateway, Reply};
-use pg_ingest::fakes::FakeWriter;
 use pg_run::{Console, EditsAlone, Told, answer_lines};
 use pg_service::{
     Board, Journal, Lookup, Mailbox, Neighbours, Notice, PortOrder, Registered, SourceOrder,

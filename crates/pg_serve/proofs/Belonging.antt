@@ -28,15 +28,15 @@ use Rattle.pg_session.specs.ByAll.{by_arrivals, by_numbers}
 use Rattle.pg_session.specs.Commands.{Item, commands, ignores, item_of, items_of, break_in}
 use Rattle.pg_gateway.specs.Occurrences.{Occurrence, add_pmu, drop_pmu, add_sub, drop_sub, grant, asks, announce, measure, tick, stats, pmu_stats, audit, standing, Answer, tells, sub_counts, pmu_counts, entry, stands}
 use Rattle.pg_gateway.specs.Judging.{registered_of, block_counted, blocks_counted, memory_counted, all_announced}
-use Rattle.pg_gateway.specs.Sharing.{Seat, Offer, revokes, announces, measures, ticks, some_announced, some_measured, share}
-use Rattle.pg_gateway.specs.Shared.{Shared, seat_of, own_of, refusal, Reach, to_all, to_one, adds, drops, to_none, unless, reach, reached_answer, frames_reached, granting, judged_in, is_refusal, wants_memory, pmus_after, next}
+use Rattle.pg_gateway.specs.Sharing.{SubscriberSlot, Offer, revokes, announces, measures, ticks, some_announced, some_measured, share}
+use Rattle.pg_gateway.specs.State.{SharedMachine, slot_of, own_of, refusal, Reach, to_all, to_one, adds, drops, to_none, unless, reach, reached_answer, frames_reached, granting, judged_in, is_refusal, wants_memory, pmus_after, next}
 use Rattle.pg_gateway.specs.Histories.{state_after}
 use Rattle.pg_gateway.specs.Views.{takes, unless_refused, full_told, private_run, as_seen, share_seen, part_of, full_by, full_answer, shared_step}
-use Rattle.pg_gateway.proofs.SeatLaws.{Alone, SameNumbers, Alone-same, Alone-removed, same_itself, lookup-removed, owned}
+use Rattle.pg_gateway.proofs.SlotLaws.{Alone, SameNumbers, Alone-same, Alone-removed, same_itself, lookup-removed, owned}
 use Rattle.pg_gateway.proofs.ViewLaws.{full_own, own_full, own-step, Alone-next}
 use Rattle.pg_serve.specs.Inputs.{Fact, link_up, pmu_bytes, sub_bytes, names}
 use Rattle.pg_serve.specs.Dues.{Due, posts, ignores_frame, closes, refuses, pairs_of, item_due, hang_up, session_grows, told_due, link_due, close}
-use Rattle.pg_serve.specs.Moments.{LinePast, Moment, opening, is_done, is_done_so, has_source, new_line, lines_by, put_line, put_fed, fed_more, all_given, line_after, after_turn, after_turns, heard_due, up_due}
+use Rattle.pg_serve.specs.Moments.{SourceLinkPast, Moment, opening, is_done, is_done_so, has_source, new_source_link, lines_by, put_line, put_fed, fed_more, all_given, line_after, after_turn, after_turns, heard_due, up_due}
 use Rattle.pg_serve.proofs.Lines.{no_rest}
 use Rattle.pg_serve.proofs.Taking.{grows}
 use Rattle.pg_serve.specs.Full.{full_deeds, after_due, told_more, told_dues, full_turn, full_turns, moment_of}
@@ -75,7 +75,7 @@ KeepsKeys (pmu_stats key) = Unit {0}
 KeepsKeys (audit u index) = Unit {0}
 KeepsKeys (standing u place) = Unit {0}
 
-keys_after : (S : Shared) (e : Occurrence) (t : Told) → KeepsKeys e → keys_of (pmus_after S e t) ≡ keys_of S.pmus
+keys_after : (S : SharedMachine) (e : Occurrence) (t : Told) → KeepsKeys e → keys_of (pmus_after S e t) ≡ keys_of S.pmus
 keys_after S (add_pmu key) t keeps = absurd keeps
 keys_after S (drop_pmu key) t keeps = absurd keeps
 keys_after S (add_sub u size bytes) t keeps = refl
@@ -104,7 +104,7 @@ keys_after S (pmu_stats key) t keeps = refl
 keys_after S (audit u index) t keeps = refl
 keys_after S (standing u place) t keeps = refl
 
-pub sources_kept : (S : Shared) (e : Occurrence) (a : Answer) (s : ℕ) → KeepsKeys e → has_source (next S e a) s ≡ has_source S s
+pub sources_kept : (S : SharedMachine) (e : Occurrence) (a : Answer) (s : ℕ) → KeepsKeys e → has_source (next S e a) s ≡ has_source S s
 sources_kept S e (tells t) s keeps = ap (list_source s) (keys_after S e t keeps)
   where
     list_source : ℕ → List PmuKey → Bool
@@ -333,7 +333,7 @@ unless_keeps : (r : Option Refusal) (o : Offer) → KeepsReach (unless r (to_all
 unless_keeps None o = tt
 unless_keeps (Some r) o = tt
 
-keeps_reach : (S : Shared) (e : Occurrence) → KeepsSessions e → KeepsReach (reach S e)
+keeps_reach : (S : SharedMachine) (e : Occurrence) → KeepsSessions e → KeepsReach (reach S e)
 keeps_reach S (add_pmu key) k = tt
 keeps_reach S (drop_pmu key) k = unless_keeps (refusal S (drop_pmu key)) _
 keeps_reach S (add_sub u size bytes) k = absurd k
@@ -352,7 +352,7 @@ keeps_reach S (pmu_stats key) k = tt
 keeps_reach S (audit u index) k = tt
 keeps_reach S (standing u place) k = tt
 
-sessions_kept : (S : Shared) (e : Occurrence) (u : ℕ) → Alone S.subs → KeepsSessions e → connected_in (own_of u (shared_step S e)) ≡ connected_in (own_of u S)
+sessions_kept : (S : SharedMachine) (e : Occurrence) (u : ℕ) → Alone S.subs → KeepsSessions e → connected_in (own_of u (shared_step S e)) ≡ connected_in (own_of u S)
 sessions_kept S e u alone k = ap connected_in (own-step u S e alone) ∙ reach_keeps u (own_of u S) (reach S e) (keeps_reach S e k)
 
 -- ---- what connects a subscriber, and what ends that
@@ -371,7 +371,7 @@ hangup_so p = by p.connected refl
     by true is = refl
     by false is = is
 
-connects : (S : Shared) (w u : ℕ) → Alone S.subs
+connects : (S : SharedMachine) (w u : ℕ) → Alone S.subs
     → connected_in (own_of u (shared_step S (asks w session.connect))) ≡ (if nat_eq u w then is_some (own_of u S) else connected_in (own_of u S))
 connects S w u alone = ap connected_in (own-step u S (asks w session.connect) alone) ∙ by (nat_eq u w) (own_of u S)
   where
@@ -380,7 +380,7 @@ connects S w u alone = ap connected_in (own-step u S (asks w session.connect) al
     by true (Some p) = connect_so p
     by false o = refl
 
-hangs_up : (S : Shared) (w u : ℕ) → Alone S.subs
+hangs_up : (S : SharedMachine) (w u : ℕ) → Alone S.subs
     → connected_in (own_of u (shared_step S (asks w session.hangup))) ≡ (if nat_eq u w then false else connected_in (own_of u S))
 hangs_up S w u alone = ap connected_in (own-step u S (asks w session.hangup) alone) ∙ by (nat_eq u w) (own_of u S)
   where
@@ -389,10 +389,10 @@ hangs_up S w u alone = ap connected_in (own-step u S (asks w session.hangup) alo
     by true (Some p) = hangup_so p
     by false o = refl
 
-pub connect_done : (S : Shared) (w : ℕ) → is_done (full_answer S (asks w session.connect)) ≡ (is_some (own_of w S) && not (connected_in (own_of w S)))
-connect_done S w = ap is_done (own_full (seat_of w S.subs) session.connect) ∙ by (seat_of w S.subs)
+pub connect_done : (S : SharedMachine) (w : ℕ) → is_done (full_answer S (asks w session.connect)) ≡ (is_some (own_of w S) && not (connected_in (own_of w S)))
+connect_done S w = ap is_done (own_full (slot_of w S.subs) session.connect) ∙ by (slot_of w S.subs)
   where
-    by : (o : Option Seat) → is_done_so (full_own o session.connect) ≡ (is_some (owned o) && not (connected_in (owned o)))
+    by : (o : Option SubscriberSlot) → is_done_so (full_own o session.connect) ≡ (is_some (owned o) && not (connected_in (owned o)))
     by None = refl
     by (Some s) = so s.own.connected
       where
@@ -400,10 +400,10 @@ connect_done S w = ap is_done (own_full (seat_of w S.subs) session.connect) ∙ 
         so true = refl
         so false = refl
 
-pub hangup_done : (S : Shared) (w : ℕ) → is_done (full_answer S (asks w session.hangup)) ≡ connected_in (own_of w S)
-hangup_done S w = ap is_done (own_full (seat_of w S.subs) session.hangup) ∙ by (seat_of w S.subs)
+pub hangup_done : (S : SharedMachine) (w : ℕ) → is_done (full_answer S (asks w session.hangup)) ≡ connected_in (own_of w S)
+hangup_done S w = ap is_done (own_full (slot_of w S.subs) session.hangup) ∙ by (slot_of w S.subs)
   where
-    by : (o : Option Seat) → is_done_so (full_own o session.hangup) ≡ connected_in (owned o)
+    by : (o : Option SubscriberSlot) → is_done_so (full_own o session.hangup) ≡ connected_in (owned o)
     by None = refl
     by (Some s) = so s.own.connected
       where
@@ -412,33 +412,33 @@ hangup_done S w = ap is_done (own_full (seat_of w S.subs) session.hangup) ∙ by
         so false = refl
 
 -- a subscriber that is dropped is not there, and not connected
-drops_sub : (S : Shared) (w u : ℕ) → Alone S.subs → connected_in (own_of u (shared_step S (drop_sub w))) ≡ (if nat_eq u w then false else connected_in (own_of u S))
-drops_sub S w u alone = ap connected_in (own-step u S (drop_sub w) alone) ∙ by (is_some (seat_of w S.subs)) refl (nat_eq u w) refl
+drops_sub : (S : SharedMachine) (w u : ℕ) → Alone S.subs → connected_in (own_of u (shared_step S (drop_sub w))) ≡ (if nat_eq u w then false else connected_in (own_of u S))
+drops_sub S w u alone = ap connected_in (own-step u S (drop_sub w) alone) ∙ by (is_some (slot_of w S.subs)) refl (nat_eq u w) refl
   where
-    by : (there : Bool) → is_some (seat_of w S.subs) ≡ there → (b : Bool) → nat_eq u w ≡ b
+    by : (there : Bool) → is_some (slot_of w S.subs) ≡ there → (b : Bool) → nat_eq u w ≡ b
         → connected_in (private_run (own_of u S) (part_of u (own_of u S) (unless (refuse (not there) NoSuchSub None) (drops w)))) ≡ (if b then false else connected_in (own_of u S))
     by true is true same = rw same refl
     by true is false other = rw other refl
-    by false is true same = ap (λ o. connected_in (option_map (λ s. s.own) o)) (none_of (seat_of u S.subs) (ap (λ v. is_some (seat_of v S.subs)) (eqb-true u w same) ∙ is))
+    by false is true same = ap (λ o. connected_in (option_map (λ s. s.own) o)) (none_of (slot_of u S.subs) (ap (λ v. is_some (slot_of v S.subs)) (eqb-true u w same) ∙ is))
     by false is false other = refl
 
-pub drop_done : (S : Shared) (w : ℕ) → is_done (full_answer S (drop_sub w)) ≡ is_some (seat_of w S.subs)
-drop_done S w = by (is_some (seat_of w S.subs))
+pub drop_done : (S : SharedMachine) (w : ℕ) → is_done (full_answer S (drop_sub w)) ≡ is_some (slot_of w S.subs)
+drop_done S w = by (is_some (slot_of w S.subs))
   where
     by : (there : Bool) → is_done (full_by (refuse (not there) NoSuchSub None) (tells (reached_answer (unless (refuse (not there) NoSuchSub None) (drops w)) S.subs (frames_reached (unless (refuse (not there) NoSuchSub None) (drops w)) S.subs)))) ≡ there
     by true = refl
     by false = refl
 
 -- one that is added is not connected, and it was not there
-adds_sub : (S : Shared) (w size bytes u : ℕ) → Alone S.subs → connected_in (own_of u (shared_step S (add_sub w size bytes))) ≡ connected_in (own_of u S)
-adds_sub S w size bytes u alone = ap connected_in (own-step u S (add_sub w size bytes) alone) ∙ by (is_some (seat_of w S.subs)) refl (nat_le 64 (length S.subs)) (nat_eq u w) refl
+adds_sub : (S : SharedMachine) (w size bytes u : ℕ) → Alone S.subs → connected_in (own_of u (shared_step S (add_sub w size bytes))) ≡ connected_in (own_of u S)
+adds_sub S w size bytes u alone = ap connected_in (own-step u S (add_sub w size bytes) alone) ∙ by (is_some (slot_of w S.subs)) refl (nat_le 64 (length S.subs)) (nat_eq u w) refl
   where
-    by : (there : Bool) → is_some (seat_of w S.subs) ≡ there → (full : Bool) → (b : Bool) → nat_eq u w ≡ b
+    by : (there : Bool) → is_some (slot_of w S.subs) ≡ there → (full : Bool) → (b : Bool) → nat_eq u w ≡ b
         → connected_in (private_run (own_of u S) (part_of u (own_of u S) (unless (refuse there SubExists (refuse full SubsFull None)) (adds w size bytes S.last_tick)))) ≡ connected_in (own_of u S)
     by true is full b e = refl
     by false is true b e = refl
     by false is false true same =
-        rw same (sym (ap (λ o. connected_in (option_map (λ s. s.own) o)) (none_of (seat_of u S.subs) (ap (λ v. is_some (seat_of v S.subs)) (eqb-true u w same) ∙ is))))
+        rw same (sym (ap (λ o. connected_in (option_map (λ s. s.own) o)) (none_of (slot_of u S.subs) (ap (λ v. is_some (slot_of v S.subs)) (eqb-true u w same) ∙ is))))
     by false is false false other = rw other refl
 
 -- ---- moments
@@ -490,22 +490,22 @@ pub record Belongs (m : Moment) : Type 0 where
   pub fed : (u : ℕ) → is_some (lookup (nat_eq u) m.fed) ≡ connected_in (own_of u m.shared)
 
 -- no key is registered or dropped, and no subscriber connected or hung up
-record Stays (S T : Shared) : Type 0 where
+record Stays (S T : SharedMachine) : Type 0 where
   pub alone : Alone T.subs
   pub sources : (s : ℕ) → has_source T s ≡ has_source S s
   pub connected : (u : ℕ) → connected_in (own_of u T) ≡ connected_in (own_of u S)
 
-stays_itself : (S : Shared) → Alone S.subs → Stays S S
+stays_itself : (S : SharedMachine) → Alone S.subs → Stays S S
 stays_itself S alone = record { alone = alone; sources = λ s. refl; connected = λ u. refl }
 
-stays_step : (S : Shared) (e : Occurrence) → Alone S.subs → KeepsKeys e → KeepsSessions e → Stays S (shared_step S e)
+stays_step : (S : SharedMachine) (e : Occurrence) → Alone S.subs → KeepsKeys e → KeepsSessions e → Stays S (shared_step S e)
 stays_step S e alone keys sessions = record {
   alone = Alone-next S e (full_answer S e) alone;
   sources = λ s. sources_kept S e (full_answer S e) s keys;
   connected = λ u. sessions_kept S e u alone sessions;
 }
 
-stays_then : (S T R : Shared) → Stays S T → Stays T R → Stays S R
+stays_then : (S T R : SharedMachine) → Stays S T → Stays T R → Stays S R
 stays_then S T R first then_so = record {
   alone = then_so.alone;
   sources = λ s. then_so.sources s ∙ first.sources s;
@@ -523,22 +523,22 @@ KeepDues [] = Unit {0}
 KeepDues (d ∷ dues) = KeepsDue d × KeepDues dues
 
 -- the state that dues leave
-abbrev run_dues : Shared → List Due → Shared
+abbrev run_dues : SharedMachine → List Due → SharedMachine
 run_dues S [] = S
 run_dues S (d ∷ dues) = run_dues (after_due S d) dues
 
-run_is : (S : Shared) (dues : List Due) → state_after S (pairs_of (full_deeds S dues)) ≡ run_dues S dues
+run_is : (S : SharedMachine) (dues : List Due) → state_after S (pairs_of (full_deeds S dues)) ≡ run_dues S dues
 run_is S [] = refl
 run_is S (posts e ∷ dues) = run_is (shared_step S e) dues
 run_is S (ignores_frame r ∷ dues) = run_is S dues
 run_is S (closes r ∷ dues) = run_is S dues
 run_is S (refuses r ∷ dues) = run_is S dues
 
-run-append : (S : Shared) (ds es : List Due) → run_dues S (ds ++ es) ≡ run_dues (run_dues S ds) es
+run-append : (S : SharedMachine) (ds es : List Due) → run_dues S (ds ++ es) ≡ run_dues (run_dues S ds) es
 run-append S [] es = refl
 run-append S (d ∷ ds) es = run-append (after_due S d) ds es
 
-run_stays : (S : Shared) (dues : List Due) → Alone S.subs → KeepDues dues → Stays S (run_dues S dues)
+run_stays : (S : SharedMachine) (dues : List Due) → Alone S.subs → KeepDues dues → Stays S (run_dues S dues)
 run_stays S [] alone keep = stays_itself S alone
 run_stays S (posts e ∷ dues) alone keep =
     let first = stays_step S e alone keep.0.0 keep.0.1 in
@@ -566,7 +566,7 @@ keep_items u (commands c ∷ items) = ((tt, tt), keep_items u items)
 keep_items u (ignores r ∷ items) = (tt, keep_items u items)
 
 -- a moment whose sources and connections stay
-moment_stays : (m : Moment) (T : Shared) (lines : List (ℕ × LinePast)) (fed : List (ℕ × List ℕ)) → Belongs m → Stays m.shared T
+moment_stays : (m : Moment) (T : SharedMachine) (lines : List (ℕ × SourceLinkPast)) (fed : List (ℕ × List ℕ)) → Belongs m → Stays m.shared T
     → Alone lines → ((s : ℕ) → is_some (lookup (nat_eq s) lines) ≡ is_some (lookup (nat_eq s) m.lines))
     → Alone fed → AllWhole fed → ((u : ℕ) → is_some (lookup (nat_eq u) fed) ≡ is_some (lookup (nat_eq u) m.fed))
     → Belongs (record { shared = T; lines = lines; fed = fed })
@@ -580,14 +580,14 @@ moment_stays m T lines fed is stays lines_alone same fed_alone whole same' = rec
 }
 
 -- an input of a source: its line stays
-source_belongs : (m : Moment) (s : ℕ) (dues : List Due) (o : Option LinePast) → Belongs m → KeepDues dues
+source_belongs : (m : Moment) (s : ℕ) (dues : List Due) (o : Option SourceLinkPast) → Belongs m → KeepDues dues
     → Belongs (record { shared = state_after m.shared (pairs_of (full_deeds m.shared dues)); lines = put_line s m.lines o; fed = m.fed })
 source_belongs m s dues o is keep =
     let T = state_after m.shared (pairs_of (full_deeds m.shared dues)) in
     let stays : Stays m.shared T = subst (Stays m.shared) (sym (run_is m.shared dues)) (run_stays m.shared dues is.alone keep) in
     by T stays o
   where
-    by : (T : Shared) → Stays m.shared T → (o : Option LinePast) → Belongs (record { shared = T; lines = put_line s m.lines o; fed = m.fed })
+    by : (T : SharedMachine) → Stays m.shared T → (o : Option SourceLinkPast) → Belongs (record { shared = T; lines = put_line s m.lines o; fed = m.fed })
     by T stays None = moment_stays m T m.lines m.fed is stays is.lines_alone (λ s. refl) is.fed_alone is.whole (λ u. refl)
     by T stays (Some line) =
         moment_stays m T (set_value (nat_eq s) m.lines line) m.fed is stays (set_alone (nat_eq s) line m.lines is.lines_alone)
@@ -596,14 +596,14 @@ source_belongs m s dues o is keep =
 up_belongs : (m : Moment) (s : ℕ) → Belongs m → Belongs (after_turn m (full_turn m (link_up s)))
 up_belongs m s is = by (lookup (nat_eq s) m.lines)
   where
-    by : (o : Option LinePast) → Belongs (record { shared = state_after m.shared (pairs_of (full_deeds m.shared (up_due o))); lines = put_line s m.lines (all_given (line_after (link_up s) [] o)); fed = m.fed })
+    by : (o : Option SourceLinkPast) → Belongs (record { shared = state_after m.shared (pairs_of (full_deeds m.shared (up_due o))); lines = put_line s m.lines (all_given (line_after (link_up s) [] o)); fed = m.fed })
     by None = source_belongs m s (up_due None) None is (tt, tt)
     by (Some line) = source_belongs m s [] (all_given (line_after (link_up s) [] (Some line))) is tt
 
 bytes_belong : (m : Moment) (s : ℕ) (piece : List ℕ) → Belongs m → Belongs (after_turn m (full_turn m (pmu_bytes s piece)))
 bytes_belong m s piece is = by (lookup (nat_eq s) m.lines)
   where
-    by : (o : Option LinePast) → Belongs (record { shared = state_after m.shared (pairs_of (full_deeds m.shared (told_dues piece o))); lines = put_line s m.lines (all_given (line_after (pmu_bytes s piece) (told_more piece o) o)); fed = m.fed })
+    by : (o : Option SourceLinkPast) → Belongs (record { shared = state_after m.shared (pairs_of (full_deeds m.shared (told_dues piece o))); lines = put_line s m.lines (all_given (line_after (pmu_bytes s piece) (told_more piece o) o)); fed = m.fed })
     by None = source_belongs m s (up_due None) None is (tt, tt)
     by (Some line) =
         source_belongs m s (link_due (told_more piece (Some line)) (link.break_in (line.link.stream ++ piece)))
@@ -613,7 +613,7 @@ bytes_belong m s piece is = by (lookup (nat_eq s) m.lines)
 -- ---- bytes of a subscriber
 
 -- a session ends, and its subscriber is hung up
-hung_belongs : (m : Moment) (R : Shared) (u : ℕ) → Belongs m → Stays m.shared R
+hung_belongs : (m : Moment) (R : SharedMachine) (u : ℕ) → Belongs m → Stays m.shared R
     → Belongs (record { shared = shared_step R (asks u session.hangup); lines = m.lines; fed = remove_entry (nat_eq u) m.fed })
 hung_belongs m R u is stays = record {
   alone = Alone-next R (asks u session.hangup) (full_answer R (asks u session.hangup)) stays.alone;
@@ -658,7 +658,7 @@ heard_belongs m u piece is = by (lookup (nat_eq u) m.fed) refl
         (hung_belongs m (run_dues m.shared (map (item_due u) (more stream))) u is stays)
 
     by : (o : Option (List ℕ)) → lookup (nat_eq u) m.fed ≡ o
-        → Belongs (record { shared = state_after m.shared (pairs_of (full_deeds m.shared (heard_due u piece (is_some (seat_of u m.shared.subs)) o))); lines = m.lines; fed = fed_more u piece m.fed o })
+        → Belongs (record { shared = state_after m.shared (pairs_of (full_deeds m.shared (heard_due u piece (is_some (slot_of u m.shared.subs)) o))); lines = m.lines; fed = fed_more u piece m.fed o })
     by None e = is
     by (Some stream) e = split stream e (break_in (stream ++ piece)) refl
 
@@ -669,11 +669,11 @@ quiet_belongs m e is keys sessions =
     moment_stays m (shared_step m.shared e) m.lines m.fed is (stays_step m.shared e is.alone keys sessions) is.lines_alone (λ s. refl) is.fed_alone is.whole (λ u. refl)
 
 -- lines that are where they belong
-abbrev LinesBelong : List (ℕ × LinePast) → Pmus → Type 0
+abbrev LinesBelong : List (ℕ × SourceLinkPast) → Pmus → Type 0
 LinesBelong lines pmus = Alone lines × ((s : ℕ) → is_some (lookup (nat_eq s) lines) ≡ registered.has_source pmus s)
 
-added_lines : (lines : List (ℕ × LinePast)) (pmus : Pmus) (key : PmuKey) → LinesBelong lines pmus
-    → LinesBelong (if registered.has_source pmus key.source then lines else insert_entry nat_eq lines key.source (new_line key.source)) (pmus ++ (key, unannounced) ∷ [])
+added_lines : (lines : List (ℕ × SourceLinkPast)) (pmus : Pmus) (key : PmuKey) → LinesBelong lines pmus
+    → LinesBelong (if registered.has_source pmus key.source then lines else insert_entry nat_eq lines key.source (new_source_link key.source)) (pmus ++ (key, unannounced) ∷ [])
 added_lines lines pmus key is = by (registered.has_source pmus key.source) refl
   where
     covered : registered.has_source pmus key.source ≡ true → (s : ℕ) (b : Bool) → nat_eq key.source s ≡ b → registered.has_source pmus s ≡ (registered.has_source pmus s || b)
@@ -681,14 +681,14 @@ added_lines lines pmus key is = by (registered.has_source pmus key.source) refl
     covered has s false other = or_none (registered.has_source pmus s)
 
     by : (b : Bool) → registered.has_source pmus key.source ≡ b
-        → LinesBelong (if b then lines else insert_entry nat_eq lines key.source (new_line key.source)) (pmus ++ (key, unannounced) ∷ [])
+        → LinesBelong (if b then lines else insert_entry nat_eq lines key.source (new_source_link key.source)) (pmus ++ (key, unannounced) ∷ [])
     by true has = (is.0, λ s. is.1 s ∙ covered has s (nat_eq key.source s) refl ∙ sym (sources-push pmus key unannounced s))
     by false none = (
-      insert_alone key.source (new_line key.source) lines is.0,
-      λ s. insert_there s key.source (new_line key.source) lines ∙ ap (λ b. b || nat_eq key.source s) (is.1 s) ∙ sym (sources-push pmus key unannounced s),
+      insert_alone key.source (new_source_link key.source) lines is.0,
+      λ s. insert_there s key.source (new_source_link key.source) lines ∙ ap (λ b. b || nat_eq key.source s) (is.1 s) ∙ sym (sources-push pmus key unannounced s),
     )
 
-left_lines : (lines : List (ℕ × LinePast)) (pmus left : Pmus) (k : ℕ) → LinesBelong lines pmus
+left_lines : (lines : List (ℕ × SourceLinkPast)) (pmus left : Pmus) (k : ℕ) → LinesBelong lines pmus
     → ((s : ℕ) → nat_eq s k ≡ false → registered.has_source left s ≡ registered.has_source pmus s)
     → (registered.has_source left k ≡ true → registered.has_source pmus k ≡ true)
     → LinesBelong (if registered.has_source left k then lines else remove_entry (nat_eq k) lines) left
@@ -708,7 +708,7 @@ left_lines lines pmus left k is other less = by (registered.has_source left k) r
     by false none = (Alone-removed (nat_eq k) lines is.0, λ s. ap is_some (lookup-removed s k lines is.0) ∙ goes none s (nat_eq s k) refl)
 
 -- an event that changes keys and no session
-keys_belong : (m : Moment) (e : Occurrence) (lines : List (ℕ × LinePast)) → Belongs m → KeepsSessions e → LinesBelong lines (shared_step m.shared e).pmus
+keys_belong : (m : Moment) (e : Occurrence) (lines : List (ℕ × SourceLinkPast)) → Belongs m → KeepsSessions e → LinesBelong lines (shared_step m.shared e).pmus
     → Belongs (record { shared = shared_step m.shared e; lines = lines; fed = m.fed })
 keys_belong m e lines is sessions so = record {
   alone = Alone-next m.shared e (full_answer m.shared e) is.alone;
@@ -730,7 +730,7 @@ add_belongs m key is = keys_belong m (add_pmu key) _ is tt (by (refusal m.shared
 drop_belongs : (m : Moment) (key : PmuKey) → Belongs m → Belongs (after_turn m (full_turn m (names (drop_pmu key))))
 drop_belongs m key is = keys_belong m (drop_pmu key) _ is tt (by (refusal m.shared (drop_pmu key)))
   where
-    lines : Shared → List (ℕ × LinePast)
+    lines : SharedMachine → List (ℕ × SourceLinkPast)
     lines T = if has_source T key.source then m.lines else remove_entry (nat_eq key.source) m.lines
 
     left : (t : Told) (b : Bool) → is_refusal t ≡ b → LinesBelong (lines (next m.shared (drop_pmu key) (tells t))) (next m.shared (drop_pmu key) (tells t)).pmus
@@ -808,8 +808,8 @@ connect_belongs m w false is so =
     by u true same = subst (λ v. connected_in (own_of v m.shared) ≡ is_some (own_of v m.shared)) (sym (eqb-true u w same)) (alike (own_of w m.shared) so)
     by u false other = refl
 
-not_there : (S : Shared) (w : ℕ) → is_some (seat_of w S.subs) ≡ false → connected_in (own_of w S) ≡ false
-not_there S w none = ap (λ o. connected_in (option_map (λ s. s.own) o)) (none_of (seat_of w S.subs) none)
+not_there : (S : SharedMachine) (w : ℕ) → is_some (slot_of w S.subs) ≡ false → connected_in (own_of w S) ≡ false
+not_there S w none = ap (λ o. connected_in (option_map (λ s. s.own) o)) (none_of (slot_of w S.subs) none)
 
 asks_belong : (m : Moment) (w : ℕ) (x : Happening) → Belongs m → Belongs (after_turn m (full_turn m (names (asks w x))))
 asks_belong m w session.connect is = connect_belongs m w (is_done (full_answer m.shared (asks w session.connect))) is (connect_done m.shared w)

@@ -2,31 +2,31 @@
 use Rattle.std.proofs.Common.{◌≡◌, ℕ, List, [], ◌∷◌, ◌++◌, None, refl, sym, ap, ap₂, ◌∙◌}
 use Rattle.std.proofs.lemmas.List.{append_assoc}
 use Rattle.pg_gateway.specs.Occurrences.{Occurrence}
-use Rattle.pg_gateway.specs.Shared.{Shared, opening as shared_opening, own_of}
+use Rattle.pg_gateway.specs.State.{SharedMachine, opening as shared_opening, own_of}
 use Rattle.pg_gateway.specs.Views.{Seen, shared_step, shared_run, part, view, private_run, handed_in}
-use Rattle.pg_gateway.proofs.SeatLaws.{Alone}
+use Rattle.pg_gateway.proofs.SlotLaws.{Alone}
 use Rattle.pg_gateway.proofs.ViewLaws.{own-run}
 use Rattle.pg_gateway.proofs.RunLaws.{Alone-run, agreeing_parts}
 use Rattle.pg_serve.specs.Inputs.{Fact, Outcome}
 use Rattle.pg_serve.specs.Shown.{WorldValue}
-use Rattle.pg_serve.specs.Full.{view_of, AllLossless, HasAnswered, Headline, queue_of}
+use Rattle.pg_serve.specs.Full.{view_of, OutcomesLossless, HasAnswered, Headline, queue_of}
 use Rattle.pg_serve.specs.Beside.{Beside, frames, events, mine, other, mine_by, other_by, mine_of, other_of, AgreeAt, Agree, SeeAlike, ServesAlike, StandsBeside}
 use Rattle.pg_serve.proofs.Isolating.{isolated}
 
-view-append : (u : ℕ) (S : Shared) (es fs : List Occurrence) → view u S (es ++ fs) ≡ view u S es ++ view u (shared_run S es) fs
+view-append : (u : ℕ) (S : SharedMachine) (es fs : List Occurrence) → view u S (es ++ fs) ≡ view u S es ++ view u (shared_run S es) fs
 view-append u S [] fs = refl
 view-append u S (e ∷ es) fs =
     ap (λ rest. part u S e ++ rest) (view-append u (shared_step S e) es fs)
     ∙ sym (append_assoc (part u S e) (view u (shared_step S e) es) (view u (shared_run (shared_step S e) es) fs))
 
 -- what u sees of a pair is the same
-same_part : (u : ℕ) (S T : Shared) (x : Beside) → own_of u S ≡ own_of u T → AgreeAt u S T x → view u S (mine_by x) ≡ view u T (other_by x)
+same_part : (u : ℕ) (S T : SharedMachine) (x : Beside) → own_of u S ≡ own_of u T → AgreeAt u S T x → view u S (mine_by x) ≡ view u T (other_by x)
 same_part u S T (frames m n) own agree = ap (λ seen. seen ++ []) (agreeing_parts u S T m n own agree.0 agree.1 agree.2)
 same_part u S T (events e f) own agree = ap (λ seen. seen ++ []) agree
 same_part u S T (mine e) own agree = ap (λ seen. seen ++ []) agree
 same_part u S T (other f) own agree = sym (ap (λ seen. seen ++ []) agree)
 
-same_views : (u : ℕ) (S T : Shared) (pairs : List Beside) → Alone S.subs → Alone T.subs → own_of u S ≡ own_of u T → Agree u S T pairs
+same_views : (u : ℕ) (S T : SharedMachine) (pairs : List Beside) → Alone S.subs → Alone T.subs → own_of u S ≡ own_of u T → Agree u S T pairs
     → view u S (mine_of pairs) ≡ view u T (other_of pairs)
 same_views u S T [] alone alone' own agree = refl
 same_views u S T (x ∷ pairs) alone alone' own agree =
@@ -51,7 +51,7 @@ served u w v inputs others told answers first second same = record {
   handed = first.handed u ∙ ap (handed_in None) same ∙ sym (second.handed u);
 }
 
-pub stands_beside : (w : WorldValue) (inputs : List Fact) (told : List Outcome) → AllLossless told → HasAnswered w inputs told
+pub stands_beside : (w : WorldValue) (inputs : List Fact) (told : List Outcome) → OutcomesLossless told → HasAnswered w inputs told
     → StandsBeside w inputs told
 stands_beside w inputs told lossless has = record {
   views = λ u v others answers answered whole same.

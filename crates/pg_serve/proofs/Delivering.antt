@@ -8,13 +8,13 @@ use Rattle.pg_command.specs.declared.command.Command.{Command}
 use Rattle.pg_session.specs.Events.{drain}
 use Rattle.pg_session.specs.Shown.{Model}
 use Rattle.pg_session.specs.Private.{done, refused, handed}
-use Rattle.pg_session.specs.Commands.{Hearing, Item}
+use Rattle.pg_session.specs.Commands.{Hearing, Item, item_of, items_of, ShowsHearing}
 use Rattle.pg_gateway.specs.declared.event.Event.{Event}
 use Rattle.pg_gateway.specs.declared.event.Event.TheVariants as event
 use Rattle.pg_gateway.specs.declared.event.Reply.{Reply}
 use Rattle.pg_gateway.specs.declared.event.Reply.TheVariants as reply
 use Rattle.pg_gateway.specs.Occurrences.{Occurrence, occurrence, told, Answer, asks, tells, sub_counts, pmu_counts, entry, stands}
-use Rattle.pg_gateway.specs.Shared.{Shared, opening, own_of, next}
+use Rattle.pg_gateway.specs.State.{SharedMachine, opening, own_of, next}
 use Rattle.pg_gateway.specs.Histories.{Legal, state_after, said}
 use Rattle.pg_gateway.specs.Laws.{after, events_of, answers_of}
 use Rattle.pg_gateway.specs.Posting as posting
@@ -24,18 +24,15 @@ use Rattle.pg_gateway.proofs.ViewLaws.{own-run}
 use Rattle.pg_gateway.proofs.AnswerLaws.{handed-run}
 use Rattle.pg_gateway.proofs.RunLaws.{full_history, Alone-run}
 use Rattle.pg_ingest.specs.declared.run.End.{End}
-use Rattle.pg_ingest.specs.Linking.{Linking}
-use Rattle.pg_ingest.specs.Runs.{wires, event_posted}
-use Rattle.pg_ingest.specs.Served.{IsCall}
-use Rattle.pg_ingest.proofs.Known.{appends_nil, appends_more}
+use Rattle.pg_ingest.proofs.Known.{appends_nil, appends_more, consumes_nil, consumes_more}
 use Rattle.pg_serve.specs.Gates.{said_at}
 use Rattle.pg_serve.specs.Sharing.{Call, AreAnswered, history_of}
 use Rattle.pg_serve.specs.Serving as loop
 use Rattle.pg_serve.specs.Serving.{passes, drains, hangs_up, posted_by, handed_by, bytes_answered, command_in, passed_by, RanFrom, ServedFrom}
 use Rattle.pg_serve.specs.Onward.{GoesOn, Piece, calls_in, own_in}
 use Rattle.pg_serve.specs.Continuing.{calls_more, owned_more}
-use Rattle.pg_serve.specs.Telling.{Tells}
-use Rattle.pg_serve.specs.Delivery.{bytes_of, events_in, private_bytes, NoneDrains, OwnDrains, Delivers, IsNoCommand, NoneCommands, OwnCommands, AreCommands, Hears}
+use Rattle.pg_serve.proofs.Lines.{no_frames}
+use Rattle.pg_serve.specs.Delivery.{bytes_of, events_in, private_bytes, NoneDrains, OwnDrains, Delivers, IsNoCommand, NoneCommands, OwnCommands, AreCommands, IsBesides, ArePassed, Obeys, Hears, HasHeard}
 
 -- ---- what calls hand to a subscriber
 
@@ -130,11 +127,11 @@ others_given u ((before, (e, r)) ∷ ps) h free =
 
 -- ---- what is handed out behind a history
 
-legal_split : (S : Shared) (h k : List posting.Posted) → Legal S (h ++ k) → Legal S h × Legal (state_after S h) k
+legal_split : (S : SharedMachine) (h k : List posting.Posted) → Legal S (h ++ k) → Legal S h × Legal (state_after S h) k
 legal_split S [] k legal = (tt, legal)
 legal_split S (x ∷ h) k legal = let rest = legal_split (next S x.0 x.1) h k legal.1 in ((legal.0, rest.0), rest.1)
 
-lossless_split : (h k : List posting.Posted) → AllLossless (answers_of (h ++ k)) → AllLossless (answers_of h) × AllLossless (answers_of k)
+pub lossless_split : (h k : List posting.Posted) → AllLossless (answers_of (h ++ k)) → AllLossless (answers_of h) × AllLossless (answers_of k)
 lossless_split [] k full = (tt, full)
 lossless_split (x ∷ h) k full = let rest = lossless_split h k full.1 in ((full.0, rest.0), rest.1)
 
@@ -245,13 +242,13 @@ delivers_meanwhile u s s' left w on others = record {
       ∙ given_behind u s.seen on.pieces (went_legal s s' on) (went_full s s' on full));
 }
 
-view_more : (u : ℕ) (S : Shared) (es fs : List Occurrence) → view u S (es ++ fs) ≡ view u S es ++ view u (shared_run S es) fs
+view_more : (u : ℕ) (S : SharedMachine) (es fs : List Occurrence) → view u S (es ++ fs) ≡ view u S es ++ view u (shared_run S es) fs
 view_more u S [] fs = refl
 view_more u S (e ∷ es) fs =
     ap (λ l. part u S e ++ l) (view_more u (shared_step S e) es fs)
     ∙ sym (append_assoc (part u S e) (view u (shared_step S e) es) (view u (shared_run (shared_step S e) es) fs))
 
-run_more : (S : Shared) (es fs : List Occurrence) → shared_run S (es ++ fs) ≡ shared_run (shared_run S es) fs
+run_more : (S : SharedMachine) (es fs : List Occurrence) → shared_run S (es ++ fs) ≡ shared_run (shared_run S es) fs
 run_more S [] fs = refl
 run_more S (e ∷ es) fs = run_more (shared_step S e) es fs
 
@@ -269,7 +266,7 @@ events_more : (a b : List Call) → events_in (a ++ b) ≡ events_in a ++ events
 events_more [] b = refl
 events_more (x ∷ a) b = ap (λ l. occurrence x.0 ∷ l) (events_more a b)
 
-private_both : (u : ℕ) (a b k : List Call) → private_bytes u a (b ++ k) ≡ private_bytes u a b ++ private_bytes u (a ++ b) k
+pub private_both : (u : ℕ) (a b k : List Call) → private_bytes u a (b ++ k) ≡ private_bytes u a b ++ private_bytes u (a ++ b) k
 private_both u a b k =
     let A = events_in a in
     let B = events_in b in
@@ -326,24 +323,46 @@ all_passed_over : (u : ℕ) (xs ys : List posting.Posted) (cs : List Command) �
 all_passed_over u [] ys cs free h = h
 all_passed_over u (x ∷ xs) ys cs free h = passed_over u x (xs ++ ys) cs free.0 (all_passed_over u xs ys cs free.1 h)
 
-one_commanded : (v : Hearing) (call : loop.Call) (post : posting.Posted) (posts : List posting.Posted) (cs : List Command) → post ≡ posted_by v call
-    → AreCommands v.sub posts cs → AreCommands v.sub (post ∷ posts) (passed_by call ++ cs)
-one_commanded v (passes c, a) post posts cs is h = inl (ap (λ (x : posting.Posted). x.0) is, h)
-one_commanded v (drains, a) post posts cs is h =
-    passed_over v.sub post posts cs (λ stream word is_command. let other = sym (ap (λ (x : posting.Posted). x.0) is) ∙ is_command in cc) h
-one_commanded v (hangs_up, a) post posts cs is h =
-    passed_over v.sub post posts cs (λ stream word is_command. let other = sym (ap (λ (x : posting.Posted). x.0) is) ∙ is_command in cc) h
+no_command : (u : ℕ) (post : posting.Posted) → IsBesides u post → IsNoCommand u post
+no_command u post besides = λ stream word is_command.
+    ⊎_elim (λ is. let other = sym is ∙ is_command in cc)
+    (λ rest. ⊎_elim (λ is. let other = sym is.1 ∙ is_command in cc) (λ is. let other = sym is ∙ is_command in cc) rest)
+    besides
 
-session_commanded : (v : Hearing) (ps : List Piece) (calls : List loop.Call) → own_in ps ≡ map (posted_by v) calls → OwnCommands v.sub ps
-    → AreCommands v.sub (history_of (calls_in ps)) (flat_map passed_by calls)
-session_commanded v [] [] same own = tt
-session_commanded v [] (call ∷ calls) same own = absurd (let other = same in cc)
-session_commanded v (p ∷ ps) [] same own = absurd (let other = same in cc)
-session_commanded v (p ∷ ps) (call ∷ calls) same own =
-    let rest = session_commanded v ps calls (ap rest_of same) own.1 in
-    subst (λ h. AreCommands v.sub h (flat_map passed_by (call ∷ calls))) (sym (map-append said p.0 (p.1 ∷ calls_in ps)))
-    (all_passed_over v.sub (history_of p.0) (said p.1 ∷ history_of (calls_in ps)) (flat_map passed_by (call ∷ calls)) own.0
-    (one_commanded v call (said p.1) (history_of (calls_in ps)) (flat_map passed_by calls) (ap (first_of (said p.1)) same) rest))
+-- What a seat's own calls pass on is what the subscriber is given, where others give it nothing.
+given_on : (u : ℕ) (ps : List Piece) (cs : List Command) → ArePassed u (own_in ps) cs → OwnCommands u ps → AreCommands u (history_of (calls_in ps)) cs
+given_on u [] [] passed own = tt
+given_on u [] (c ∷ cs) passed own = absurd passed
+given_on u (p ∷ ps) [] passed own =
+    subst (λ h. AreCommands u h []) (sym (map-append said p.0 (p.1 ∷ calls_in ps)))
+    (all_passed_over u (history_of p.0) (said p.1 ∷ history_of (calls_in ps)) [] own.0 (no_command u (said p.1) passed.0, given_on u ps [] passed.1 own.1))
+given_on u (p ∷ ps) (c ∷ cs) passed own =
+    subst (λ h. AreCommands u h (c ∷ cs)) (sym (map-append said p.0 (p.1 ∷ calls_in ps)))
+    (all_passed_over u (history_of p.0) (said p.1 ∷ history_of (calls_in ps)) (c ∷ cs) own.0
+    (⊎_elim (λ one. inl (one.0, given_on u ps cs one.1 own.1)) (λ one. inr (no_command u (said p.1) one.0, given_on u ps (c ∷ cs) one.1 own.1)) passed))
+
+passed_besides : (u : ℕ) (post : posting.Posted) (posts : List posting.Posted) (cs : List Command) → IsBesides u post → ArePassed u posts cs
+    → ArePassed u (post ∷ posts) cs
+passed_besides u post posts [] besides h = (besides, h)
+passed_besides u post posts (c ∷ cs) besides h = inr (besides, h)
+
+-- what a session posts
+session_passed : (v : Hearing) (calls : List loop.Call) → ArePassed v.sub (map (posted_by v) calls) (flat_map passed_by calls)
+session_passed v [] = tt
+session_passed v ((passes c, a) ∷ calls) = inl (refl, session_passed v calls)
+session_passed v ((drains, a) ∷ calls) =
+    passed_besides v.sub (posted_by v (drains, a)) (map (posted_by v) calls) (flat_map passed_by calls) (inr (inl (v.buffer, refl))) (session_passed v calls)
+session_passed v ((hangs_up, a) ∷ calls) =
+    passed_besides v.sub (posted_by v (hangs_up, a)) (map (posted_by v) calls) (flat_map passed_by calls) (inr (inr refl)) (session_passed v calls)
+
+obeys_on : (u : ℕ) (s s' : Known Event Reply) (cs : List Command) (on : GoesOn s s') → ArePassed u (own_in on.pieces) cs → Obeys u s s' cs
+obeys_on u s s' cs on passed = record {
+  since = on.pieces;
+  seen = on.seen;
+  own = on.own;
+  passed = passed;
+  given = given_on u on.pieces cs passed;
+}
 
 pub hears_call : (end : End) (s s' : Known Event Reply) (stream : List ℕ) (given : List Item) (v v' : Hearing) (r r' w w' : Option (List ℕ))
     → ServedFrom end stream given v v' r r' w w' (Some (said_at s.seen s.own)) (Some (said_at s'.seen s'.own)) → GoesOn s s'
@@ -354,32 +373,80 @@ hears_call end s s' stream given v v' r r' w w' served on =
     record {
       bytes = ran.bytes;
       items = ran.items;
+      sub = ran.sub;
       read = ran.read;
       shows = ran.shows;
       all = served.all;
-      obeys = record {
-        since = on.pieces;
-        seen = on.seen;
-        own = on.own;
-        given = λ own. subst (λ cs. AreCommands v.sub (history_of (calls_in on.pieces)) cs) ran.passed (session_commanded v on.pieces ran.calls same own);
-      };
+      obeys = obeys_on v.sub s s' (flat_map command_in ran.items) on
+          (subst (λ posts. ArePassed v.sub posts (flat_map command_in ran.items)) (sym same)
+          (subst (λ cs. ArePassed v.sub (map (posted_by v) ran.calls) cs) ran.passed (session_passed v ran.calls)));
     }
 
--- ---- links
+-- ---- commands of several calls
 
-pub tells_call : (end : End) (turns : ℕ) (s s' : Known Event Reply) (v v' : Linking) (r r' w w' : Option (List ℕ))
-    → IsCall end turns v v' (wires r w (Some (said_at s.seen s.own))) (wires r' w' (Some (said_at s'.seen s'.own))) → GoesOn s s'
-    → Tells v v' s s' r r'
-tells_call end turns s s' v v' r r' w w' call on = λ past shows.
-    let ran = (call.ran past shows).0 in
-    let same : own_in on.pieces ≡ ran.calls = append_cancel_left (said_at s.seen s.own) (own_in on.pieces) ran.calls (sym on.said ∙ ran.posted) in
+passed_more : (u : ℕ) (xs ys : List posting.Posted) (cs ds : List Command) → ArePassed u xs cs → ArePassed u ys ds → ArePassed u (xs ++ ys) (cs ++ ds)
+passed_more u [] ys [] ds h k = k
+passed_more u [] ys (c ∷ cs) ds h k = absurd h
+passed_more u (x ∷ xs) ys [] ds h k = passed_besides u x (xs ++ ys) ds h.0 (passed_more u xs ys [] ds h.1 k)
+passed_more u (x ∷ xs) ys (c ∷ cs) ds h k =
+    ⊎_elim (λ one. inl (one.0, passed_more u xs ys cs ds one.1 k)) (λ one. inr (one.0, passed_more u xs ys (c ∷ cs) ds one.1 k)) h
+
+obeys_more : (u : ℕ) (s t x : Known Event Reply) (cs ds : List Command) → Obeys u s t cs → Obeys u t x ds → Obeys u s x (cs ++ ds)
+obeys_more u s t x cs ds h k =
+    let passed : ArePassed u (own_in (h.since ++ k.since)) (cs ++ ds) =
+    subst (λ posts. ArePassed u posts (cs ++ ds)) (sym (map-append (λ (piece : Piece). said piece.1) h.since k.since))
+    (passed_more u (own_in h.since) (own_in k.since) cs ds h.passed k.passed) in
     record {
-      since = on.pieces;
-      seen = on.seen;
-      own = on.own;
-      steps = ran.steps;
-      are = ran.are;
-      shows = ran.shows;
-      read = ran.read;
-      events = ap (λ posts. map event_posted posts) same ∙ ran.events;
+      since = h.since ++ k.since;
+      seen = k.seen ∙ ap (λ z. z ++ calls_in k.since) h.seen ∙ append_assoc s.seen (calls_in h.since) (calls_in k.since)
+          ∙ ap (λ z. s.seen ++ z) (sym (calls_more h.since k.since));
+      own = owned_more s t x h.since k.since h.seen h.own k.own;
+      passed = passed;
+      given = given_on u (h.since ++ k.since) (cs ++ ds) passed;
+    }
+
+pub hears_more : (stream : List ℕ) (given : List Item) (v v' v'' : Hearing) (s t x : Known Event Reply) (r r' r'' : Option (List ℕ))
+    → (one : Hears stream given v v' s t r r') → Hears (stream ++ one.bytes) (given ++ one.items) v' v'' t x r' r''
+    → Hears stream given v v'' s x r r''
+hears_more stream given v v' v'' s t x r r' r'' one other =
+    let bytes = append_assoc stream one.bytes other.bytes in
+    let items = append_assoc given one.items other.items in
+    let obeys : Obeys v.sub t x (flat_map command_in other.items) = subst (λ u. Obeys u t x (flat_map command_in other.items)) one.sub other.obeys in
+    record {
+      bytes = one.bytes ++ other.bytes;
+      items = one.items ++ other.items;
+      sub = other.sub ∙ one.sub;
+      read = consumes_more r r' r'' one.bytes other.bytes one.read other.read;
+      shows = subst (λ b. ShowsHearing v'' b (given ++ (one.items ++ other.items))) bytes
+          (subst (λ i. ShowsHearing v'' ((stream ++ one.bytes) ++ other.bytes) i) items other.shows);
+      all = sym items ∙ other.all ∙ ap items_of bytes;
+      obeys = subst (λ cs. Obeys v.sub s x cs) (sym (flat_map-append command_in one.items other.items))
+          (obeys_more v.sub s t x (flat_map command_in one.items) (flat_map command_in other.items) one.obeys obeys);
+    }
+
+pub has_heard_none : (u : ℕ) (v : Hearing) (s s' : Known Event Reply) (r : Option (List ℕ)) (on : GoesOn s s') → v.sub ≡ u → ShowsHearing v [] []
+    → ArePassed u (own_in on.pieces) [] → HasHeard u v s s' r r
+has_heard_none u v s s' r on sub shows passed =
+    let none : [] ≡ items_of [] = ap (map item_of) (sym no_frames) in
+    record {
+      sub = sub;
+      bytes = [];
+      read = consumes_nil r;
+      shows = subst (λ items. ShowsHearing v [] items) none shows;
+      obeys = subst (λ items. Obeys u s s' (flat_map command_in items)) none (obeys_on u s s' [] on passed);
+    }
+
+pub has_heard_more : (u : ℕ) (v v' : Hearing) (s t x : Known Event Reply) (r r' r'' : Option (List ℕ)) → HasHeard u v s t r r'
+    → ((stream : List ℕ) (given : List Item) → ShowsHearing v stream given → Hears stream given v v' t x r' r'')
+    → HasHeard u v' s x r r''
+has_heard_more u v v' s t x r r' r'' before call =
+    let one = call before.bytes (items_of before.bytes) before.shows in
+    let obeys : Obeys u t x (flat_map command_in one.items) = subst (λ w. Obeys w t x (flat_map command_in one.items)) before.sub one.obeys in
+    record {
+      sub = one.sub ∙ before.sub;
+      bytes = before.bytes ++ one.bytes;
+      read = consumes_more r r' r'' before.bytes one.bytes before.read one.read;
+      shows = subst (λ items. ShowsHearing v' (before.bytes ++ one.bytes) items) one.all one.shows;
+      obeys = subst (λ cs. Obeys u s x cs) (sym (flat_map-append command_in (items_of before.bytes) one.items) ∙ ap (flat_map command_in) one.all)
+          (obeys_more u s t x (flat_map command_in (items_of before.bytes)) (flat_map command_in one.items) before.obeys obeys);
     }

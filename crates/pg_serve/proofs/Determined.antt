@@ -15,20 +15,20 @@ use Rattle.pg_ingest.specs.Commands.{Act, tells, asks, told_in}
 use Rattle.pg_ingest.specs.Shown.{IsAllTold}
 use Rattle.pg_ingest.proofs.Past.{told_of-only}
 use Rattle.pg_gateway.specs.Occurrences.{Occurrence, add_pmu, drop_pmu, add_sub, drop_sub, grant, asks as asks_for, announce, measure, tick, stats, pmu_stats, audit, standing, Answer}
-use Rattle.pg_gateway.specs.Shared.{Shared, opening as shared_opening, next}
+use Rattle.pg_gateway.specs.State.{SharedMachine, opening as shared_opening, next}
 use Rattle.pg_gateway.specs.Histories.{Legal, state_after}
 use Rattle.pg_gateway.specs.Views.{full_answer, full_answers, shared_step, shared_run}
 use Rattle.pg_gateway.specs.Laws.{events_of, answers_of}
 use Rattle.pg_gateway.proofs.AnswerLaws.{lossless_full}
 use Rattle.pg_serve.specs.Inputs.{Fact, link_up, pmu_bytes, sub_bytes, names}
 use Rattle.pg_serve.specs.Dues.{Due, posts, ignores_frame, closes, refuses, Deed, answered, ignored_frame, closed_at, refused, due_of, notes_of, pairs_of, told_due, link_due, close}
-use Rattle.pg_serve.specs.Moments.{LinePast, Moment, opening, Turn, Turns, ToldOf, Posts, Makes, LegalTurn, LegalTurns, after_turn, after_turns, all_outcomes, inputs_of, history_of, telling, lines_by, lines_named, has_source, new_line, gone_up, gives_all, fed_line, words_given, put_line, line_after, all_given}
-use Rattle.pg_serve.specs.Full.{full_deeds, told_more, told_dues, full_told, dues_of, full_turn, full_turns, moment_of, events_made, events_at, answers_made, NotesLossless, AllLossless}
+use Rattle.pg_serve.specs.Moments.{SourceLinkPast, Moment, opening, Turn, Turns, ToldOf, Posts, Makes, LegalTurn, LegalTurns, after_turn, after_turns, all_outcomes, inputs_of, history_of, telling, lines_by, lines_named, has_source, new_source_link, gone_up, gives_all, fed_line, words_given, put_line, line_after, all_given}
+use Rattle.pg_serve.specs.Full.{full_deeds, told_more, told_dues, full_told, dues_of, full_turn, full_turns, moment_of, events_made, events_at, answers_made, NotesLossless, OutcomesLossless}
 use Rattle.pg_serve.proofs.Lines.{told_gave, no_frames}
 
 -- ---- deeds
 
-deeds_full : (S : Shared) (deeds : List Deed) → Legal S (pairs_of deeds) → NotesLossless (notes_of deeds) → deeds ≡ full_deeds S (map due_of deeds)
+deeds_full : (S : SharedMachine) (deeds : List Deed) → Legal S (pairs_of deeds) → NotesLossless (notes_of deeds) → deeds ≡ full_deeds S (map due_of deeds)
 deeds_full S [] legal lossless = refl
 deeds_full S (answered e a ∷ deeds) legal lossless =
     let is : a ≡ full_answer S e = lossless_full S e a legal.0 lossless.0 in
@@ -91,26 +91,26 @@ told_tells (tells item ∷ acts) items = ap (λ is. item ∷ is) (told_tells act
 told_tells (asks word ∷ acts) items = told_tells acts items
 
 -- A line told all that its bytes make, and no want of memory.
-pub record IsFull (line : LinePast) : Type 0 where
+pub record IsFull (line : SourceLinkPast) : Type 0 where
   pub all : told_in line.link.acts ≡ told_of line.link.source line.link.stream
   pub plain : list_any is_want (told_in line.link.acts) ≡ false
 
 full_begun : (source : ℕ) → told_of source [] ≡ []
 full_begun source = ap (λ frames. reverse (link.told_back source (reverse frames))) no_frames
 
-full_new : (s : ℕ) → IsFull (new_line s)
+full_new : (s : ℕ) → IsFull (new_source_link s)
 full_new s = record { all = sym (full_begun s); plain = refl }
 
-full_gone : (line : LinePast) → IsFull (gone_up line)
+full_gone : (line : SourceLinkPast) → IsFull (gone_up line)
 full_gone line = record { all = sym (full_begun line.link.source); plain = refl }
 
-full_given : (line : LinePast) → IsFull line → IsFull (gives_all line)
+full_given : (line : SourceLinkPast) → IsFull line → IsFull (gives_all line)
 full_given line full = record {
   all = told_gave line.link.acts (words_given line) ∙ full.all;
   plain = ap (list_any is_want) (told_gave line.link.acts (words_given line)) ∙ full.plain;
 }
 
-full_fed : (line : LinePast) (piece : List ℕ) (items : List link.Item) → IsFull line → IsAllTold (telling line.link piece items) → list_any is_want items ≡ false
+full_fed : (line : SourceLinkPast) (piece : List ℕ) (items : List link.Item) → IsFull line → IsAllTold (telling line.link piece items) → list_any is_want items ≡ false
     → IsFull (fed_line line piece items)
 full_fed line piece items full told none =
     let is : told_in (line.link.acts ++ map tells items) ≡ told_in line.link.acts ++ items = told_tells line.link.acts items in
@@ -119,7 +119,7 @@ full_fed line piece items full told none =
     record { all = told_of-only line.link.source (line.link.stream ++ piece) (told_in (line.link.acts ++ map tells items)) told all; plain = all }
 
 -- so what is told more is what its bytes make more
-told_only : (line : LinePast) (piece : List ℕ) (items : List link.Item) → IsFull line → IsFull (fed_line line piece items) → items ≡ told_more piece (Some line)
+told_only : (line : SourceLinkPast) (piece : List ℕ) (items : List link.Item) → IsFull line → IsFull (fed_line line piece items) → items ≡ told_more piece (Some line)
 told_only line piece items before after =
     let is : told_of line.link.source (line.link.stream ++ piece) ≡ told_of line.link.source line.link.stream ++ items =
     sym after.all ∙ told_tells line.link.acts items ∙ ap (λ is. is ++ items) before.all in
@@ -127,11 +127,11 @@ told_only line piece items before after =
 
 -- ---- all lines
 
-abbrev pub AllFull : List (ℕ × LinePast) → Type 0
+abbrev pub AllFull : List (ℕ × SourceLinkPast) → Type 0
 AllFull [] = Unit {0}
 AllFull (x ∷ xs) = IsFull x.1 × AllFull xs
 
-pub full_lookup : (test : ℕ → Bool) (lines : List (ℕ × LinePast)) (line : LinePast) → AllFull lines → lookup test lines ≡ Some line → IsFull line
+pub full_lookup : (test : ℕ → Bool) (lines : List (ℕ × SourceLinkPast)) (line : SourceLinkPast) → AllFull lines → lookup test lines ≡ Some line → IsFull line
 full_lookup test [] line full found = absurd (cc)
 full_lookup test (x ∷ xs) line full found = by (test x.0) found (full_lookup test xs line full.1)
   where
@@ -139,7 +139,7 @@ full_lookup test (x ∷ xs) line full found = by (test x.0) found (full_lookup t
     by true e rest = let same : x.1 ≡ line = cc in subst IsFull same full.0
     by false e rest = rest e
 
-full_set : (test : ℕ → Bool) (line : LinePast) → IsFull line → (lines : List (ℕ × LinePast)) → AllFull lines → AllFull (set_value test lines line)
+full_set : (test : ℕ → Bool) (line : SourceLinkPast) → IsFull line → (lines : List (ℕ × SourceLinkPast)) → AllFull lines → AllFull (set_value test lines line)
 full_set test line new [] full = tt
 full_set test line new (x ∷ xs) full = by (test x.0) (full_set test line new xs full.1)
   where
@@ -147,7 +147,7 @@ full_set test line new (x ∷ xs) full = by (test x.0) (full_set test line new x
     by true rest = (new, full.1)
     by false rest = (full.0, rest)
 
-full_remove : (test : ℕ → Bool) (lines : List (ℕ × LinePast)) → AllFull lines → AllFull (remove_entry test lines)
+full_remove : (test : ℕ → Bool) (lines : List (ℕ × SourceLinkPast)) → AllFull lines → AllFull (remove_entry test lines)
 full_remove test [] full = tt
 full_remove test (x ∷ xs) full = by (test x.0) (full_remove test xs full.1)
   where
@@ -155,7 +155,7 @@ full_remove test (x ∷ xs) full = by (test x.0) (full_remove test xs full.1)
     by true rest = full.1
     by false rest = (full.0, rest)
 
-full_insert : (s : ℕ) (line : LinePast) → IsFull line → (lines : List (ℕ × LinePast)) → AllFull lines → AllFull (insert_entry nat_eq lines s line)
+full_insert : (s : ℕ) (line : SourceLinkPast) → IsFull line → (lines : List (ℕ × SourceLinkPast)) → AllFull lines → AllFull (insert_entry nat_eq lines s line)
 full_insert s line new [] full = (new, tt)
 full_insert s line new (x ∷ xs) full = by (nat_eq s x.0) (full_insert s line new xs full.1)
   where
@@ -163,13 +163,13 @@ full_insert s line new (x ∷ xs) full = by (nat_eq s x.0) (full_insert s line n
     by true rest = (new, full.1)
     by false rest = (full.0, rest)
 
-full_by : (lines : List (ℕ × LinePast)) (S T : Shared) (e : Occurrence) (done : Bool) → AllFull lines → AllFull (lines_by lines S T e done)
+full_by : (lines : List (ℕ × SourceLinkPast)) (S T : SharedMachine) (e : Occurrence) (done : Bool) → AllFull lines → AllFull (lines_by lines S T e done)
 full_by lines S T (add_pmu key) false full = full
 full_by lines S T (add_pmu key) true full = by (has_source S key.source)
   where
-    by : (b : Bool) → AllFull (if b then lines else insert_entry nat_eq lines key.source (new_line key.source))
+    by : (b : Bool) → AllFull (if b then lines else insert_entry nat_eq lines key.source (new_source_link key.source))
     by true = full
-    by false = full_insert key.source (new_line key.source) (full_new key.source) lines full
+    by false = full_insert key.source (new_source_link key.source) (full_new key.source) lines full
 full_by lines S T (drop_pmu key) done full = by (has_source T key.source)
   where
     by : (b : Bool) → AllFull (if b then lines else remove_entry (nat_eq key.source) lines)
@@ -187,7 +187,7 @@ full_by lines S T (pmu_stats key) done full = full
 full_by lines S T (audit u index) done full = full
 full_by lines S T (standing u place) done full = full
 
-full_named : (lines : List (ℕ × LinePast)) (S T : Shared) (pairs : List (Occurrence × Answer)) → AllFull lines → AllFull (lines_named lines S T pairs)
+full_named : (lines : List (ℕ × SourceLinkPast)) (S T : SharedMachine) (pairs : List (Occurrence × Answer)) → AllFull lines → AllFull (lines_named lines S T pairs)
 full_named lines S T [] full = full
 full_named lines S T (x ∷ xs) full = full_by lines S T x.0 _ full
 
@@ -196,7 +196,7 @@ full_named lines S T (x ∷ xs) full = full_by lines S T x.0 _ full
 abbrev turn : Fact → List Deed → List link.Item → Turn
 turn f deeds told = record { input = f; deeds = deeds; told = told }
 
-fed_full : (m : Moment) (s : ℕ) (piece : List ℕ) (line : LinePast) (items : List link.Item) (dues : List Due) → AllFull m.lines → lookup (nat_eq s) m.lines ≡ Some line
+fed_full : (m : Moment) (s : ℕ) (piece : List ℕ) (line : SourceLinkPast) (items : List link.Item) (dues : List Due) → AllFull m.lines → lookup (nat_eq s) m.lines ≡ Some line
     → ToldOf piece (Some line) items dues → DuesLossless dues → IsFull (fed_line line piece items)
 fed_full m s piece line items dues full found makes lossless =
     full_fed line piece items (full_lookup (nat_eq s) m.lines line full found) makes.0
@@ -207,7 +207,7 @@ makes_full : (m : Moment) (f : Fact) (items : List link.Item) (dues : List Due) 
 makes_full m (link_up s) items dues full makes lossless = makes
 makes_full m (pmu_bytes s piece) items dues full makes lossless = by (lookup (nat_eq s) m.lines) refl makes
   where
-    by : (o : Option LinePast) → lookup (nat_eq s) m.lines ≡ o → ToldOf piece o items dues → (items ≡ told_more piece o) × (dues ≡ told_dues piece o)
+    by : (o : Option SourceLinkPast) → lookup (nat_eq s) m.lines ≡ o → ToldOf piece o items dues → (items ≡ told_more piece o) × (dues ≡ told_dues piece o)
     by None e none = none
     by (Some line) e some =
         let is = told_only line piece items (full_lookup (nat_eq s) m.lines line full e) (fed_full m s piece line items dues full e some lossless) in
@@ -229,12 +229,12 @@ lines_full : (m : Moment) (f : Fact) (deeds : List Deed) (told : List link.Item)
     → AllFull (after_turn m (turn f deeds told)).lines
 lines_full m (link_up s) deeds told full makes lossless = by (lookup (nat_eq s) m.lines)
   where
-    by : (o : Option LinePast) → AllFull (put_line s m.lines (all_given (line_after (link_up s) told o)))
+    by : (o : Option SourceLinkPast) → AllFull (put_line s m.lines (all_given (line_after (link_up s) told o)))
     by None = full
     by (Some line) = full_set (nat_eq s) (gives_all (gone_up line)) (full_given (gone_up line) (full_gone line)) m.lines full
 lines_full m (pmu_bytes s piece) deeds told full makes lossless = by (lookup (nat_eq s) m.lines) refl makes
   where
-    by : (o : Option LinePast) → lookup (nat_eq s) m.lines ≡ o → ToldOf piece o told (map due_of deeds)
+    by : (o : Option SourceLinkPast) → lookup (nat_eq s) m.lines ≡ o → ToldOf piece o told (map due_of deeds)
         → AllFull (put_line s m.lines (all_given (line_after (pmu_bytes s piece) told o)))
     by None e none = full
     by (Some line) e some =
@@ -245,7 +245,7 @@ lines_full m (names e) deeds told full makes lossless = full_named m.lines m.sha
 
 -- ---- all turns
 
-turns_full : (m : Moment) (ts : Turns) → AllFull m.lines → LegalTurns m ts → AllLossless (all_outcomes m ts) → ts ≡ full_turns m (inputs_of ts)
+turns_full : (m : Moment) (ts : Turns) → AllFull m.lines → LegalTurns m ts → OutcomesLossless (all_outcomes m ts) → ts ≡ full_turns m (inputs_of ts)
 turns_full m [] full legal lossless = refl
 turns_full m (t ∷ ts) full legal lossless =
     let is = turn_full m t full legal.0 lossless.0 in
@@ -253,28 +253,28 @@ turns_full m (t ∷ ts) full legal lossless =
     let rest = turns_full (after_turn m t) ts lines legal.1 lossless.1 in
     subst (λ x. t ∷ ts ≡ x ∷ full_turns (after_turn m x) (inputs_of ts)) is (ap (λ us. t ∷ us) rest)
 
-full_after : (m : Moment) (ts : Turns) → AllFull m.lines → LegalTurns m ts → AllLossless (all_outcomes m ts) → AllFull (after_turns m ts).lines
+full_after : (m : Moment) (ts : Turns) → AllFull m.lines → LegalTurns m ts → OutcomesLossless (all_outcomes m ts) → AllFull (after_turns m ts).lines
 full_after m [] full legal lossless = full
 full_after m (t ∷ ts) full legal lossless =
     full_after (after_turn m t) ts (lines_full m t.input t.deeds t.told full legal.0.makes (dues_lossless t.deeds lossless.0)) legal.1 lossless.1
 
-pub lines_are_full : (ts : Turns) → LegalTurns opening ts → AllLossless (all_outcomes opening ts) → AllFull (after_turns opening ts).lines
+pub lines_are_full : (ts : Turns) → LegalTurns opening ts → OutcomesLossless (all_outcomes opening ts) → AllFull (after_turns opening ts).lines
 lines_are_full ts legal lossless = full_after opening ts tt legal lossless
 
-pub turns_are_full : (ts : Turns) → LegalTurns opening ts → AllLossless (all_outcomes opening ts) → ts ≡ full_turns opening (inputs_of ts)
+pub turns_are_full : (ts : Turns) → LegalTurns opening ts → OutcomesLossless (all_outcomes opening ts) → ts ≡ full_turns opening (inputs_of ts)
 turns_are_full ts legal lossless = turns_full opening ts tt legal lossless
 
 -- ---- the events of full turns are answered in full
 
-abbrev IsFullRun : Shared → List (Occurrence × Answer) → Type 0
+abbrev IsFullRun : SharedMachine → List (Occurrence × Answer) → Type 0
 IsFullRun S [] = Unit {0}
 IsFullRun S (x ∷ xs) = (x.1 ≡ full_answer S x.0) × IsFullRun (next S x.0 x.1) xs
 
-run-append : (S : Shared) (h k : List (Occurrence × Answer)) → IsFullRun S h → IsFullRun (state_after S h) k → IsFullRun S (h ++ k)
+run-append : (S : SharedMachine) (h k : List (Occurrence × Answer)) → IsFullRun S h → IsFullRun (state_after S h) k → IsFullRun S (h ++ k)
 run-append S [] k full more = more
 run-append S (x ∷ xs) k full more = (full.0, run-append (next S x.0 x.1) xs k full.1 more)
 
-deeds_run : (S : Shared) (dues : List Due) → IsFullRun S (pairs_of (full_deeds S dues))
+deeds_run : (S : SharedMachine) (dues : List Due) → IsFullRun S (pairs_of (full_deeds S dues))
 deeds_run S [] = tt
 deeds_run S (posts e ∷ dues) = (refl, deeds_run (shared_step S e) dues)
 deeds_run S (ignores_frame r ∷ dues) = deeds_run S dues
@@ -287,13 +287,13 @@ history_run m (f ∷ inputs) =
     run-append m.shared (pairs_of (full_deeds m.shared (dues_of m f))) (history_of (full_turns (after_turn m (full_turn m f)) inputs))
     (deeds_run m.shared (dues_of m f)) (history_run (after_turn m (full_turn m f)) inputs)
 
-run_answers : (S : Shared) (h : List (Occurrence × Answer)) → IsFullRun S h → answers_of h ≡ full_answers S (events_of h)
+run_answers : (S : SharedMachine) (h : List (Occurrence × Answer)) → IsFullRun S h → answers_of h ≡ full_answers S (events_of h)
 run_answers S [] full = refl
 run_answers S (x ∷ h) full =
     let same : next S x.0 x.1 ≡ shared_step S x.0 = ap (λ a. next S x.0 a) full.0 in
     ap₂ (λ a answers. a ∷ answers) full.0 (run_answers (shared_step S x.0) h (subst (λ T. IsFullRun T h) same full.1))
 
-run_state : (S : Shared) (h : List (Occurrence × Answer)) → IsFullRun S h → state_after S h ≡ shared_run S (events_of h)
+run_state : (S : SharedMachine) (h : List (Occurrence × Answer)) → IsFullRun S h → state_after S h ≡ shared_run S (events_of h)
 run_state S [] full = refl
 run_state S (x ∷ h) full =
     let same : next S x.0 x.1 ≡ shared_step S x.0 = ap (λ a. next S x.0 a) full.0 in

@@ -7,7 +7,7 @@ use Rattle.pg_turn.specs.Known.{Known, StandsIn}
 use Rattle.pg_gateway.specs.declared.event.Event.{Event}
 use Rattle.pg_gateway.specs.declared.event.Reply.{Reply}
 use Rattle.pg_gateway.specs.Histories.{said}
-use Rattle.pg_serve.specs.Sharing.{Call, Posted}
+use Rattle.pg_serve.specs.Sharing.{Call, PostedCall}
 use Rattle.pg_serve.specs.Onward.{GoesOn}
 use Rattle.pg_serve.specs.Continuing.{answered_more}
 use Rattle.pg_serve.specs.Gates.{said_by, said_at}
@@ -40,7 +40,7 @@ said_stays [] history more h = refl
 said_stays (p ∷ own) history more h =
     ap₂ (λ x y. said_by x ++ y) (get_front history more p (stands_first p own history h)) (said_stays own history more (stands_rest p own history h))
 
-pub said_more : (v w : Known Event Reply) (e : Event) (r : Reply) → Posted v e r w → said_at w.seen w.own ≡ said_at v.seen v.own ++ said (e, r) ∷ []
+pub said_more : (v w : Known Event Reply) (e : Event) (r : Reply) → PostedCall v e r w → said_at w.seen w.own ≡ said_at v.seen v.own ++ said (e, r) ∷ []
 said_more v w e r posted =
     let before = v.seen ++ posted.between in
     let here : said_by (slice_get (before ++ (e, r) ∷ []) (length before)) ≡ said (e, r) ∷ [] = ap said_by (get_here before (e, r)) in
@@ -51,7 +51,7 @@ said_more v w e r posted =
     ∙ ap₂ (λ x y. x ++ (y ++ [])) old here
 
 -- a call makes a seat go on
-pub goes_on_posted : (v w : Known Event Reply) (e : Event) (r : Reply) → Posted v e r w → w.table ≡ v.table → GoesOn v w
+pub goes_on_posted : (v w : Known Event Reply) (e : Event) (r : Reply) → PostedCall v e r w → w.table ≡ v.table → GoesOn v w
 goes_on_posted v w e r posted table = record {
   table = table;
   pieces = (posted.between, (e, r)) ∷ [];

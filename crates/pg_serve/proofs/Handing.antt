@@ -5,12 +5,12 @@ use Rattle.std.specs.Map.{lookup}
 use Rattle.pg_wire.specs.declared.refusal.Refusal.{Refusal}
 use Rattle.pg_ingest.specs.Items as link
 use Rattle.pg_gateway.specs.Occurrences.{Occurrence, add_pmu, drop_pmu, add_sub, drop_sub, grant, asks, announce, measure, tick, stats, pmu_stats, audit, standing, Answer}
-use Rattle.pg_gateway.specs.Shared.{Shared, seat_of}
+use Rattle.pg_gateway.specs.State.{SharedMachine, slot_of}
 use Rattle.pg_gateway.specs.Views.{Handed, handed_one, handed_to, full_answer, shared_step}
 use Rattle.pg_gateway.specs.Laws.{events_of, answers_of}
 use Rattle.pg_serve.specs.Inputs.{Fact, link_up, pmu_bytes, sub_bytes, names, replied}
 use Rattle.pg_serve.specs.Dues.{Due, posts, ignores_frame, closes, refuses, notes_of, pairs_of, link_due}
-use Rattle.pg_serve.specs.Moments.{LinePast, Moment, opening, after_turn, all_outcomes, history_of, up_due}
+use Rattle.pg_serve.specs.Moments.{SourceLinkPast, Moment, opening, after_turn, all_outcomes, history_of, up_due}
 use Rattle.pg_serve.specs.Full.{full_deeds, told_more, told_dues, dues_of, full_turn, full_turns, events_made, answers_made, full_outcomes, is_asked, handed_note, handed_at, handed_over}
 use Rattle.pg_serve.proofs.Neighbours.{AllAt, at_heard}
 
@@ -33,7 +33,7 @@ abbrev AreSilent : ℕ → List Due → Type 0
 AreSilent u [] = Unit {0}
 AreSilent u (d ∷ dues) = IsSilent u d × AreSilent u dues
 
-silent_none : (u : ℕ) (S : Shared) (dues : List Due) → AreSilent u dues → [] ≡ paired u (pairs_of (full_deeds S dues))
+silent_none : (u : ℕ) (S : SharedMachine) (dues : List Due) → AreSilent u dues → [] ≡ paired u (pairs_of (full_deeds S dues))
 silent_none u S [] h = refl
 silent_none u S (posts e ∷ dues) h = ap₂ (λ x y. x ++ y) (sym (h.0 (full_answer S e))) (silent_none u (shared_step S e) dues h.1)
 silent_none u S (ignores_frame r ∷ dues) h = silent_none u S dues h.1
@@ -59,7 +59,7 @@ at_silent u w (closes r ∷ dues) apart h = (tt, at_silent u w dues apart h.1)
 at_silent u w (refuses r ∷ dues) apart h = (tt, at_silent u w dues apart h.1)
 
 -- what is due at u alone
-at_handed : (u w : ℕ) (S : Shared) (dues : List Due) → nat_eq u w ≡ true → AllAt w dues
+at_handed : (u w : ℕ) (S : SharedMachine) (dues : List Due) → nat_eq u w ≡ true → AllAt w dues
     → flat_map handed_note (notes_of (full_deeds S dues)) ≡ paired u (pairs_of (full_deeds S dues))
 at_handed u w S [] same h = refl
 at_handed u w S (posts e ∷ dues) same h =
@@ -69,11 +69,11 @@ at_handed u w S (ignores_frame r ∷ dues) same h = at_handed u w S dues same h.
 at_handed u w S (closes r ∷ dues) same h = at_handed u w S dues same h.1
 at_handed u w S (refuses r ∷ dues) same h = at_handed u w S dues same h.1
 
-up_silent : (u : ℕ) (o : Option LinePast) → AreSilent u (up_due o)
+up_silent : (u : ℕ) (o : Option SourceLinkPast) → AreSilent u (up_due o)
 up_silent u None = (tt, tt)
 up_silent u (Some line) = tt
 
-bytes_silent : (u : ℕ) (piece : List ℕ) (o : Option LinePast) → AreSilent u (told_dues piece o)
+bytes_silent : (u : ℕ) (piece : List ℕ) (o : Option SourceLinkPast) → AreSilent u (told_dues piece o)
 bytes_silent u piece None = (tt, tt)
 bytes_silent u piece (Some line) = told_silent u (told_more piece (Some line)) (link.break_in (line.link.stream ++ piece))
 
@@ -105,7 +105,7 @@ turn_handed u m (sub_bytes w piece) = by (nat_eq u w) refl
     dues = dues_of m (sub_bytes w piece)
 
     at : AllAt w dues
-    at = at_heard w piece (is_some (seat_of w m.shared.subs)) (lookup (nat_eq w) m.fed)
+    at = at_heard w piece (is_some (slot_of w m.shared.subs)) (lookup (nat_eq w) m.fed)
 
     by : (b : Bool) → nat_eq u w ≡ b → (if b then flat_map handed_note (notes_of (full_deeds m.shared dues)) else []) ≡ paired u (pairs_of (full_deeds m.shared dues))
     by true same = at_handed u w m.shared dues same at

@@ -6,24 +6,24 @@ use Rattle.pg_session.specs.Shown.{Model}
 use Rattle.pg_session.specs.Commands.{Hearing, items_of, stats_of as session_stats}
 use Rattle.pg_ingest.specs.Items.{told_of}
 use Rattle.pg_ingest.specs.Linking.{stats_of as link_stats}
-use Rattle.pg_serve.specs.declared.line.Line.{Line}
+use Rattle.pg_serve.specs.declared.source_link.SourceLink.{SourceLink}
 use Rattle.pg_gateway.specs.Occurrences.{Occurrence, measure, Answer}
-use Rattle.pg_gateway.specs.Shared.{Shared, opening as shared_opening, own_of}
-use Rattle.pg_gateway.specs.Sharing.{Seat}
+use Rattle.pg_gateway.specs.State.{SharedMachine, opening as shared_opening, own_of}
+use Rattle.pg_gateway.specs.Sharing.{SubscriberSlot}
 use Rattle.pg_gateway.specs.Histories.{Legal, state_after}
 use Rattle.pg_gateway.specs.Laws.{events_of, answers_of, after}
 use Rattle.pg_gateway.specs.Views as views
 use Rattle.pg_gateway.specs.Views.{shared_step, shared_run, view, private_run, full_answers, handed_to, handed_in}
-use Rattle.pg_gateway.specs.Shown.{SeatValue, SeatShows}
+use Rattle.pg_gateway.specs.Shown.{SlotValue, SlotShows}
 use Rattle.pg_gateway.proofs.RelatedLaws.{Related-lookup, Both}
 use Rattle.pg_gateway.proofs.ViewLaws.{own-run}
 use Rattle.pg_gateway.proofs.AnswerLaws.{handed-run}
 use Rattle.pg_gateway.proofs.RunLaws.{Alone-run, full_history, equal_states, equal_frames}
 use Rattle.pg_serve.specs.Inputs.{Fact, Outcome}
 use Rattle.pg_serve.specs.Dues.{Deed, answered, ignored_frame, closed_at, refused, notes_of, pairs_of}
-use Rattle.pg_serve.specs.Moments.{LinePast, Moment, opening, has_source, Turns, LegalTurns, after_turn, after_turns, all_outcomes, history_of}
-use Rattle.pg_serve.specs.Shown.{LineShows, SessionShows, WorldValue, link_counted, session_counted}
-use Rattle.pg_serve.specs.Full.{full_turns, events_made, full_outcomes, handed_over, view_of, NotesLossless, AllLossless, HasAnswered, OwnShows, queue_of, moment_of, events_at, link_counts_of, session_counts_of, is_connected, Headline, InputsIsolate, SharedFrame}
+use Rattle.pg_serve.specs.Moments.{SourceLinkPast, Moment, opening, has_source, Turns, LegalTurns, after_turn, after_turns, all_outcomes, history_of}
+use Rattle.pg_serve.specs.Shown.{SourceLinkShows, SessionShows, WorldValue, link_counted, session_counted}
+use Rattle.pg_serve.specs.Full.{full_turns, events_made, full_outcomes, handed_over, view_of, NotesLossless, OutcomesLossless, HasAnswered, OwnShows, queue_of, moment_of, events_at, link_counts_of, session_counts_of, is_connected, Headline, InputsIsolate, SharedFrame}
 use Rattle.pg_serve.proofs.Doing.{state_after-append, Legal-append}
 use Rattle.pg_serve.proofs.Determined.{IsFull, full_lookup, lines_are_full, turns_are_full, answers_are_full, state_is_full, events-more}
 use Rattle.pg_serve.proofs.Belonging.{belongs}
@@ -48,19 +48,19 @@ deeds_lossless (ignored_frame r ∷ deeds) h = deeds_lossless deeds h.1
 deeds_lossless (closed_at r ∷ deeds) h = deeds_lossless deeds h
 deeds_lossless (refused r ∷ deeds) h = deeds_lossless deeds h.1
 
-turns_lossless : (m : Moment) (ts : Turns) → AllLossless (all_outcomes m ts) → views.AllLossless (answers_of (history_of ts))
+turns_lossless : (m : Moment) (ts : Turns) → OutcomesLossless (all_outcomes m ts) → views.AllLossless (answers_of (history_of ts))
 turns_lossless m [] h = tt
 turns_lossless m (t ∷ ts) h =
     subst views.AllLossless (sym (map-append _ (pairs_of t.deeds) (history_of ts)))
     (lossless-append (answers_of (pairs_of t.deeds)) (answers_of (history_of ts)) (deeds_lossless t.deeds h.0) (turns_lossless (after_turn m t) ts h.1))
 
-own_shows : (o : Option SeatValue) (p : Option Seat) → Both SeatShows o p → OwnShows o (option_map (λ s. s.own) p)
+own_shows : (o : Option SlotValue) (p : Option SubscriberSlot) → Both SlotShows o p → OwnShows o (option_map (λ s. s.own) p)
 own_shows None None b = tt
 own_shows (Some v) (Some s) b = b.subscriber
 own_shows None (Some s) b = absurd b
 own_shows (Some v) None b = absurd b
 
-queue_own : (o : Option SeatValue) (p : Option Model) → OwnShows o p → option_map (λ v. v.subscriber.own.output.queue) o ≡ queue_of p
+queue_own : (o : Option SlotValue) (p : Option Model) → OwnShows o p → option_map (λ v. v.subscriber.own.output.queue) o ≡ queue_of p
 queue_own None None h = refl
 queue_own (Some v) (Some p) h = ap Some h.queue.same
 queue_own None (Some p) h = absurd h
@@ -78,7 +78,7 @@ inputs_isolate = record {
 }
 
 -- what links and sessions count
-link_counts : (o : Option Line) (p : Option LinePast) → Both LineShows o p → ((line : LinePast) → p ≡ Some line → IsFull line)
+link_counts : (o : Option SourceLink) (p : Option SourceLinkPast) → Both SourceLinkShows o p → ((line : SourceLinkPast) → p ≡ Some line → IsFull line)
     → option_map (λ line. line.link.stats) o ≡ option_map (λ line. link_stats (line.link.earlier ++ told_of line.link.source line.link.stream)) p
 link_counts None None b full = refl
 link_counts (Some v) (Some line) b full = ap Some (b.shows.stats ∙ ap (λ items. link_stats (line.link.earlier ++ items)) (full line refl).all)
@@ -99,10 +99,10 @@ some_map f (Some x) = refl
 shared_is : (inputs : List Fact) → (moment_of inputs).shared ≡ after (events_made inputs)
 shared_is inputs = sym (history_state opening (full_turns opening inputs)) ∙ state_is_full inputs
 
-pub isolated : (w : WorldValue) (inputs : List Fact) (told : List Outcome) → AllLossless told → HasAnswered w inputs told → Headline w inputs told
+pub isolated : (w : WorldValue) (inputs : List Fact) (told : List Outcome) → OutcomesLossless told → HasAnswered w inputs told → Headline w inputs told
 isolated w inputs told lossless has =
     let turns = has.turns in
-    let so = subst AllLossless has.outcomes lossless in
+    let so = subst OutcomesLossless has.outcomes lossless in
     let all : turns ≡ full_turns opening inputs = turns_are_full turns has.shows.legal so ∙ ap (full_turns opening) has.taken in
     let history = history_of turns in
     let full = full_history shared_opening history (history_legal opening turns has.shows.legal) (turns_lossless opening turns so) in
@@ -111,10 +111,10 @@ isolated w inputs told lossless has =
     λ u. subst (λ ts. OwnShows (lookup (nat_eq u) w.gateway.subs) (private_run None (view u shared_opening (events_of (history_of ts))))) all
     (subst (OwnShows (lookup (nat_eq u) w.gateway.subs)) (ap (own_of u) same ∙ own-run u shared_opening (events_of history) tt)
     (own_shows (lookup (nat_eq u) w.gateway.subs) (lookup (nat_eq u) (after_turns opening turns).shared.subs)
-    (Related-lookup SeatShows (nat_eq u) w.gateway.subs (after_turns opening turns).shared.subs has.shows.shows.gateway.subs))) in
+    (Related-lookup SlotShows (nat_eq u) w.gateway.subs (after_turns opening turns).shared.subs has.shows.shows.gateway.subs))) in
     let links : (s : ℕ) → link_counted s w ≡ link_counts_of s inputs =
     λ s. link_counts (lookup (nat_eq s) w.lines) (lookup (nat_eq s) (after_turns opening turns).lines)
-    (Related-lookup LineShows (nat_eq s) w.lines (after_turns opening turns).lines has.shows.shows.lines)
+    (Related-lookup SourceLinkShows (nat_eq s) w.lines (after_turns opening turns).lines has.shows.shows.lines)
     (λ line found. full_lookup (nat_eq s) (after_turns opening turns).lines line (lines_are_full turns has.shows.legal so) found)
     ∙ ap (λ ts. option_map (λ line. link_stats (line.link.earlier ++ told_of line.link.source line.link.stream)) (lookup (nat_eq s) (after_turns opening ts).lines)) all in
     let sessions : (u : ℕ) → session_counted u w ≡ session_counts_of u inputs =
@@ -137,7 +137,7 @@ isolated w inputs told lossless has =
 
 -- ---- of a shared frame each has its granted blocks alone
 
-run-more : (S : Shared) (es fs : List Occurrence) → shared_run S (es ++ fs) ≡ shared_run (shared_run S es) fs
+run-more : (S : SharedMachine) (es fs : List Occurrence) → shared_run S (es ++ fs) ≡ shared_run (shared_run S es) fs
 run-more S [] fs = refl
 run-more S (e ∷ es) fs = run-more (shared_step S e) es fs
 

@@ -6,14 +6,14 @@ use Rattle.pg_turn.specs.Turns.{IsLegalAfter, IsLegal, Called}
 use Rattle.pg_gateway.specs.declared.event.Event.{Event}
 use Rattle.pg_gateway.specs.declared.event.Reply.{Reply}
 use Rattle.pg_gateway.specs.Occurrences.{Occurrence, occurrence, asks, Answer, told}
-use Rattle.pg_gateway.specs.Shared.{Shared, opening, own_of, May, next}
+use Rattle.pg_gateway.specs.State.{SharedMachine, opening, own_of, May, next}
 use Rattle.pg_gateway.specs.Histories.{Legal, state_after, said, MayCall}
 use Rattle.pg_gateway.specs.Laws.{events_of, answers_of, after}
 use Rattle.pg_gateway.specs.Views.{Lossless, AllLossless, handed_to, full_answer}
 use Rattle.pg_gateway.proofs.ViewLaws.{own-run}
 use Rattle.pg_gateway.proofs.AnswerLaws.{handed-run, lossless_full}
 use Rattle.pg_gateway.proofs.RunLaws.{full_history, own_reply}
-use Rattle.pg_serve.specs.Sharing.{Call, AreAnswered, history_of, Posted, HandsByViews, AnswersByView}
+use Rattle.pg_serve.specs.Sharing.{Call, AreAnswered, history_of, PostedCall, HandsByViews, AnswersByView}
 use Rattle.pg_serve.proofs.Doing.{state_after-append}
 
 -- the state after one call more
@@ -50,7 +50,7 @@ answered_behind : (before first calls : List Call) (x : Call) → IsLegalAfter M
 answered_behind before [] calls x legal = answered_after before calls x legal
 answered_behind before (y ∷ first) calls x legal = answered_behind (before ++ y ∷ []) first calls x legal.1
 
-pub posts : (v : Known Event Reply) (e : Event) (r : Reply) (w : Known Event Reply) → Called MayCall v e r w → Posted v e r w
+pub posts : (v : Known Event Reply) (e : Event) (r : Reply) (w : Known Event Reply) → Called MayCall v e r w → PostedCall v e r w
 posts v e r w called =
     let last = last_after [] (v.seen ++ called.0) (e, r) (subst (λ h. IsLegal MayCall h) called.1 called.3) in record {
       between = called.0;
@@ -68,7 +68,7 @@ hands_by_views h legal full u = ap (λ answers. handed_to u (events_of h) answer
     ∙ handed-run u opening (events_of h) tt
 
 -- the parts of a legal history without loss, before its last call and at it
-legal_front : (S : Shared) (before : List (Occurrence × Answer)) (x : Occurrence × Answer) → Legal S (before ++ x ∷ [])
+legal_front : (S : SharedMachine) (before : List (Occurrence × Answer)) (x : Occurrence × Answer) → Legal S (before ++ x ∷ [])
     → Legal S before × May (state_after S before) x.0 x.1
 legal_front S [] x legal = (tt, legal.0)
 legal_front S (y ∷ before) x legal = let rest = legal_front (next S y.0 y.1) before x legal.1 in ((legal.0, rest.0), rest.1)

@@ -14,3 +14,5 @@ pub mod Legally
 pub mod Sessions
 pub mod Gating
 pub mod Delivering
+pub mod Links
+pub mod Both

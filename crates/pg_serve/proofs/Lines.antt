@@ -12,14 +12,14 @@ use Rattle.pg_ingest.specs.Commands.{Act, tells, asks, told_in}
 use Rattle.pg_ingest.specs.Linking.{Linking}
 use Rattle.pg_ingest.specs.Shown as ingest
 use Rattle.pg_ingest.specs.Shown.{LinkPast, IsAllTold, beginning, renewed, feeding}
-use Rattle.pg_gateway.specs.Shared.{Shared}
+use Rattle.pg_gateway.specs.State.{SharedMachine}
 use Rattle.pg_gateway.specs.Shown.{GatewayValue}
-use Rattle.pg_serve.specs.declared.line.Line.{Line}
+use Rattle.pg_serve.specs.declared.source_link.SourceLink.{SourceLink}
 use Rattle.pg_serve.specs.Inputs.{Outcome}
 use Rattle.pg_serve.specs.Dues.{words_due, frames_of, gave}
 use Rattle.pg_serve.specs.Feeding.{TakesPiece, GivesAll}
-use Rattle.pg_serve.specs.Moments.{LinePast, new_line, words_given, fed_line, telling}
-use Rattle.pg_serve.specs.Shown.{LineShows, SessionShows}
+use Rattle.pg_serve.specs.Moments.{SourceLinkPast, new_source_link, words_given, fed_line, telling}
+use Rattle.pg_serve.specs.Shown.{SourceLinkShows, SessionShows}
 use Rattle.pg_serve.specs.Taking.{GoesUp, TakesBytes}
 
 told_asks : (words : List Word) → told_in (map asks words) ≡ []
@@ -42,11 +42,11 @@ no_frames = refl
 pub none_told : (source : ℕ) → AreTold source (reverse (frames_in [])) []
 none_told source = subst (λ frames. AreTold source (reverse frames) []) (sym no_frames) tt
 
-pub line_new : (v : Linking) (s : ℕ) → ingest.Shows v (beginning s) → LineShows (record { link = v; is_up = false }) (new_line s)
+pub line_new : (v : Linking) (s : ℕ) → ingest.ShowsLink v (beginning s) → SourceLinkShows (record { link = v; is_up = false }) (new_source_link s)
 line_new v s shows = record { shows = shows; told = none_told s; is_up = refl }
 
-pub goes_up : (line : LinePast) (frames : List ℕ) (v w : Linking) → ingest.Shows v (renewed line.link)
-    → ((past : LinkPast) → ingest.Shows v past → GivesAll past frames w) → GoesUp line frames (record { link = w; is_up = true })
+pub goes_up : (line : SourceLinkPast) (frames : List ℕ) (v w : Linking) → ingest.ShowsLink v (renewed line.link)
+    → ((past : LinkPast) → ingest.ShowsLink v past → GivesAll past frames w) → GoesUp line frames (record { link = w; is_up = true })
 goes_up line frames v w shows gives =
     let given = gives (renewed line.link) shows in
     record {
@@ -57,7 +57,7 @@ goes_up line frames v w shows gives =
 gave_none : (past : LinkPast) → past ≡ gave past []
 gave_none past = ap (λ acts. record past { acts = acts }) (sym (append-nil past.acts))
 
-pub bytes_quiet : (S : Shared) (line : LinePast) (bytes : List ℕ) (o : Outcome) (g : GatewayValue) (v : Line) → v.is_up ≡ line.is_up → line.is_up ≡ false
+pub bytes_quiet : (S : SharedMachine) (line : SourceLinkPast) (bytes : List ℕ) (o : Outcome) (g : GatewayValue) (v : SourceLink) → v.is_up ≡ line.is_up → line.is_up ≡ false
     → TakesPiece S (feeding line.link bytes) [] o.notes g v.link → o.to_pmu ≡ [] → TakesBytes S line bytes o g v
 bytes_quiet S line bytes o g v same quiet takes none = record {
   items = takes.items;
@@ -65,15 +65,15 @@ bytes_quiet S line bytes o g v same quiet takes none = record {
   did = takes.did;
   sent = none ∙ ap (λ b. frames_of line.link.source (if b then words_due (telling line.link bytes takes.items) else [])) (sym quiet);
   shows = record {
-    shows = subst (λ b. ingest.Shows v.link (gave (telling line.link bytes takes.items) (if b then words_due (telling line.link bytes takes.items) else [])))
-        (sym quiet) (subst (ingest.Shows v.link) (gave_none (telling line.link bytes takes.items)) takes.shows);
+    shows = subst (λ b. ingest.ShowsLink v.link (gave (telling line.link bytes takes.items) (if b then words_due (telling line.link bytes takes.items) else [])))
+        (sym quiet) (subst (ingest.ShowsLink v.link) (gave_none (telling line.link bytes takes.items)) takes.shows);
     told = still_told (telling line.link bytes takes.items) (words_given (fed_line line bytes takes.items)) takes.all;
     is_up = same;
   };
 }
 
-pub bytes_answered : (S : Shared) (line : LinePast) (bytes : List ℕ) (o : Outcome) (g : GatewayValue) (mid : Linking) (v : Line) → v.is_up ≡ line.is_up → line.is_up ≡ true
-    → TakesPiece S (feeding line.link bytes) [] o.notes g mid → ((past : LinkPast) → ingest.Shows mid past → GivesAll past o.to_pmu v.link)
+pub bytes_answered : (S : SharedMachine) (line : SourceLinkPast) (bytes : List ℕ) (o : Outcome) (g : GatewayValue) (mid : Linking) (v : SourceLink) → v.is_up ≡ line.is_up → line.is_up ≡ true
+    → TakesPiece S (feeding line.link bytes) [] o.notes g mid → ((past : LinkPast) → ingest.ShowsLink mid past → GivesAll past o.to_pmu v.link)
     → TakesBytes S line bytes o g v
 bytes_answered S line bytes o g mid v same up takes gives =
     let given = gives (telling line.link bytes takes.items) takes.shows in
@@ -83,7 +83,7 @@ bytes_answered S line bytes o g mid v same up takes gives =
       did = takes.did;
       sent = given.frames ∙ ap (λ b. frames_of line.link.source (if b then words_due (telling line.link bytes takes.items) else [])) (sym up);
       shows = record {
-        shows = subst (λ b. ingest.Shows v.link (gave (telling line.link bytes takes.items) (if b then words_due (telling line.link bytes takes.items) else [])))
+        shows = subst (λ b. ingest.ShowsLink v.link (gave (telling line.link bytes takes.items) (if b then words_due (telling line.link bytes takes.items) else [])))
             (sym up) given.shows;
         told = still_told (telling line.link bytes takes.items) (words_given (fed_line line bytes takes.items)) takes.all;
         is_up = same;
@@ -94,8 +94,8 @@ pub no_rest : rest_in [] ≡ []
 unfolding rest_in cut.rest_by
 no_rest = refl
 
-pub session_new : (v : Hearing) → session.Shows v [] [] → SessionShows v []
+pub session_new : (v : Hearing) → session.ShowsHearing v [] [] → SessionShows v []
 session_new v shows = record {
-  shows = subst (session.Shows v []) (sym (ap (map item_of) no_frames)) shows;
+  shows = subst (session.ShowsHearing v []) (sym (ap (map item_of) no_frames)) shows;
   whole = ap break_of no_rest;
 }

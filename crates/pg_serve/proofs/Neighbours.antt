@@ -17,17 +17,17 @@ use Rattle.pg_session.specs.Private.{Told, done, refuse}
 use Rattle.pg_session.specs.Commands.{Item, commands, ignores, items_of, break_in}
 use Rattle.pg_gateway.specs.Occurrences.{Occurrence, add_pmu, drop_pmu, add_sub, drop_sub, grant, asks, announce, measure, tick, stats, pmu_stats, audit, standing, Answer, tells, sub_counts, pmu_counts, entry, stands}
 use Rattle.pg_gateway.specs.Judging.{registered_of}
-use Rattle.pg_gateway.specs.Sharing.{Seat, Seats, revokes, announces, measures, fan_out}
-use Rattle.pg_gateway.specs.Shared.{Shared, seat_of, own_of, at_seat, refusal, Reach, to_all, to_one, adds, drops, to_none, unless, reach, reached_answer, frames_reached, granting, moved, added, with_note, code_of, is_refusal, kept_of, seats_after, seats_noted, names as named, taken_in, pmus_after, tick_after, next}
+use Rattle.pg_gateway.specs.Sharing.{SubscriberSlot, SubscriberSlots, revokes, announces, measures, fan_out}
+use Rattle.pg_gateway.specs.State.{SharedMachine, slot_of, own_of, at_slot, refusal, Reach, to_all, to_one, adds, drops, to_none, unless, reach, reached_answer, frames_reached, granting, moved, added, with_note, code_of, is_refusal, kept_of, slots_after, slots_noted, names as named, taken_in, pmus_after, tick_after, next}
 use Rattle.pg_gateway.specs.Histories.{state_after}
 use Rattle.pg_gateway.specs.Views.{private_run, part_of, part, view, full_by, full_answer, shared_step, shared_run}
 use Rattle.pg_gateway.specs.Laws.{events_of}
 use Rattle.pg_gateway.proofs.RelatedLaws.{Related-length}
-use Rattle.pg_gateway.proofs.SeatLaws.{owned, Alone, same-at_seat, same-fan_out, lookup-removed}
+use Rattle.pg_gateway.proofs.SlotLaws.{owned, Alone, same-at_slot, same-fan_out, lookup-removed}
 use Rattle.pg_gateway.proofs.ViewLaws.{own-step, Alone-next}
 use Rattle.pg_serve.specs.Inputs.{Fact, link_up, pmu_bytes, sub_bytes, names}
 use Rattle.pg_serve.specs.Dues.{Due, posts, ignores_frame, closes, refuses, pairs_of, item_due, hang_up, session_due, link_due}
-use Rattle.pg_serve.specs.Moments.{LinePast, Moment, opening, is_done, new_line, lines_by, fed_by, put_line, put_fed, fed_more, all_given, line_after, after_turn, history_of, heard_due, up_due}
+use Rattle.pg_serve.specs.Moments.{SourceLinkPast, Moment, opening, is_done, new_source_link, lines_by, fed_by, put_line, put_fed, fed_more, all_given, line_after, after_turn, history_of, heard_due, up_due}
 use Rattle.pg_serve.specs.Full.{full_deeds, told_more, told_dues, dues_of, full_turn, full_turns, view_of}
 use Rattle.pg_serve.specs.Others.{names_other, is_of_other, without_others, adds_by, adds_at, adds_in, NeighboursChangeNothing}
 use Rattle.pg_serve.proofs.Belonging.{connected_in, Belongs, turn_belongs, opening_belongs, connect_done, hangup_done, drop_done}
@@ -49,7 +49,7 @@ KeepsPmus (pmu_stats key) = Unit {0}
 KeepsPmus (audit u index) = Unit {0}
 KeepsPmus (standing u place) = Unit {0}
 
-told_pmus : (S : Shared) (e : Occurrence) (t : Told) → KeepsPmus e → pmus_after S e t ≡ S.pmus
+told_pmus : (S : SharedMachine) (e : Occurrence) (t : Told) → KeepsPmus e → pmus_after S e t ≡ S.pmus
 told_pmus S (add_pmu key) t k = absurd k
 told_pmus S (drop_pmu key) t k = absurd k
 told_pmus S (add_sub u size bytes) t k = refl
@@ -64,7 +64,7 @@ told_pmus S (pmu_stats key) t k = refl
 told_pmus S (audit u index) t k = refl
 told_pmus S (standing u place) t k = refl
 
-kept_pmus : (S : Shared) (e : Occurrence) (a : Answer) → KeepsPmus e → (next S e a).pmus ≡ S.pmus
+kept_pmus : (S : SharedMachine) (e : Occurrence) (a : Answer) → KeepsPmus e → (next S e a).pmus ≡ S.pmus
 kept_pmus S e (tells t) k = told_pmus S e t k
 kept_pmus S e (sub_counts x) k = refl
 kept_pmus S e (pmu_counts x) k = refl
@@ -101,7 +101,7 @@ told_tick last (pmu_stats key) k = refl
 told_tick last (audit u index) k = refl
 told_tick last (standing u place) k = refl
 
-kept_tick : (S : Shared) (e : Occurrence) (a : Answer) → KeepsTick e → (next S e a).last_tick ≡ S.last_tick
+kept_tick : (S : SharedMachine) (e : Occurrence) (a : Answer) → KeepsTick e → (next S e a).last_tick ≡ S.last_tick
 kept_tick S e (tells t) k = told_tick S.last_tick e k
 kept_tick S e (sub_counts x) k = refl
 kept_tick S e (pmu_counts x) k = refl
@@ -110,7 +110,7 @@ kept_tick S e (stands x) k = refl
 
 -- ---- two states that are alike for u
 
-record Alike (u : ℕ) (S T : Shared) : Type 0 where
+record Alike (u : ℕ) (S T : SharedMachine) : Type 0 where
   pub pmus : S.pmus ≡ T.pmus
   pub tick : S.last_tick ≡ T.last_tick
   pub own : own_of u S ≡ own_of u T
@@ -118,7 +118,7 @@ record Alike (u : ℕ) (S T : Shared) : Type 0 where
   pub alone' : Alone T.subs
 
 -- there is room for a subscriber that is added
-abbrev HasRoom : Occurrence → Shared → Type 0
+abbrev HasRoom : Occurrence → SharedMachine → Type 0
 HasRoom (add_pmu key) S = Unit {0}
 HasRoom (drop_pmu key) S = Unit {0}
 HasRoom (add_sub u size bytes) S = nat_le 64 (length S.subs) ≡ false
@@ -134,7 +134,7 @@ HasRoom (audit u index) S = Unit {0}
 HasRoom (standing u place) S = Unit {0}
 
 -- a state of these parts
-abbrev parts : Pmus → Option ℕ → Seats → Shared
+abbrev parts : Pmus → Option ℕ → SubscriberSlots → SharedMachine
 parts pmus last ss = record { pmus = pmus; subs = ss; last_tick = last }
 
 mine : (u w : ℕ) → not (nat_eq u w) ≡ false → nat_eq u w ≡ true
@@ -151,25 +151,25 @@ not_mine u w h = by (nat_eq u w) h
     by true h = sym h
     by false h = refl
 
-there_is : (o : Option Seat) → is_some (owned o) ≡ is_some o
+there_is : (o : Option SubscriberSlot) → is_some (owned o) ≡ is_some o
 there_is None = refl
 there_is (Some s) = refl
 
-same_there : (u : ℕ) (S T : Shared) → own_of u S ≡ own_of u T → is_some (seat_of u S.subs) ≡ is_some (seat_of u T.subs)
-same_there u S T own = sym (there_is (seat_of u S.subs)) ∙ ap is_some own ∙ there_is (seat_of u T.subs)
+same_there : (u : ℕ) (S T : SharedMachine) → own_of u S ≡ own_of u T → is_some (slot_of u S.subs) ≡ is_some (slot_of u T.subs)
+same_there u S T own = sym (there_is (slot_of u S.subs)) ∙ ap is_some own ∙ there_is (slot_of u T.subs)
 
 -- it sees the same of an event
-same_reach : (u : ℕ) (pmus : Pmus) (last : Option ℕ) (ss ts : Seats) (e : Occurrence) → owned (seat_of u ss) ≡ owned (seat_of u ts) → names_other u e ≡ false
+same_reach : (u : ℕ) (pmus : Pmus) (last : Option ℕ) (ss ts : SubscriberSlots) (e : Occurrence) → owned (slot_of u ss) ≡ owned (slot_of u ts) → names_other u e ≡ false
     → HasRoom e (parts pmus last ss) → HasRoom e (parts pmus last ts) → reach (parts pmus last ss) e ≡ reach (parts pmus last ts) e
 same_reach u pmus last ss ts (add_pmu key) own mine_so room room' = refl
 same_reach u pmus last ss ts (drop_pmu key) own mine_so room room' = refl
 same_reach u pmus last ss ts (add_sub w size bytes) own mine_so room room' =
-    let there : is_some (seat_of w ss) ≡ is_some (seat_of w ts) =
-    subst (λ v. is_some (seat_of v ss) ≡ is_some (seat_of v ts)) (eqb-true u w (mine u w mine_so)) (same_there u (parts pmus last ss) (parts pmus last ts) own) in
+    let there : is_some (slot_of w ss) ≡ is_some (slot_of w ts) =
+    subst (λ v. is_some (slot_of v ss) ≡ is_some (slot_of v ts)) (eqb-true u w (mine u w mine_so)) (same_there u (parts pmus last ss) (parts pmus last ts) own) in
     ap₂ (λ b full. unless (refuse b SubExists (refuse full SubsFull None)) (adds w size bytes last)) there (room ∙ sym room')
 same_reach u pmus last ss ts (drop_sub w) own mine_so room room' =
-    let there : is_some (seat_of w ss) ≡ is_some (seat_of w ts) =
-    subst (λ v. is_some (seat_of v ss) ≡ is_some (seat_of v ts)) (eqb-true u w (mine u w mine_so)) (same_there u (parts pmus last ss) (parts pmus last ts) own) in
+    let there : is_some (slot_of w ss) ≡ is_some (slot_of w ts) =
+    subst (λ v. is_some (slot_of v ss) ≡ is_some (slot_of v ts)) (eqb-true u w (mine u w mine_so)) (same_there u (parts pmus last ss) (parts pmus last ts) own) in
     ap (λ b. unless (refuse (not b) NoSuchSub None) (drops w)) there
 same_reach u pmus last ss ts (grant w key) own mine_so room room' = refl
 same_reach u pmus last ss ts (asks w x) own mine_so room room' = refl
@@ -182,7 +182,7 @@ same_reach u pmus last ss ts (audit w index) own mine_so room room' = refl
 same_reach u pmus last ss ts (standing w place) own mine_so room room' = refl
 
 -- and the registry and the last tick go on alike
-same_pmus : (pmus : Pmus) (last : Option ℕ) (ss ts : Seats) (e : Occurrence) → (shared_step (parts pmus last ss) e).pmus ≡ (shared_step (parts pmus last ts) e).pmus
+same_pmus : (pmus : Pmus) (last : Option ℕ) (ss ts : SubscriberSlots) (e : Occurrence) → (shared_step (parts pmus last ss) e).pmus ≡ (shared_step (parts pmus last ts) e).pmus
 same_pmus pmus last ss ts (add_pmu key) = by (refusal (parts pmus last ss) (add_pmu key))
   where
     by : (r : Option Refusal) → (next (parts pmus last ss) (add_pmu key) (full_by r (tells (done 0 0)))).pmus ≡ (next (parts pmus last ts) (add_pmu key) (full_by r (tells (done 0 0)))).pmus
@@ -190,7 +190,7 @@ same_pmus pmus last ss ts (add_pmu key) = by (refusal (parts pmus last ss) (add_
     by (Some r) = refl
 same_pmus pmus last ss ts (drop_pmu key) = by (refusal (parts pmus last ss) (drop_pmu key))
   where
-    answer_by : Option Refusal → Seats → Answer
+    answer_by : Option Refusal → SubscriberSlots → Answer
     answer_by r seats = full_by r (tells (reached_answer (unless r (to_all (revokes key))) seats (frames_reached (unless r (to_all (revokes key))) seats)))
 
     by : (r : Option Refusal) → (next (parts pmus last ss) (drop_pmu key) (answer_by r ss)).pmus ≡ (next (parts pmus last ts) (drop_pmu key) (answer_by r ts)).pmus
@@ -201,7 +201,7 @@ same_pmus pmus last ss ts (announce config) = by (refusal (parts pmus last ss) (
     to : Reach
     to = to_all (announces (registered_of pmus config))
 
-    answer_by : Option Refusal → Seats → Answer
+    answer_by : Option Refusal → SubscriberSlots → Answer
     answer_by r seats = full_by r (tells (reached_answer (unless r to) seats (frames_reached (unless r to) seats)))
 
     by : (r : Option Refusal) → (next (parts pmus last ss) (announce config) (answer_by r ss)).pmus ≡ (next (parts pmus last ts) (announce config) (answer_by r ts)).pmus
@@ -212,7 +212,7 @@ same_pmus pmus last ss ts (measure m) = by (refusal (parts pmus last ss) (measur
     to : Reach
     to = to_all (measures m.soc m.quality m.frac (taken_in (parts pmus last ss) m))
 
-    answer_by : Option Refusal → Seats → Answer
+    answer_by : Option Refusal → SubscriberSlots → Answer
     answer_by r seats = full_by r (tells (reached_answer (unless r to) seats (frames_reached (unless r to) seats)))
 
     by : (r : Option Refusal) → (next (parts pmus last ss) (measure m) (answer_by r ss)).pmus ≡ (next (parts pmus last ts) (measure m) (answer_by r ts)).pmus
@@ -243,7 +243,7 @@ is_tick (pmu_stats key) = inl tt
 is_tick (audit u index) = inl tt
 is_tick (standing u place) = inl tt
 
-same_tick : (pmus : Pmus) (last : Option ℕ) (ss ts : Seats) (e : Occurrence) → (shared_step (parts pmus last ss) e).last_tick ≡ (shared_step (parts pmus last ts) e).last_tick
+same_tick : (pmus : Pmus) (last : Option ℕ) (ss ts : SubscriberSlots) (e : Occurrence) → (shared_step (parts pmus last ss) e).last_tick ≡ (shared_step (parts pmus last ts) e).last_tick
 same_tick pmus last ss ts e = by (is_tick e)
   where
     by : (KeepsTick e) ⊎ ((soc : ℕ) × (e ≡ tick soc)) → (shared_step (parts pmus last ss) e).last_tick ≡ (shared_step (parts pmus last ts) e).last_tick
@@ -251,7 +251,7 @@ same_tick pmus last ss ts e = by (is_tick e)
     by (inr t) = subst (λ x. (shared_step (parts pmus last ss) x).last_tick ≡ (shared_step (parts pmus last ts) x).last_tick) (sym t.1) refl
 
 -- an event that names no other: u sees the same of it, and the states go on alike
-step_by_parts : (u : ℕ) (pmus : Pmus) (last : Option ℕ) (ss ts : Seats) (e : Occurrence) → owned (seat_of u ss) ≡ owned (seat_of u ts) → Alone ss → Alone ts → names_other u e ≡ false
+step_by_parts : (u : ℕ) (pmus : Pmus) (last : Option ℕ) (ss ts : SubscriberSlots) (e : Occurrence) → owned (slot_of u ss) ≡ owned (slot_of u ts) → Alone ss → Alone ts → names_other u e ≡ false
     → HasRoom e (parts pmus last ss) → HasRoom e (parts pmus last ts)
     → Alike u (shared_step (parts pmus last ss) e) (shared_step (parts pmus last ts) e) × (part u (parts pmus last ss) e ≡ part u (parts pmus last ts) e)
 step_by_parts u pmus last ss ts e own alone alone' mine_so room room' =
@@ -268,7 +268,7 @@ step_by_parts u pmus last ss ts e own alone alone' mine_so room room' =
       same,
     )
 
-step_alike : (u : ℕ) (S T : Shared) (e : Occurrence) → Alike u S T → names_other u e ≡ false → HasRoom e S → HasRoom e T
+step_alike : (u : ℕ) (S T : SharedMachine) (e : Occurrence) → Alike u S T → names_other u e ≡ false → HasRoom e S → HasRoom e T
     → Alike u (shared_step S e) (shared_step T e) × (part u S e ≡ part u T e)
 step_alike u S T e alike mine_so room room' =
     by T.pmus alike.pmus T.last_tick alike.tick room'
@@ -281,7 +281,7 @@ step_alike u S T e alike mine_so room room' =
         (λ r. step_by_parts u S.pmus S.last_tick S.subs T.subs e alike.own alike.alone alike.alone' mine_so room r)) room'
 
 -- an event that names another: u sees nothing of it, and the state goes on alike
-none_seen : (u : ℕ) (S : Shared) (e : Occurrence) → names_other u e ≡ true → part u S e ≡ []
+none_seen : (u : ℕ) (S : SharedMachine) (e : Occurrence) → names_other u e ≡ true → part u S e ≡ []
 none_seen u S (add_pmu key) other = absurd (cc)
 none_seen u S (drop_pmu key) other = absurd (cc)
 none_seen u S (add_sub w size bytes) other = by (refusal S (add_sub w size bytes))
@@ -323,7 +323,7 @@ other_keeps u (pmu_stats key) other = (tt, tt)
 other_keeps u (audit w index) other = (tt, tt)
 other_keeps u (standing w place) other = (tt, tt)
 
-other_alike : (u : ℕ) (S T : Shared) (e : Occurrence) → Alike u S T → names_other u e ≡ true → Alike u (shared_step S e) T
+other_alike : (u : ℕ) (S T : SharedMachine) (e : Occurrence) → Alike u S T → names_other u e ≡ true → Alike u (shared_step S e) T
 other_alike u S T e alike other = record {
   pmus = kept_pmus S e (full_answer S e) (other_keeps u e other).0 ∙ alike.pmus;
   tick = kept_tick S e (full_answer S e) (other_keeps u e other).1 ∙ alike.tick;
@@ -337,26 +337,26 @@ other_alike u S T e alike other = record {
 -- events that u sees, and among them none that adds a subscriber
 abbrev AreOwn : ℕ → List Occurrence → Type 0
 AreOwn u [] = Unit {0}
-AreOwn u (e ∷ es) = (names_other u e ≡ false) × ((S : Shared) → HasRoom e S) × AreOwn u es
+AreOwn u (e ∷ es) = (names_other u e ≡ false) × ((S : SharedMachine) → HasRoom e S) × AreOwn u es
 
 abbrev AreOthers : ℕ → List Occurrence → Type 0
 AreOthers u [] = Unit {0}
 AreOthers u (e ∷ es) = (names_other u e ≡ true) × AreOthers u es
 
-run_alike : (u : ℕ) (S T : Shared) (es : List Occurrence) → Alike u S T → AreOwn u es → Alike u (shared_run S es) (shared_run T es) × (view u S es ≡ view u T es)
+run_alike : (u : ℕ) (S T : SharedMachine) (es : List Occurrence) → Alike u S T → AreOwn u es → Alike u (shared_run S es) (shared_run T es) × (view u S es ≡ view u T es)
 run_alike u S T [] alike own = (alike, refl)
 run_alike u S T (e ∷ es) alike own =
     let one = step_alike u S T e alike own.0 (own.1 S) (own.1 T) in
     let rest = run_alike u (shared_step S e) (shared_step T e) es one.0 own.2 in
     (rest.0, ap₂ (λ x y. x ++ y) one.1 rest.1)
 
-others_alike : (u : ℕ) (S T : Shared) (es : List Occurrence) → Alike u S T → AreOthers u es → Alike u (shared_run S es) T × (view u S es ≡ [])
+others_alike : (u : ℕ) (S T : SharedMachine) (es : List Occurrence) → Alike u S T → AreOthers u es → Alike u (shared_run S es) T × (view u S es ≡ [])
 others_alike u S T [] alike others = (alike, refl)
 others_alike u S T (e ∷ es) alike others =
     let rest = others_alike u (shared_step S e) T es (other_alike u S T e alike others.0) others.1 in
     (rest.0, ap₂ (λ x y. x ++ y) (none_seen u S e others.0) rest.1)
 
-view-append : (u : ℕ) (S : Shared) (es fs : List Occurrence) → view u S (es ++ fs) ≡ view u S es ++ view u (shared_run S es) fs
+view-append : (u : ℕ) (S : SharedMachine) (es fs : List Occurrence) → view u S (es ++ fs) ≡ view u S es ++ view u (shared_run S es) fs
 view-append u S [] fs = refl
 view-append u S (e ∷ es) fs = ap (λ v. part u S e ++ v) (view-append u (shared_step S e) es fs) ∙ sym (append_assoc (part u S e) (view u (shared_step S e) es) (view u (shared_run (shared_step S e) es) fs))
 
@@ -368,14 +368,14 @@ posted (ignores_frame r ∷ dues) = posted dues
 posted (closes r ∷ dues) = posted dues
 posted (refuses r ∷ dues) = posted dues
 
-events_posted : (S : Shared) (dues : List Due) → events_of (pairs_of (full_deeds S dues)) ≡ posted dues
+events_posted : (S : SharedMachine) (dues : List Due) → events_of (pairs_of (full_deeds S dues)) ≡ posted dues
 events_posted S [] = refl
 events_posted S (posts e ∷ dues) = ap (λ es. e ∷ es) (events_posted (shared_step S e) dues)
 events_posted S (ignores_frame r ∷ dues) = events_posted S dues
 events_posted S (closes r ∷ dues) = events_posted S dues
 events_posted S (refuses r ∷ dues) = events_posted S dues
 
-run_posted : (S : Shared) (dues : List Due) → state_after S (pairs_of (full_deeds S dues)) ≡ shared_run S (posted dues)
+run_posted : (S : SharedMachine) (dues : List Due) → state_after S (pairs_of (full_deeds S dues)) ≡ shared_run S (posted dues)
 run_posted S [] = refl
 run_posted S (posts e ∷ dues) = run_posted (shared_step S e) dues
 run_posted S (ignores_frame r ∷ dues) = run_posted S dues
@@ -438,7 +438,7 @@ itself u = eq-eqb u u refl
 at_own : (u : ℕ) (dues : List Due) → AllAt u dues → AreOwn u (posted dues)
 at_own u [] h = tt
 at_own u (posts e ∷ dues) h =
-    (subst (λ x. names_other u x ≡ false) (sym h.0.1) (ap not (itself u)), subst (λ x. (S : Shared) → HasRoom x S) (sym h.0.1) (λ S. tt), at_own u dues h.1)
+    (subst (λ x. names_other u x ≡ false) (sym h.0.1) (ap not (itself u)), subst (λ x. (S : SharedMachine) → HasRoom x S) (sym h.0.1) (λ S. tt), at_own u dues h.1)
 at_own u (ignores_frame r ∷ dues) h = at_own u dues h.1
 at_own u (closes r ∷ dues) h = at_own u dues h.1
 at_own u (refuses r ∷ dues) h = at_own u dues h.1
@@ -556,7 +556,7 @@ named_apart u fed (pmu_stats key) done_so other alone = refl
 named_apart u fed (audit w index) done_so other alone = refl
 named_apart u fed (standing w place) done_so other alone = refl
 
-other_lines : (u : ℕ) (lines : List (ℕ × LinePast)) (S T : Shared) (e : Occurrence) (done_so : Bool) → names_other u e ≡ true → lines_by lines S T e done_so ≡ lines
+other_lines : (u : ℕ) (lines : List (ℕ × SourceLinkPast)) (S T : SharedMachine) (e : Occurrence) (done_so : Bool) → names_other u e ≡ true → lines_by lines S T e done_so ≡ lines
 other_lines u lines S T (add_pmu key) done_so other = absurd (cc)
 other_lines u lines S T (drop_pmu key) done_so other = absurd (cc)
 other_lines u lines S T (add_sub w size bytes) done_so other = refl
@@ -578,7 +578,7 @@ other_turn u m n (pmu_bytes s piece) alike other = absurd (cc)
 other_turn u m n (sub_bytes w piece) alike other =
     let dues = dues_of m (sub_bytes w piece) in
     let apart = not_mine u w other in
-    let ran = others_alike u m.shared n.shared (posted dues) alike.shared (at_others u w dues apart (at_heard w piece (is_some (seat_of w m.shared.subs)) (lookup (nat_eq w) m.fed))) in (
+    let ran = others_alike u m.shared n.shared (posted dues) alike.shared (at_others u w dues apart (at_heard w piece (is_some (slot_of w m.shared.subs)) (lookup (nat_eq w) m.fed))) in (
       record {
         shared = subst (λ S. Alike u S n.shared) (sym (run_posted m.shared dues)) ran.0;
         lines = alike.lines;
@@ -614,11 +614,11 @@ turn_by_dues u m n f alike same own =
       ran.1 ∙ ap (λ ds. view u n.shared (posted ds)) same,
     )
 
-up_own : (u : ℕ) (o : Option LinePast) → AreOwn u (posted (up_due o))
+up_own : (u : ℕ) (o : Option SourceLinkPast) → AreOwn u (posted (up_due o))
 up_own u None = tt
 up_own u (Some line) = tt
 
-bytes_own : (u : ℕ) (piece : List ℕ) (o : Option LinePast) → AreOwn u (posted (told_dues piece o))
+bytes_own : (u : ℕ) (piece : List ℕ) (o : Option SourceLinkPast) → AreOwn u (posted (told_dues piece o))
 bytes_own u piece None = tt
 bytes_own u piece (Some line) = told_own u (told_more piece (Some line)) (link.break_in (line.link.stream ++ piece))
 
@@ -635,7 +635,7 @@ heard_own : (u : ℕ) (m n : Moment) (piece : List ℕ) → AlikeMoments u m n �
 heard_own u m n piece alike =
     let f = sub_bytes u piece in
     let same : dues_of m f ≡ dues_of n f = ap₂ (λ b o. heard_due u piece b o) (same_there u m.shared n.shared alike.shared.own) alike.fed in
-    let ran = turn_by_dues u m n f alike.shared same (at_own u (dues_of m f) (at_heard u piece (is_some (seat_of u m.shared.subs)) (lookup (nat_eq u) m.fed))) in (
+    let ran = turn_by_dues u m n f alike.shared same (at_own u (dues_of m f) (at_heard u piece (is_some (slot_of u m.shared.subs)) (lookup (nat_eq u) m.fed))) in (
       record {
         shared = ran.0;
         lines = alike.lines;
@@ -652,13 +652,13 @@ own_lines : (u : ℕ) (m n : Moment) (e : Occurrence) → AlikeMoments u m n →
     → lines_by m.lines m.shared (shared_step m.shared e) e (is_done (full_answer m.shared e)) ≡ lines_by n.lines n.shared (shared_step n.shared e) e (is_done (full_answer n.shared e))
 own_lines u m n (add_pmu key) alike after = ap₂ lines_added alike.lines alike.shared.pmus
   where
-    lines_added : List (ℕ × LinePast) → Pmus → List (ℕ × LinePast)
+    lines_added : List (ℕ × SourceLinkPast) → Pmus → List (ℕ × SourceLinkPast)
     lines_added lines pmus =
         if is_done (full_by (refuse (registered.has_key pmus key) PmuExists (refuse (nat_le 256 (length pmus)) PmusFull None)) (tells (done 0 0)))
-        then (if registered.has_source pmus key.source then lines else insert_entry nat_eq lines key.source (new_line key.source)) else lines
+        then (if registered.has_source pmus key.source then lines else insert_entry nat_eq lines key.source (new_source_link key.source)) else lines
 own_lines u m n (drop_pmu key) alike after = ap₂ lines_left alike.lines after
   where
-    lines_left : List (ℕ × LinePast) → Pmus → List (ℕ × LinePast)
+    lines_left : List (ℕ × SourceLinkPast) → Pmus → List (ℕ × SourceLinkPast)
     lines_left lines pmus = if registered.has_source pmus key.source then lines else remove_entry (nat_eq key.source) lines
 own_lines u m n (add_sub w size bytes) alike after = alike.lines
 own_lines u m n (drop_sub w) alike after = alike.lines
@@ -727,7 +727,7 @@ fed_named u m n (pmu_stats key) alike own = alike.fed
 fed_named u m n (audit w index) alike own = alike.fed
 fed_named u m n (standing w place) alike own = alike.fed
 
-abbrev RoomFor : Fact → Shared → Type 0
+abbrev RoomFor : Fact → SharedMachine → Type 0
 RoomFor (link_up s) S = Unit {0}
 RoomFor (pmu_bytes s piece) S = Unit {0}
 RoomFor (sub_bytes u piece) S = Unit {0}
@@ -780,7 +780,7 @@ reach_adds (adds w size bytes last) = 1
 reach_adds (drops w) = 0
 reach_adds to_none = 0
 
-length_removed : (test : ℕ → Bool) (ss : Seats) → length (remove_entry test ss) ≤ length ss
+length_removed : (test : ℕ → Bool) (ss : SubscriberSlots) → length (remove_entry test ss) ≤ length ss
 length_removed test [] = omega arith
 length_removed test (s ∷ ss) = by (test s.0) (length_removed test ss)
   where
@@ -788,14 +788,14 @@ length_removed test (s ∷ ss) = by (test s.0) (length_removed test ss)
     by true h = omega arith
     by false h = omega (arith, h)
 
-length_reached : (to : Reach) (t : Told) (ss : Seats) → length (seats_after to t ss) ≤ length ss + reach_adds to
+length_reached : (to : Reach) (t : Told) (ss : SubscriberSlots) → length (slots_after to t ss) ≤ length ss + reach_adds to
 length_reached (to_all o) t ss = by (is_refusal t)
   where
     by : (b : Bool) → length (if b then ss else fan_out o ss (kept_of t)) ≤ length ss + 0
     by true = omega arith
     by false = let same = Related-length (λ v w. Unit {0}) (fan_out o ss (kept_of t)) ss (same-fan_out o ss (kept_of t)) in omega (arith, same)
 length_reached (to_one w x) t ss =
-    let same = Related-length (λ v w. Unit {0}) (at_seat w (moved x t) ss) ss (same-at_seat w (moved x t) ss) in omega (arith, same)
+    let same = Related-length (λ v w. Unit {0}) (at_slot w (moved x t) ss) ss (same-at_slot w (moved x t) ss) in omega (arith, same)
 length_reached (adds w size bytes last) t ss = by (is_refusal t)
   where
     by : (b : Bool) → length (if b then ss else ss ++ (w, added size bytes last) ∷ []) ≤ length ss + 1
@@ -808,16 +808,16 @@ length_reached (drops w) t ss = by (is_refusal t)
     by false = omega (arith, length_removed (nat_eq w) ss)
 length_reached to_none t ss = omega arith
 
-length_noted : (name : Option (ℕ × What)) (t : Told) (ss : Seats) → length (seats_noted name t ss) ≡ length ss
+length_noted : (name : Option (ℕ × What)) (t : Told) (ss : SubscriberSlots) → length (slots_noted name t ss) ≡ length ss
 length_noted None t ss = refl
 length_noted (Some n) t ss =
-    Related-length (λ v w. Unit {0}) (at_seat n.0 (with_note (n.1, code_of t)) ss) ss (same-at_seat n.0 (with_note (n.1, code_of t)) ss)
+    Related-length (λ v w. Unit {0}) (at_slot n.0 (with_note (n.1, code_of t)) ss) ss (same-at_slot n.0 (with_note (n.1, code_of t)) ss)
 
 adds_unless : (r : Option Refusal) (to : Reach) → reach_adds (unless r to) ≤ reach_adds to
 adds_unless None to = omega arith
 adds_unless (Some r) to = omega arith
 
-reach_by : (S : Shared) (e : Occurrence) → reach_adds (reach S e) ≤ adds_by e
+reach_by : (S : SharedMachine) (e : Occurrence) → reach_adds (reach S e) ≤ adds_by e
 reach_by S (add_pmu key) = omega arith
 reach_by S (drop_pmu key) = adds_unless (refusal S (drop_pmu key)) (to_all (revokes key))
 reach_by S (add_sub w size bytes) = adds_unless (refusal S (add_sub w size bytes)) (adds w size bytes S.last_tick)
@@ -836,9 +836,9 @@ reach_by S (pmu_stats key) = omega arith
 reach_by S (audit w index) = omega arith
 reach_by S (standing w place) = omega arith
 
-length_next : (S : Shared) (e : Occurrence) (a : Answer) → length (next S e a).subs ≤ length S.subs + adds_by e
+length_next : (S : SharedMachine) (e : Occurrence) (a : Answer) → length (next S e a).subs ≤ length S.subs + adds_by e
 length_next S e (tells t) =
-    let noted = length_noted (named e) t (seats_after (reach S e) t S.subs) in
+    let noted = length_noted (named e) t (slots_after (reach S e) t S.subs) in
     let reached = length_reached (reach S e) t S.subs in
     let few = reach_by S e in
     omega (arith, noted, reached, few)
@@ -851,7 +851,7 @@ abbrev adds_all : List Occurrence → ℕ
 adds_all [] = 0
 adds_all (e ∷ es) = adds_by e + adds_all es
 
-length_run : (S : Shared) (es : List Occurrence) → length (shared_run S es).subs ≤ length S.subs + adds_all es
+length_run : (S : SharedMachine) (es : List Occurrence) → length (shared_run S es).subs ≤ length S.subs + adds_all es
 length_run S [] = omega arith
 length_run S (e ∷ es) =
     let one = length_next S e (full_answer S e) in
@@ -878,15 +878,15 @@ told_adds (link.passes_over ∷ items) broken = told_adds items broken
 dues_add : (m : Moment) (f : Fact) → adds_all (posted (dues_of m f)) ≡ adds_at f
 dues_add m (link_up s) = by (lookup (nat_eq s) m.lines)
   where
-    by : (o : Option LinePast) → adds_all (posted (up_due o)) ≡ 0
+    by : (o : Option SourceLinkPast) → adds_all (posted (up_due o)) ≡ 0
     by None = refl
     by (Some line) = refl
 dues_add m (pmu_bytes s piece) = by (lookup (nat_eq s) m.lines)
   where
-    by : (o : Option LinePast) → adds_all (posted (told_dues piece o)) ≡ 0
+    by : (o : Option SourceLinkPast) → adds_all (posted (told_dues piece o)) ≡ 0
     by None = refl
     by (Some line) = told_adds (told_more piece (Some line)) (link.break_in (line.link.stream ++ piece))
-dues_add m (sub_bytes w piece) = at_adds w (dues_of m (sub_bytes w piece)) (at_heard w piece (is_some (seat_of w m.shared.subs)) (lookup (nat_eq w) m.fed))
+dues_add m (sub_bytes w piece) = at_adds w (dues_of m (sub_bytes w piece)) (at_heard w piece (is_some (slot_of w m.shared.subs)) (lookup (nat_eq w) m.fed))
 dues_add m (names e) = omega arith
 
 length_turn : (m : Moment) (f : Fact) → length (turned m f).shared.subs ≤ length m.shared.subs + adds_at f
@@ -903,7 +903,7 @@ less n h = by (nat_le 64 n) refl
     by true e = absurd (grind (arith, nat_tests))
     by false e = refl
 
-has_room : (e : Occurrence) (S : Shared) (others : ℕ) → length S.subs + (adds_by e + others) ≤ 64 → HasRoom e S
+has_room : (e : Occurrence) (S : SharedMachine) (others : ℕ) → length S.subs + (adds_by e + others) ≤ 64 → HasRoom e S
 has_room (add_pmu key) S others h = tt
 has_room (drop_pmu key) S others h = tt
 has_room (add_sub u size bytes) S others h = less (length S.subs) (omega (arith, h))
@@ -918,7 +918,7 @@ has_room (pmu_stats key) S others h = tt
 has_room (audit u index) S others h = tt
 has_room (standing u place) S others h = tt
 
-room_for : (f : Fact) (S : Shared) (others : ℕ) → length S.subs + (adds_at f + others) ≤ 64 → RoomFor f S
+room_for : (f : Fact) (S : SharedMachine) (others : ℕ) → length S.subs + (adds_at f + others) ≤ 64 → RoomFor f S
 room_for (link_up s) S others h = tt
 room_for (pmu_bytes s piece) S others h = tt
 room_for (sub_bytes u piece) S others h = tt

@@ -57,8 +57,8 @@ due_first : (past : LinkPast) (w : Word) → word_due past ≡ Some w → words_
 due_first past w h = first_due (reverse past.acts) w h ∙ ap (λ acts. w ∷ words_at acts) (sym (reverse-append past.acts (asks w ∷ [])))
 
 abbrev pub HasGiven : Linking → Linking → List ℕ → Type 0
-HasGiven old new sent = (past : LinkPast) → ingest.Shows old past
-    → (words : List Word) × (sent ≡ frames_of past.source words) × ingest.Shows new (gave past words)
+HasGiven old new sent = (past : LinkPast) → ingest.ShowsLink old past
+    → (words : List Word) × (sent ≡ frames_of past.source words) × ingest.ShowsLink new (gave past words)
     × (words ++ words_due (gave past words) ≡ words_due past)
 
 frames_more : (source : ℕ) (words : List Word) (w : Word) → frames_of source (words ++ w ∷ []) ≡ frames_of source words ++ written source 0 (word_number w)
@@ -66,19 +66,19 @@ frames_more source words w = flat_map-append (λ x. written source 0 (word_numbe
     ∙ ap (λ x. frames_of source words ++ x) (append-nil (written source 0 (word_number w)))
 
 pub command_given : (old mid new : Linking) (before after frame : List ℕ) → HasGiven old mid before
-    → ((past : LinkPast) → ingest.Shows mid past → (Some frame ≡ command_due past) × ingest.Shows new (commanding past)) → after ≡ before ++ frame → HasGiven old new after
+    → ((past : LinkPast) → ingest.ShowsLink mid past → (Some frame ≡ command_due past) × ingest.ShowsLink new (commanding past)) → after ≡ before ++ frame → HasGiven old new after
 command_given old mid new before after frame has gives is past shows =
     by (word_due (gave past so_far.0)) refl given.0 given.1
   where
-    so_far : (words : List Word) × (before ≡ frames_of past.source words) × ingest.Shows mid (gave past words) × (words ++ words_due (gave past words) ≡ words_due past)
+    so_far : (words : List Word) × (before ≡ frames_of past.source words) × ingest.ShowsLink mid (gave past words) × (words ++ words_due (gave past words) ≡ words_due past)
     so_far = has past shows
 
-    given : (Some frame ≡ command_due (gave past so_far.0)) × ingest.Shows new (commanding (gave past so_far.0))
+    given : (Some frame ≡ command_due (gave past so_far.0)) × ingest.ShowsLink new (commanding (gave past so_far.0))
     given = gives (gave past so_far.0) so_far.2
 
     by : (word : Option Word) → word_due (gave past so_far.0) ≡ word → Some frame ≡ command_due (gave past so_far.0)
-        → ingest.Shows new (commanding (gave past so_far.0))
-        → (words : List Word) × (after ≡ frames_of past.source words) × ingest.Shows new (gave past words) × (words ++ words_due (gave past words) ≡ words_due past)
+        → ingest.ShowsLink new (commanding (gave past so_far.0))
+        → (words : List Word) × (after ≡ frames_of past.source words) × ingest.ShowsLink new (gave past words) × (words ++ words_due (gave past words) ≡ words_due past)
     by None w f s = absurd (let no_frame : Some frame ≡ None = f ∙ ap (λ o. option_map (λ word. written past.source 0 (word_number word)) o) w in cc)
     by (Some word) w f s =
         let framed : Some frame ≡ Some (written past.source 0 (word_number word)) = f ∙ ap (λ o. option_map (λ x. written past.source 0 (word_number x)) o) w in
@@ -87,7 +87,7 @@ command_given old mid new before after frame has gives is past shows =
         ap (λ o. record past { acts = (gave past so_far.0).acts ++ option_to_list (option_map asks o) }) w ∙ gave_more past so_far.0 word in (
           so_far.0 ++ word ∷ [],
           is ∙ ap₂ (λ x y. x ++ y) so_far.1 same ∙ sym (frames_more past.source so_far.0 word),
-          subst (ingest.Shows new) commanded s,
+          subst (ingest.ShowsLink new) commanded s,
           append_assoc so_far.0 (word ∷ []) (words_due (gave past (so_far.0 ++ word ∷ [])))
               ∙ ap (λ p. so_far.0 ++ word ∷ words_due p) (sym (gave_more past so_far.0 word))
               ∙ ap (λ ws. so_far.0 ++ ws) (sym (due_first (gave past so_far.0) word w))
@@ -95,26 +95,26 @@ command_given old mid new before after frame has gives is past shows =
         )
 
 pub all_given : (old mid new : Linking) (sent : List ℕ) → HasGiven old mid sent
-    → ((past : LinkPast) → ingest.Shows mid past → (None ≡ command_due past) × ingest.Shows new (commanding past))
-    → (past : LinkPast) → ingest.Shows old past → GivesAll past sent new
+    → ((past : LinkPast) → ingest.ShowsLink mid past → (None ≡ command_due past) × ingest.ShowsLink new (commanding past))
+    → (past : LinkPast) → ingest.ShowsLink old past → GivesAll past sent new
 all_given old mid new sent has gives past shows =
     by (word_due (gave past so_far.0)) refl given.0 given.1
   where
-    so_far : (words : List Word) × (sent ≡ frames_of past.source words) × ingest.Shows mid (gave past words) × (words ++ words_due (gave past words) ≡ words_due past)
+    so_far : (words : List Word) × (sent ≡ frames_of past.source words) × ingest.ShowsLink mid (gave past words) × (words ++ words_due (gave past words) ≡ words_due past)
     so_far = has past shows
 
-    given : (None ≡ command_due (gave past so_far.0)) × ingest.Shows new (commanding (gave past so_far.0))
+    given : (None ≡ command_due (gave past so_far.0)) × ingest.ShowsLink new (commanding (gave past so_far.0))
     given = gives (gave past so_far.0) so_far.2
 
     by : (word : Option Word) → word_due (gave past so_far.0) ≡ word → None ≡ command_due (gave past so_far.0)
-        → ingest.Shows new (commanding (gave past so_far.0)) → GivesAll past sent new
+        → ingest.ShowsLink new (commanding (gave past so_far.0)) → GivesAll past sent new
     by None w f s =
         let all : so_far.0 ≡ words_due past =
         sym (append-nil so_far.0) ∙ ap (λ ws. so_far.0 ++ ws) (sym (none_due (reverse (gave past so_far.0).acts) w)) ∙ so_far.3 in
         record {
           frames = so_far.1 ∙ ap (λ ws. frames_of past.source ws) all;
-          shows = subst (λ ws. ingest.Shows new (gave past ws)) all
-              (subst (ingest.Shows new) (ap (λ o. record past { acts = (gave past so_far.0).acts ++ option_to_list (option_map asks o) }) w
+          shows = subst (λ ws. ingest.ShowsLink new (gave past ws)) all
+              (subst (ingest.ShowsLink new) (ap (λ o. record past { acts = (gave past so_far.0).acts ++ option_to_list (option_map asks o) }) w
               ∙ ap (λ acts. record past { acts = acts }) (append-nil (gave past so_far.0).acts)) s);
         }
     by (Some word) w f s =

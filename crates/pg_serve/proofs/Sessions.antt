@@ -13,7 +13,7 @@ use Rattle.pg_wire.specs.Stream.{Splits, stopped, joined}
 use Rattle.pg_wire.proofs.Stream.{whole_at_front}
 use Rattle.pg_wire.proofs.Splitting.{frames_in-only}
 use Rattle.pg_command.specs.declared.command.Command.{Command}
-use Rattle.pg_session.specs.Commands.{Hearing, Item, commands, ignores, item_of, items_of, break_in, Shows, heard}
+use Rattle.pg_session.specs.Commands.{Hearing, Item, commands, ignores, item_of, items_of, break_in, ShowsHearing, heard}
 use Rattle.pg_ring.specs.declared.queue.Drained.{Drained}
 use Rattle.pg_session.specs.Ready.{handed_len}
 use Rattle.pg_session.specs.Private.{drain_told}
@@ -68,8 +68,8 @@ ran_more v v' v'' r r' r'' w w' w'' p p' p'' stream given a b = record {
   out = a.out ++ b.out;
   sub = b.sub ∙ a.sub;
   buffer = b.buffer ∙ a.buffer;
-  shows = subst (λ x. Shows v'' x (given ++ (a.items ++ b.items))) (append_assoc stream a.bytes b.bytes)
-      (subst (Shows v'' ((stream ++ a.bytes) ++ b.bytes)) (append_assoc given a.items b.items) b.shows);
+  shows = subst (λ x. ShowsHearing v'' x (given ++ (a.items ++ b.items))) (append_assoc stream a.bytes b.bytes)
+      (subst (ShowsHearing v'' ((stream ++ a.bytes) ++ b.bytes)) (append_assoc given a.items b.items) b.shows);
   read = consumes_more r r' r'' a.bytes b.bytes a.read b.read;
   posted = subst (Notes p p'') (sym (map-append (posted_by v) a.calls b.calls))
       (notes_more p p' p'' _ _ a.posted (subst (Notes p' p'') same b.posted));
@@ -179,17 +179,17 @@ turned_end end v v' r r' w w' p p' loud turned stream given shows = let a = turn
     by (Fault n) h calls = tt
 
 -- what is left to write is no part of what a session shows
-left_unshown : (v v' : Hearing) (stream : List ℕ) (given : List Item) → v' ≡ record v { left = v'.left } → Shows v stream given → Shows v' stream given
+left_unshown : (v v' : Hearing) (stream : List ℕ) (given : List Item) → v' ≡ record v { left = v'.left } → ShowsHearing v stream given → ShowsHearing v' stream given
 left_unshown v v' stream given same shows =
-    subst (λ x. Shows x stream given) (sym same) (record { frames = shows.frames; bytes = shows.bytes; items = shows.items; stats = shows.stats })
+    subst (λ x. ShowsHearing x stream given) (sym same) (record { frames = shows.frames; bytes = shows.bytes; items = shows.items; stats = shows.stats })
 
-left_hidden : (v v' : Hearing) (stream : List ℕ) (given : List Item) → v' ≡ record v { left = v'.left } → Shows v' stream given → Shows v stream given
+left_hidden : (v v' : Hearing) (stream : List ℕ) (given : List Item) → v' ≡ record v { left = v'.left } → ShowsHearing v' stream given → ShowsHearing v stream given
 left_hidden v v' stream given same shows =
-    (let s : Shows (record v { left = v'.left }) stream given = subst (λ x. Shows x stream given) same shows in
+    (let s : ShowsHearing (record v { left = v'.left }) stream given = subst (λ x. ShowsHearing x stream given) same shows in
     record { frames = s.frames; bytes = s.bytes; items = s.items; stats = s.stats })
 
 -- nothing but a write of what was left
-wrote_from : (v v' : Hearing) (r w w' : Bytes) (p : Notices) (stream : List ℕ) (given : List Item) → Shows v stream given → Writes v.left v'.left w w'
+wrote_from : (v v' : Hearing) (r w w' : Bytes) (p : Notices) (stream : List ℕ) (given : List Item) → ShowsHearing v stream given → Writes v.left v'.left w w'
     → v' ≡ record v { left = v'.left } → RanFrom stream given v v' r r w w' p p
 wrote_from v v' r w w' p stream given shows writes same = record {
   bytes = [];
@@ -198,7 +198,7 @@ wrote_from v v' r w w' p stream given shows writes same = record {
   out = writes.0;
   sub = ap (λ (x : Hearing). x.sub) same;
   buffer = ap (λ (x : Hearing). x.buffer) same;
-  shows = subst (λ x. Shows v' x (given ++ [])) (sym (append-nil stream)) (subst (Shows v' stream) (sym (append-nil given)) (left_unshown v v' stream given same shows));
+  shows = subst (λ x. ShowsHearing v' x (given ++ [])) (sym (append-nil stream)) (subst (ShowsHearing v' stream) (sym (append-nil given)) (left_unshown v v' stream given same shows));
   read = consumes_nil r;
   posted = notes_nil p;
   passed = refl;
@@ -232,7 +232,7 @@ turned_nothing v r w p = turned_wrote v v r w w p ([], appends_nil w, refl) refl
 
 -- A step of which the session and the bytes that it read are told: these calls are posted, and what they hand out is left.
 step : (v v' : Hearing) (r r' w : Bytes) (p p' : Notices) (stream : List ℕ) (given : List Item) (bytes : List ℕ) (items : List Item) (calls : List Call)
-    → v'.sub ≡ v.sub → v'.buffer ≡ v.buffer → Shows v' (stream ++ bytes) (given ++ items) → Consumes r r' bytes → Notes p p' (map (posted_by v) calls)
+    → v'.sub ≡ v.sub → v'.buffer ≡ v.buffer → ShowsHearing v' (stream ++ bytes) (given ++ items) → Consumes r r' bytes → Notes p p' (map (posted_by v) calls)
     → flat_map passed_by calls ≡ flat_map command_in items → v'.left ≡ v.left ++ flat_map handed_by calls → AreWritten [] v.left calls
     → RanFrom stream given v v' r r' w w p p'
 step v v' r r' w p p' stream given bytes items calls sub buffer shows read posted passed left written = record {
@@ -256,7 +256,7 @@ pub turned_unread : (v : Hearing) (r r' w : Bytes) (p : Notices) → Consumes r 
 unfolding step
 turned_unread v r r' w p read stream given shows = record {
   ran = step v v r r' w p p stream given [] [] [] refl refl
-      (subst (λ x. Shows v x (given ++ [])) (sym (append-nil stream)) (subst (Shows v stream) (sym (append-nil given)) shows))
+      (subst (λ x. ShowsHearing v x (given ++ [])) (sym (append-nil stream)) (subst (ShowsHearing v stream) (sym (append-nil given)) shows))
       read (notes_nil p) refl (sym (append-nil v.left)) tt;
   stays = tt;
   last = tt;
@@ -264,11 +264,11 @@ turned_unread v r r' w p read stream given shows = record {
 
 -- a piece was read
 pub turned_read : (v v' : Hearing) (r r' w : Bytes) (p : Notices) (piece : List ℕ) → Consumes r r' piece → v' ≡ heard v piece
-    → ((stream : List ℕ) (given : List Item) → Shows v stream given → Shows v' (stream ++ piece) given) → Turned None v v' r r' w w p p
+    → ((stream : List ℕ) (given : List Item) → ShowsHearing v stream given → ShowsHearing v' (stream ++ piece) given) → Turned None v v' r r' w w p p
 unfolding step
 turned_read v v' r r' w p piece read same fed stream given shows = record {
   ran = step v v' r r' w p p stream given piece [] [] (ap (λ (x : Hearing). x.sub) same) (ap (λ (x : Hearing). x.buffer) same)
-      (subst (Shows v' (stream ++ piece)) (sym (append-nil given)) (fed stream given shows))
+      (subst (ShowsHearing v' (stream ++ piece)) (sym (append-nil given)) (fed stream given shows))
       read (notes_nil p) refl (ap (λ (x : Hearing). x.left) same ∙ sym (append-nil v.left)) tt;
   stays = tt;
   last = tt;
@@ -276,12 +276,12 @@ turned_read v v' r r' w p piece read same fed stream given shows = record {
 
 -- a command was given, and passed on
 pub turned_passed : (v v' : Hearing) (r w : Bytes) (p p' : Notices) (c : Command) (a : Answer)
-    → ((stream : List ℕ) (given : List Item) → Shows v stream given → Shows v' stream (given ++ commands c ∷ []))
+    → ((stream : List ℕ) (given : List Item) → ShowsHearing v stream given → ShowsHearing v' stream (given ++ commands c ∷ []))
     → Notes p p' (posted_by v' (passes c, a) ∷ []) → v'.sub ≡ v.sub → v'.buffer ≡ v.buffer → v'.left ≡ v.left → Turned None v v' r r w w p p'
 unfolding step
 turned_passed v v' r w p p' c a gives posted sub buffer left stream given shows = record {
   ran = step v v' r r w p p' stream given [] (commands c ∷ []) ((passes c, a) ∷ []) sub buffer
-      (subst (λ x. Shows v' x (given ++ commands c ∷ [])) (sym (append-nil stream)) (gives stream given shows))
+      (subst (λ x. ShowsHearing v' x (given ++ commands c ∷ [])) (sym (append-nil stream)) (gives stream given shows))
       (consumes_nil r) (subst (λ s. Notes p p' (posted_by (record v { sub = s }) (passes c, a) ∷ [])) sub posted)
       refl (left ∙ sym (append-nil v.left)) (tt, tt);
   stays = (tt, tt);
@@ -290,24 +290,24 @@ turned_passed v v' r w p p' c a gives posted sub buffer left stream given shows 
 
 -- a frame was ignored
 pub turned_ignored : (v v' : Hearing) (r w : Bytes) (p : Notices) (refusal : Refusal)
-    → ((stream : List ℕ) (given : List Item) → Shows v stream given → Shows v' stream (given ++ ignores refusal ∷ []))
+    → ((stream : List ℕ) (given : List Item) → ShowsHearing v stream given → ShowsHearing v' stream (given ++ ignores refusal ∷ []))
     → v'.sub ≡ v.sub → v'.buffer ≡ v.buffer → v'.left ≡ v.left → Turned None v v' r r w w p p
 unfolding step
 turned_ignored v v' r w p refusal gives sub buffer left stream given shows = record {
   ran = step v v' r r w p p stream given [] (ignores refusal ∷ []) [] sub buffer
-      (subst (λ x. Shows v' x (given ++ ignores refusal ∷ [])) (sym (append-nil stream)) (gives stream given shows))
+      (subst (λ x. ShowsHearing v' x (given ++ ignores refusal ∷ [])) (sym (append-nil stream)) (gives stream given shows))
       (consumes_nil r) (notes_nil p) refl (left ∙ sym (append-nil v.left)) tt;
   stays = tt;
   last = tt;
 }
 
 -- the bytes broke
-pub turned_broken : (v v' : Hearing) (r w : Bytes) (p : Notices) → ((stream : List ℕ) (given : List Item) → Shows v stream given → Shows v' stream given)
+pub turned_broken : (v v' : Hearing) (r w : Bytes) (p : Notices) → ((stream : List ℕ) (given : List Item) → ShowsHearing v stream given → ShowsHearing v' stream given)
     → v'.sub ≡ v.sub → v'.buffer ≡ v.buffer → v'.left ≡ v.left → Turned None v v' r r w w p p
 unfolding step
 turned_broken v v' r w p gives sub buffer left stream given shows = record {
   ran = step v v' r r w p p stream given [] [] [] sub buffer
-      (subst (λ x. Shows v' x (given ++ [])) (sym (append-nil stream)) (subst (Shows v' stream) (sym (append-nil given)) (gives stream given shows)))
+      (subst (λ x. ShowsHearing v' x (given ++ [])) (sym (append-nil stream)) (subst (ShowsHearing v' stream) (sym (append-nil given)) (gives stream given shows)))
       (consumes_nil r) (notes_nil p) refl (left ∙ sym (append-nil v.left)) tt;
   stays = tt;
   last = tt;
@@ -319,7 +319,7 @@ pub turned_drained : (v v' : Hearing) (r w : Bytes) (p p' : Notices) (a : Answer
 unfolding step
 turned_drained v v' r w p p' a empty left posted same stream given shows = record {
   ran = step v v' r r w p p' stream given [] [] ((drains, a) ∷ []) (ap (λ (x : Hearing). x.sub) same) (ap (λ (x : Hearing). x.buffer) same)
-      (subst (λ x. Shows v' x (given ++ [])) (sym (append-nil stream)) (subst (Shows v' stream) (sym (append-nil given)) (left_unshown v v' stream given same shows)))
+      (subst (λ x. ShowsHearing v' x (given ++ [])) (sym (append-nil stream)) (subst (ShowsHearing v' stream) (sym (append-nil given)) (left_unshown v v' stream given same shows)))
       (consumes_nil r) posted refl (left ∙ sym (append-nil (bytes_answered a)) ∙ ap (λ x. x ++ (bytes_answered a ++ [])) (sym empty))
       (([], append-nil v.left ∙ empty), tt);
   stays = (tt, tt);
@@ -344,10 +344,10 @@ broken_out v refusal is = ((λ stream given shows. (of stream given shows).0), (
     no_frame : (rest : List ℕ) → break_of rest ≡ Some refusal → (frame more : List ℕ) → IsWhole frame → rest ≢ frame ++ more
     no_frame rest broken frame more whole e = absurd (let none : break_of rest ≡ None = ap break_of e ∙ (whole_at_front frame more whole).0 in cc)
 
-    of : (stream : List ℕ) (given : List Item) → Shows v stream given → (given ≡ items_of stream) × (break_in stream ≡ Some refusal)
+    of : (stream : List ℕ) (given : List Item) → ShowsHearing v stream given → (given ≡ items_of stream) × (break_in stream ≡ Some refusal)
     of stream given shows = go shows.bytes
       where
-        go : wire.Shows v.bytes stream shows.frames → (given ≡ items_of stream) × (break_in stream ≡ Some refusal)
+        go : wire.ShowsStream v.bytes stream shows.frames → (given ≡ items_of stream) × (break_in stream ≡ Some refusal)
         go bytes =
             let state : (v.bytes.held ≡ []) × (break_of bytes.rest ≡ Some refusal) = subst (λ b. MatchOption b (bytes.rest ≡ v.bytes.held) (λ x. (v.bytes.held ≡ []) × (break_of bytes.rest ≡ Some x))) (ap (λ (d : wire.Deframing). d.broken) is) bytes.state in
             let none : (frame more : List ℕ) → IsWhole frame → bytes.rest ≢ frame ++ more = no_frame bytes.rest state.1 in
@@ -382,7 +382,7 @@ served_hung_up end v v' r r' w w' p p' p'' a turned all hangs posted stream give
     let t = turned stream given shows in
     let hung : RanFrom (stream ++ t.ran.bytes) (given ++ t.ran.items) v' v' r' r' w' w' p' p'' =
     step v' v' r' r' w' p' p'' (stream ++ t.ran.bytes) (given ++ t.ran.items) [] [] ((hangs_up, a) ∷ []) refl refl
-    (subst (λ x. Shows v' x ((given ++ t.ran.items) ++ [])) (sym (append-nil (stream ++ t.ran.bytes))) (subst (Shows v' (stream ++ t.ran.bytes)) (sym (append-nil (given ++ t.ran.items))) t.ran.shows))
+    (subst (λ x. ShowsHearing v' x ((given ++ t.ran.items) ++ [])) (sym (append-nil (stream ++ t.ran.bytes))) (subst (ShowsHearing v' (stream ++ t.ran.bytes)) (sym (append-nil (given ++ t.ran.items))) t.ran.shows))
     (consumes_nil r') posted refl (sym (append-nil v'.left)) (tt, tt) in
     let ran = ran_more v v' v' r r' r' w w' w' p p' p'' stream given t.ran hung in
     record { ran = ran; all = all (stream ++ ran.bytes) (given ++ ran.items) ran.shows; last = by end hangs (t.ran.calls, a, refl, t.stays) }

@@ -16,8 +16,8 @@ use Rattle.pg_session.specs.Private as private
 use Rattle.pg_session.specs.Commands as session
 use Rattle.pg_session.specs.Commands.{Hearing, items_of, break_in}
 use Rattle.pg_gateway.specs.Occurrences.{Occurrence, add_pmu, drop_pmu, asks, Answer, tells}
-use Rattle.pg_gateway.specs.Shared.{Shared, May, next, refusal, made, answer, takes_memory, own_refusal, seat_of, own_of}
-use Rattle.pg_gateway.specs.Sharing.{Seat}
+use Rattle.pg_gateway.specs.State.{SharedMachine, May, next, refusal, made, answer, takes_memory, own_refusal, slot_of, own_of}
+use Rattle.pg_gateway.specs.Sharing.{SubscriberSlot}
 use Rattle.pg_gateway.specs.Histories.{state_after}
 use Rattle.pg_session.specs.Events.{connect, hangup}
 use Rattle.pg_serve.specs.Feeding.{Did, HearsAll}
@@ -25,19 +25,19 @@ use Rattle.pg_serve.proofs.Doing.{Did-more}
 use Rattle.pg_gateway.specs.Related.{Related}
 use Rattle.pg_gateway.specs.Shown.{GatewayValue, GatewayShows}
 use Rattle.pg_gateway.proofs.RelatedLaws.{Related-set_value, Related-remove_entry}
-use Rattle.pg_serve.specs.declared.line.Line.{Line}
+use Rattle.pg_serve.specs.declared.source_link.SourceLink.{SourceLink}
 use Rattle.pg_serve.specs.Inputs.{link_up, pmu_bytes, sub_bytes, names, Outcome, Noted, replied, closed}
 use Rattle.pg_serve.specs.Dues.{answered, refused, closed_at, refuses, posts, closes, pairs_of, item_due, hang_up, session_due, session_grows}
-use Rattle.pg_serve.specs.Moments.{LinePast, Moment, absence, has_source, new_line, is_done, lines_by, fed_by, begins, gives_all, gone_up, fed_line}
-use Rattle.pg_serve.specs.Shown.{LineShows, SessionShows, Holding, MomentShows}
+use Rattle.pg_serve.specs.Moments.{SourceLinkPast, Moment, absence, has_source, new_source_link, is_done, lines_by, fed_by, begins, gives_all, gone_up, fed_line}
+use Rattle.pg_serve.specs.Shown.{SourceLinkShows, SessionShows, Holding, MomentShows}
 use Rattle.pg_serve.specs.Taking.{Takes, GoesUp, TakesBytes, Spares, Ends}
 
-abbrev with_parts : GatewayValue → List (ℕ × Line) → List (ℕ × Hearing) → Holding
+abbrev with_parts : GatewayValue → List (ℕ × SourceLink) → List (ℕ × Hearing) → Holding
 with_parts g links hearings = record { gateway = g; lines = links; sessions = hearings }
 
-pub named_taken : (m : Moment) (e : Occurrence) (a : Answer) (o : Outcome) (g : GatewayValue) (links : List (ℕ × Line)) (hearings : List (ℕ × Hearing))
+pub named_taken : (m : Moment) (e : Occurrence) (a : Answer) (o : Outcome) (g : GatewayValue) (links : List (ℕ × SourceLink)) (hearings : List (ℕ × Hearing))
     → o ≡ record { notes = replied a ∷ []; to_pmu = [] } → May m.shared e a → GatewayShows g (next m.shared e a)
-    → Related LineShows links (lines_by m.lines m.shared (next m.shared e a) e (is_done a))
+    → Related SourceLinkShows links (lines_by m.lines m.shared (next m.shared e a) e (is_done a))
     → Related SessionShows hearings (fed_by m.fed e (is_done a)) → Takes m (names e) o (with_parts g links hearings)
 named_taken m e a o g links hearings is may shows lines sessions = record {
   turn = record { input = names e; deeds = answered e a ∷ []; told = [] };
@@ -48,34 +48,34 @@ named_taken m e a o g links hearings is may shows lines sessions = record {
 }
 
 -- an event that concerns no link and no session
-pub spared : (m : Moment) (e : Occurrence) (a : Answer) (o : Outcome) (g : GatewayValue) (links : List (ℕ × Line)) (hearings : List (ℕ × Hearing))
+pub spared : (m : Moment) (e : Occurrence) (a : Answer) (o : Outcome) (g : GatewayValue) (links : List (ℕ × SourceLink)) (hearings : List (ℕ × Hearing))
     → Spares e → o ≡ record { notes = replied a ∷ []; to_pmu = [] } → May m.shared e a → GatewayShows g (next m.shared e a)
-    → Related LineShows links m.lines → Related SessionShows hearings m.fed → Takes m (names e) o (with_parts g links hearings)
+    → Related SourceLinkShows links m.lines → Related SessionShows hearings m.fed → Takes m (names e) o (with_parts g links hearings)
 spared m e a o g links hearings spares is may shows lines sessions =
     named_taken m e a o g links hearings is may shows
-    (subst (Related LineShows links) (sym (spares.lines m.lines m.shared (next m.shared e a) (is_done a))) lines)
+    (subst (Related SourceLinkShows links) (sym (spares.lines m.lines m.shared (next m.shared e a) (is_done a))) lines)
     (subst (Related SessionShows hearings) (sym (spares.fed m.fed (is_done a))) sessions)
 
 -- an event that ends a session, where it is done
-pub ended : (u : ℕ) (m : Moment) (e : Occurrence) (a : Answer) (o : Outcome) (g : GatewayValue) (links : List (ℕ × Line)) (hearings : List (ℕ × Hearing))
+pub ended : (u : ℕ) (m : Moment) (e : Occurrence) (a : Answer) (o : Outcome) (g : GatewayValue) (links : List (ℕ × SourceLink)) (hearings : List (ℕ × Hearing))
     → Ends u e → is_done a ≡ true → o ≡ record { notes = replied a ∷ []; to_pmu = [] } → May m.shared e a → GatewayShows g (next m.shared e a)
-    → Related LineShows links m.lines → Related SessionShows hearings m.fed → Takes m (names e) o (with_parts g links (remove_entry (nat_eq u) hearings))
+    → Related SourceLinkShows links m.lines → Related SessionShows hearings m.fed → Takes m (names e) o (with_parts g links (remove_entry (nat_eq u) hearings))
 ended u m e a o g links hearings ends done is may shows lines sessions =
     named_taken m e a o g links (remove_entry (nat_eq u) hearings) is may shows
-    (subst (Related LineShows links) (sym (ends.lines m.lines m.shared (next m.shared e a) (is_done a))) lines)
+    (subst (Related SourceLinkShows links) (sym (ends.lines m.lines m.shared (next m.shared e a) (is_done a))) lines)
     (subst (Related SessionShows (remove_entry (nat_eq u) hearings)) (sym (ap (fed_by m.fed e) done ∙ ends.fed m.fed true))
     (Related-remove_entry SessionShows (nat_eq u) hearings m.fed sessions))
 
-pub not_ended : (u : ℕ) (m : Moment) (e : Occurrence) (a : Answer) (o : Outcome) (g : GatewayValue) (links : List (ℕ × Line)) (hearings : List (ℕ × Hearing))
+pub not_ended : (u : ℕ) (m : Moment) (e : Occurrence) (a : Answer) (o : Outcome) (g : GatewayValue) (links : List (ℕ × SourceLink)) (hearings : List (ℕ × Hearing))
     → Ends u e → is_done a ≡ false → o ≡ record { notes = replied a ∷ []; to_pmu = [] } → May m.shared e a → GatewayShows g (next m.shared e a)
-    → Related LineShows links m.lines → Related SessionShows hearings m.fed → Takes m (names e) o (with_parts g links hearings)
+    → Related SourceLinkShows links m.lines → Related SessionShows hearings m.fed → Takes m (names e) o (with_parts g links hearings)
 not_ended u m e a o g links hearings ends done is may shows lines sessions =
     named_taken m e a o g links hearings is may shows
-    (subst (Related LineShows links) (sym (ends.lines m.lines m.shared (next m.shared e a) (is_done a))) lines)
+    (subst (Related SourceLinkShows links) (sym (ends.lines m.lines m.shared (next m.shared e a) (is_done a))) lines)
     (subst (Related SessionShows hearings) (sym (ap (fed_by m.fed e) done ∙ ends.fed m.fed false)) sessions)
 
 -- a source that has no line
-pub up_none : (m : Moment) (s : ℕ) (o : Outcome) (g : GatewayValue) (links : List (ℕ × Line)) (hearings : List (ℕ × Hearing))
+pub up_none : (m : Moment) (s : ℕ) (o : Outcome) (g : GatewayValue) (links : List (ℕ × SourceLink)) (hearings : List (ℕ × Hearing))
     → lookup (nat_eq s) m.lines ≡ None → o ≡ record { notes = replied (tells (private.refused NoSuchPmu)) ∷ []; to_pmu = [] }
     → MomentShows (with_parts g links hearings) m → Takes m (link_up s) o (with_parts g links hearings)
 up_none m s o g links hearings none is shows = record {
@@ -90,7 +90,7 @@ is_answering : (o : Outcome) (notes : List Noted) (to_pmu : List ℕ) → o.note
 is_answering o notes to_pmu n t = subst (λ (x : List Noted). o ≡ record { notes = x; to_pmu = to_pmu }) n
     (subst (λ (x : List ℕ). o ≡ record { notes = o.notes; to_pmu = x }) t refl)
 
-pub up_some : (m : Moment) (s : ℕ) (line : LinePast) (o : Outcome) (g : GatewayValue) (links : List (ℕ × Line)) (v : Line) (hearings : List (ℕ × Hearing))
+pub up_some : (m : Moment) (s : ℕ) (line : SourceLinkPast) (o : Outcome) (g : GatewayValue) (links : List (ℕ × SourceLink)) (v : SourceLink) (hearings : List (ℕ × Hearing))
     → lookup (nat_eq s) m.lines ≡ Some line → o.notes ≡ [] → GoesUp line o.to_pmu v
     → MomentShows (with_parts g links hearings) m → Takes m (link_up s) o (with_parts g (set_value (nat_eq s) links v) hearings)
 up_some m s line o g links v hearings found none goes shows = record {
@@ -100,12 +100,12 @@ up_some m s line o g links v hearings found none goes shows = record {
   outcome = rw found (is_answering o _ _ none goes.sent);
   shows = record {
     gateway = shows.gateway;
-    lines = rw found (Related-set_value LineShows (nat_eq s) v (gives_all (gone_up line)) goes.shows links m.lines shows.lines);
+    lines = rw found (Related-set_value SourceLinkShows (nat_eq s) v (gives_all (gone_up line)) goes.shows links m.lines shows.lines);
     sessions = shows.sessions;
   };
 }
 
-pub bytes_none : (m : Moment) (s : ℕ) (bytes : List ℕ) (o : Outcome) (g : GatewayValue) (links : List (ℕ × Line)) (hearings : List (ℕ × Hearing))
+pub bytes_none : (m : Moment) (s : ℕ) (bytes : List ℕ) (o : Outcome) (g : GatewayValue) (links : List (ℕ × SourceLink)) (hearings : List (ℕ × Hearing))
     → lookup (nat_eq s) m.lines ≡ None → o ≡ record { notes = replied (tells (private.refused NoSuchPmu)) ∷ []; to_pmu = [] }
     → MomentShows (with_parts g links hearings) m → Takes m (pmu_bytes s bytes) o (with_parts g links hearings)
 bytes_none m s bytes o g links hearings none is shows = record {
@@ -116,7 +116,7 @@ bytes_none m s bytes o g links hearings none is shows = record {
   shows = record { gateway = shows.gateway; lines = rw none shows.lines; sessions = shows.sessions };
 }
 
-pub bytes_some : (m : Moment) (s : ℕ) (bytes : List ℕ) (line : LinePast) (o : Outcome) (g h : GatewayValue) (links : List (ℕ × Line)) (v : Line) (hearings : List (ℕ × Hearing))
+pub bytes_some : (m : Moment) (s : ℕ) (bytes : List ℕ) (line : SourceLinkPast) (o : Outcome) (g h : GatewayValue) (links : List (ℕ × SourceLink)) (v : SourceLink) (hearings : List (ℕ × Hearing))
     → lookup (nat_eq s) m.lines ≡ Some line → TakesBytes m.shared line bytes o h v
     → MomentShows (with_parts g links hearings) m → Takes m (pmu_bytes s bytes) o (with_parts h (set_value (nat_eq s) links v) hearings)
 bytes_some m s bytes line o g h links v hearings found takes shows = record {
@@ -126,7 +126,7 @@ bytes_some m s bytes line o g h links v hearings found takes shows = record {
   outcome = rw found (is_answering o _ _ takes.did.notes takes.sent);
   shows = record {
     gateway = takes.did.shows;
-    lines = rw found (Related-set_value LineShows (nat_eq s) v (gives_all (fed_line line bytes takes.items)) takes.shows links m.lines shows.lines);
+    lines = rw found (Related-set_value SourceLinkShows (nat_eq s) v (gives_all (fed_line line bytes takes.items)) takes.shows links m.lines shows.lines);
     sessions = shows.sessions;
   };
 }
@@ -145,7 +145,7 @@ Related-insert {V} {W} R u v w r (x ∷ xs) (y ∷ ys) h = rw h.0 (by (nat_eq u 
     by true rest = (refl, r, h.2)
     by false rest = (refl, h.1, rest)
 
-may_refused : (S : Shared) (e : Occurrence) (a : Answer) (r : Refusal) → May S e a → refusal S e ≡ Some r → is_done a ≡ false
+may_refused : (S : SharedMachine) (e : Occurrence) (a : Answer) (r : Refusal) → May S e a → refusal S e ≡ Some r → is_done a ≡ false
 may_refused S e a r may is =
     let told : a ≡ tells (private.refused r) = subst (λ o. MatchOption o
     (((k : ℕ) × (k ≤ made S e) × (a ≡ answer S e k)) ⊎ ((a ≡ tells (private.refused NoMemory)) × (takes_memory e ≡ true)))
@@ -153,7 +153,7 @@ may_refused S e a r may is =
     ap is_done told
 
 -- there is no memory for the link or session of the event
-pub no_memory : (m : Moment) (e : Occurrence) (o : Outcome) (g : GatewayValue) (links : List (ℕ × Line)) (hearings : List (ℕ × Hearing))
+pub no_memory : (m : Moment) (e : Occurrence) (o : Outcome) (g : GatewayValue) (links : List (ℕ × SourceLink)) (hearings : List (ℕ × Hearing))
     → begins e ≡ true → refusal m.shared e ≡ None → o ≡ record { notes = replied (tells (private.refused NoMemory)) ∷ []; to_pmu = [] }
     → MomentShows (with_parts g links hearings) m → Takes m (names e) o (with_parts g links hearings)
 no_memory m e o g links hearings b none is shows = record {
@@ -164,27 +164,27 @@ no_memory m e o g links hearings b none is shows = record {
   shows = shows;
 }
 
-pub line_added : (m : Moment) (key : PmuKey) (a : Answer) (o : Outcome) (g : GatewayValue) (links : List (ℕ × Line)) (v : Line) (hearings : List (ℕ × Hearing))
-    → is_done a ≡ true → has_source m.shared key.source ≡ false → LineShows v (new_line key.source)
+pub line_added : (m : Moment) (key : PmuKey) (a : Answer) (o : Outcome) (g : GatewayValue) (links : List (ℕ × SourceLink)) (v : SourceLink) (hearings : List (ℕ × Hearing))
+    → is_done a ≡ true → has_source m.shared key.source ≡ false → SourceLinkShows v (new_source_link key.source)
     → o ≡ record { notes = replied a ∷ []; to_pmu = [] } → May m.shared (add_pmu key) a → GatewayShows g (next m.shared (add_pmu key) a)
-    → Related LineShows links m.lines → Related SessionShows hearings m.fed
+    → Related SourceLinkShows links m.lines → Related SessionShows hearings m.fed
     → Takes m (names (add_pmu key)) o (with_parts g (insert_entry nat_eq links key.source v) hearings)
 line_added m key a o g links v hearings done first new is may shows lines sessions =
     named_taken m (add_pmu key) a o g (insert_entry nat_eq links key.source v) hearings is may shows
-    (rw (done, first) (Related-insert LineShows key.source v (new_line key.source) new links m.lines lines)) sessions
+    (rw (done, first) (Related-insert SourceLinkShows key.source v (new_source_link key.source) new links m.lines lines)) sessions
 
-pub line_not_added : (m : Moment) (key : PmuKey) (a : Answer) (o : Outcome) (g : GatewayValue) (links : List (ℕ × Line)) (hearings : List (ℕ × Hearing))
+pub line_not_added : (m : Moment) (key : PmuKey) (a : Answer) (o : Outcome) (g : GatewayValue) (links : List (ℕ × SourceLink)) (hearings : List (ℕ × Hearing))
     → is_done a ≡ false → o ≡ record { notes = replied a ∷ []; to_pmu = [] } → May m.shared (add_pmu key) a → GatewayShows g (next m.shared (add_pmu key) a)
-    → Related LineShows links m.lines → Related SessionShows hearings m.fed → Takes m (names (add_pmu key)) o (with_parts g links hearings)
+    → Related SourceLinkShows links m.lines → Related SessionShows hearings m.fed → Takes m (names (add_pmu key)) o (with_parts g links hearings)
 line_not_added m key a o g links hearings done is may shows lines sessions =
     named_taken m (add_pmu key) a o g links hearings is may shows (rw done lines) sessions
 
-pub line_stays : (m : Moment) (key : PmuKey) (a : Answer) (o : Outcome) (g : GatewayValue) (links : List (ℕ × Line)) (hearings : List (ℕ × Hearing))
+pub line_stays : (m : Moment) (key : PmuKey) (a : Answer) (o : Outcome) (g : GatewayValue) (links : List (ℕ × SourceLink)) (hearings : List (ℕ × Hearing))
     → has_source m.shared key.source ≡ true → o ≡ record { notes = replied a ∷ []; to_pmu = [] } → May m.shared (add_pmu key) a → GatewayShows g (next m.shared (add_pmu key) a)
-    → Related LineShows links m.lines → Related SessionShows hearings m.fed → Takes m (names (add_pmu key)) o (with_parts g links hearings)
+    → Related SourceLinkShows links m.lines → Related SessionShows hearings m.fed → Takes m (names (add_pmu key)) o (with_parts g links hearings)
 line_stays m key a o g links hearings there is may shows lines sessions =
     named_taken m (add_pmu key) a o g links hearings is may shows
-    (subst (Related LineShows links) (sym (by (is_done a))) lines) sessions
+    (subst (Related SourceLinkShows links) (sym (by (is_done a))) lines) sessions
   where
     by : (b : Bool) → lines_by m.lines m.shared (next m.shared (add_pmu key) a) (add_pmu key) b ≡ m.lines
     by true = rw there refl
@@ -207,9 +207,9 @@ no_key key (p ∷ pmus) h = by (nat_eq p.0.source key.source) refl (nat_eq key.p
     by true is c h rest = absurd (cc)
     by false is c h rest = rw (flip p.0.source key.source is) (rest h)
 
-pub full_refuses : (m : Moment) (key : PmuKey) (a : Answer) (o : Outcome) (g : GatewayValue) (links : List (ℕ × Line)) (hearings : List (ℕ × Hearing))
+pub full_refuses : (m : Moment) (key : PmuKey) (a : Answer) (o : Outcome) (g : GatewayValue) (links : List (ℕ × SourceLink)) (hearings : List (ℕ × Hearing))
     → nat_le 256 (length m.shared.pmus) ≡ true → o ≡ record { notes = replied a ∷ []; to_pmu = [] } → May m.shared (add_pmu key) a → GatewayShows g (next m.shared (add_pmu key) a)
-    → Related LineShows links m.lines → Related SessionShows hearings m.fed → Takes m (names (add_pmu key)) o (with_parts g links hearings)
+    → Related SourceLinkShows links m.lines → Related SessionShows hearings m.fed → Takes m (names (add_pmu key)) o (with_parts g links hearings)
 full_refuses m key a o g links hearings full is may shows lines sessions =
     line_not_added m key a o g links hearings (by (is_some (lookup (key_eq key) m.shared.pmus)) refl) is may shows lines sessions
   where
@@ -220,22 +220,22 @@ full_refuses m key a o g links hearings full is may shows lines sessions =
 pub may_add : (m : Moment) (key : PmuKey) → has_source m.shared key.source ≡ false → nat_le 256 (length m.shared.pmus) ≡ false → refusal m.shared (add_pmu key) ≡ None
 may_add m key none room = rw (no_key key m.shared.pmus none, room) refl
 
-pub line_dropped : (m : Moment) (key : PmuKey) (a : Answer) (o : Outcome) (g : GatewayValue) (links : List (ℕ × Line)) (hearings : List (ℕ × Hearing))
+pub line_dropped : (m : Moment) (key : PmuKey) (a : Answer) (o : Outcome) (g : GatewayValue) (links : List (ℕ × SourceLink)) (hearings : List (ℕ × Hearing))
     → has_source (next m.shared (drop_pmu key) a) key.source ≡ false
     → o ≡ record { notes = replied a ∷ []; to_pmu = [] } → May m.shared (drop_pmu key) a → GatewayShows g (next m.shared (drop_pmu key) a)
-    → Related LineShows links m.lines → Related SessionShows hearings m.fed → Takes m (names (drop_pmu key)) o (with_parts g (remove_entry (nat_eq key.source) links) hearings)
+    → Related SourceLinkShows links m.lines → Related SessionShows hearings m.fed → Takes m (names (drop_pmu key)) o (with_parts g (remove_entry (nat_eq key.source) links) hearings)
 line_dropped m key a o g links hearings none is may shows lines sessions =
     named_taken m (drop_pmu key) a o g (remove_entry (nat_eq key.source) links) hearings is may shows
-    (subst (λ b. Related LineShows (remove_entry (nat_eq key.source) links) (if b then m.lines else remove_entry (nat_eq key.source) m.lines)) (sym none)
-    (Related-remove_entry LineShows (nat_eq key.source) links m.lines lines)) sessions
+    (subst (λ b. Related SourceLinkShows (remove_entry (nat_eq key.source) links) (if b then m.lines else remove_entry (nat_eq key.source) m.lines)) (sym none)
+    (Related-remove_entry SourceLinkShows (nat_eq key.source) links m.lines lines)) sessions
 
-pub line_kept : (m : Moment) (key : PmuKey) (a : Answer) (o : Outcome) (g : GatewayValue) (links : List (ℕ × Line)) (hearings : List (ℕ × Hearing))
+pub line_kept : (m : Moment) (key : PmuKey) (a : Answer) (o : Outcome) (g : GatewayValue) (links : List (ℕ × SourceLink)) (hearings : List (ℕ × Hearing))
     → has_source (next m.shared (drop_pmu key) a) key.source ≡ true
     → o ≡ record { notes = replied a ∷ []; to_pmu = [] } → May m.shared (drop_pmu key) a → GatewayShows g (next m.shared (drop_pmu key) a)
-    → Related LineShows links m.lines → Related SessionShows hearings m.fed → Takes m (names (drop_pmu key)) o (with_parts g links hearings)
+    → Related SourceLinkShows links m.lines → Related SessionShows hearings m.fed → Takes m (names (drop_pmu key)) o (with_parts g links hearings)
 line_kept m key a o g links hearings there is may shows lines sessions =
     named_taken m (drop_pmu key) a o g links hearings is may shows
-    (subst (λ b. Related LineShows links (if b then m.lines else remove_entry (nat_eq key.source) m.lines)) (sym there) lines) sessions
+    (subst (λ b. Related SourceLinkShows links (if b then m.lines else remove_entry (nat_eq key.source) m.lines)) (sym there) lines) sessions
 
 on_ok : {A B P : Type 0} (r : Result A B) → IsOk r → OnOk r P → P
 on_ok (Ok x) i h = h
@@ -246,43 +246,43 @@ entries_after r spare room ok h = on_ok r (ok (omega (arith, room))) h
 
 -- ---- subscribers
 
-connect_by : (o : Option Seat) → is_some o ≡ false → own_refusal o connect ≡ Some NoSuchSub
+connect_by : (o : Option SubscriberSlot) → is_some o ≡ false → own_refusal o connect ≡ Some NoSuchSub
 connect_by None h = refl
 connect_by (Some s) h = absurd (cc)
 
-busy_by : (o : Option Seat) → option_map_or (λ p. p.connected) (option_map (λ s. s.own) o) false ≡ true → own_refusal o connect ≡ Some Busy
+busy_by : (o : Option SubscriberSlot) → option_map_or (λ p. p.connected) (option_map (λ s. s.own) o) false ≡ true → own_refusal o connect ≡ Some Busy
 busy_by None h = absurd (cc)
 busy_by (Some s) h = rw h refl
 
-free_by : (o : Option Seat) → is_some o ≡ true → option_map_or (λ p. p.connected) (option_map (λ s. s.own) o) false ≡ false → own_refusal o connect ≡ None
+free_by : (o : Option SubscriberSlot) → is_some o ≡ true → option_map_or (λ p. p.connected) (option_map (λ s. s.own) o) false ≡ false → own_refusal o connect ≡ None
 free_by None i h = absurd (cc)
 free_by (Some s) i h = rw h refl
 
-pub may_connect : (m : Moment) (u : ℕ) → is_some (seat_of u m.shared.subs) ≡ true → option_map_or (λ p. p.connected) (own_of u m.shared) false ≡ false
+pub may_connect : (m : Moment) (u : ℕ) → is_some (slot_of u m.shared.subs) ≡ true → option_map_or (λ p. p.connected) (own_of u m.shared) false ≡ false
     → refusal m.shared (asks u connect) ≡ None
-may_connect m u there free = free_by (seat_of u m.shared.subs) there free
+may_connect m u there free = free_by (slot_of u m.shared.subs) there free
 
-pub not_connected : (m : Moment) (u : ℕ) (a : Answer) (o : Outcome) (g : GatewayValue) (links : List (ℕ × Line)) (hearings : List (ℕ × Hearing))
+pub not_connected : (m : Moment) (u : ℕ) (a : Answer) (o : Outcome) (g : GatewayValue) (links : List (ℕ × SourceLink)) (hearings : List (ℕ × Hearing))
     → is_done a ≡ false → o ≡ record { notes = replied a ∷ []; to_pmu = [] } → May m.shared (asks u connect) a → GatewayShows g (next m.shared (asks u connect) a)
-    → Related LineShows links m.lines → Related SessionShows hearings m.fed → Takes m (names (asks u connect)) o (with_parts g links hearings)
+    → Related SourceLinkShows links m.lines → Related SessionShows hearings m.fed → Takes m (names (asks u connect)) o (with_parts g links hearings)
 not_connected m u a o g links hearings done is may shows lines sessions =
     named_taken m (asks u connect) a o g links hearings is may shows lines (rw done sessions)
 
-pub absent_connects : (m : Moment) (u : ℕ) (a : Answer) → is_some (seat_of u m.shared.subs) ≡ false → May m.shared (asks u connect) a → is_done a ≡ false
-absent_connects m u a absent may = may_refused m.shared (asks u connect) a NoSuchSub may (connect_by (seat_of u m.shared.subs) absent)
+pub absent_connects : (m : Moment) (u : ℕ) (a : Answer) → is_some (slot_of u m.shared.subs) ≡ false → May m.shared (asks u connect) a → is_done a ≡ false
+absent_connects m u a absent may = may_refused m.shared (asks u connect) a NoSuchSub may (connect_by (slot_of u m.shared.subs) absent)
 
 pub busy_connects : (m : Moment) (u : ℕ) (a : Answer) → option_map_or (λ p. p.connected) (own_of u m.shared) false ≡ true → May m.shared (asks u connect) a → is_done a ≡ false
-busy_connects m u a busy may = may_refused m.shared (asks u connect) a Busy may (busy_by (seat_of u m.shared.subs) busy)
+busy_connects m u a busy may = may_refused m.shared (asks u connect) a Busy may (busy_by (slot_of u m.shared.subs) busy)
 
-pub session_added : (m : Moment) (u : ℕ) (a : Answer) (o : Outcome) (g : GatewayValue) (links : List (ℕ × Line)) (hearings : List (ℕ × Hearing)) (v : Hearing)
+pub session_added : (m : Moment) (u : ℕ) (a : Answer) (o : Outcome) (g : GatewayValue) (links : List (ℕ × SourceLink)) (hearings : List (ℕ × Hearing)) (v : Hearing)
     → is_done a ≡ true → SessionShows v [] → o ≡ record { notes = replied a ∷ []; to_pmu = [] } → May m.shared (asks u connect) a → GatewayShows g (next m.shared (asks u connect) a)
-    → Related LineShows links m.lines → Related SessionShows hearings m.fed → Takes m (names (asks u connect)) o (with_parts g links (insert_entry nat_eq hearings u v))
+    → Related SourceLinkShows links m.lines → Related SessionShows hearings m.fed → Takes m (names (asks u connect)) o (with_parts g links (insert_entry nat_eq hearings u v))
 session_added m u a o g links hearings v done new is may shows lines sessions =
     named_taken m (asks u connect) a o g links (insert_entry nat_eq hearings u v) is may shows lines
     (rw done (Related-insert SessionShows u v [] new hearings m.fed sessions))
 
-pub heard_none : (m : Moment) (u : ℕ) (bytes : List ℕ) (o : Outcome) (g : GatewayValue) (links : List (ℕ × Line)) (hearings : List (ℕ × Hearing)) (r : Refusal)
-    → lookup (nat_eq u) m.fed ≡ None → r ≡ absence (is_some (seat_of u m.shared.subs))
+pub heard_none : (m : Moment) (u : ℕ) (bytes : List ℕ) (o : Outcome) (g : GatewayValue) (links : List (ℕ × SourceLink)) (hearings : List (ℕ × Hearing)) (r : Refusal)
+    → lookup (nat_eq u) m.fed ≡ None → r ≡ absence (is_some (slot_of u m.shared.subs))
     → o ≡ record { notes = replied (tells (private.refused r)) ∷ []; to_pmu = [] }
     → MomentShows (with_parts g links hearings) m → Takes m (sub_bytes u bytes) o (with_parts g links hearings)
 heard_none m u bytes o g links hearings r none why is shows = record {
@@ -307,11 +307,11 @@ grows u stream piece more broken whole all end =
     sym (ap₂ (λ xs ys. drop (length xs) ys) before after
     ∙ drop-append_seam (map (item_due u) (items_of stream)) (map (item_due u) more ++ hang_up u broken))
 
-pub heard_whole : (m : Moment) (u : ℕ) (bytes stream : List ℕ) (o : Outcome) (g h : GatewayValue) (links : List (ℕ × Line)) (hearings : List (ℕ × Hearing)) (v : Hearing)
+pub heard_whole : (m : Moment) (u : ℕ) (bytes stream : List ℕ) (o : Outcome) (g h : GatewayValue) (links : List (ℕ × SourceLink)) (hearings : List (ℕ × Hearing)) (v : Hearing)
     → lookup (nat_eq u) m.fed ≡ Some stream → break_in stream ≡ None → HearsAll m.shared u (stream ++ bytes) (items_of stream) None [] o.notes h v → o.to_pmu ≡ []
     → MomentShows (with_parts g links hearings) m → Takes m (sub_bytes u bytes) o (with_parts h links (set_value (nat_eq u) hearings v))
 heard_whole m u bytes stream o g h links hearings v found whole hears none shows =
-    let one : SessionShows v (stream ++ bytes) = record { shows = subst (session.Shows v (stream ++ bytes)) hears.all hears.shows; whole = hears.end } in
+    let one : SessionShows v (stream ++ bytes) = record { shows = subst (session.ShowsHearing v (stream ++ bytes)) hears.all hears.shows; whole = hears.end } in
     record {
       turn = record { input = sub_bytes u bytes; deeds = hears.did.deeds; told = [] };
       is = refl;
@@ -336,9 +336,9 @@ remove_set {V} test v (x ∷ xs) = by (test x.0) refl (remove_set test v xs)
     by true e rest = rw e (rw e refl)
     by false e rest = rw e (rw e (ap (λ r. x ∷ r) rest))
 
-pub heard_break : (m : Moment) (u : ℕ) (bytes stream : List ℕ) (r : Refusal) (o : Outcome) (g h i : GatewayValue) (links : List (ℕ × Line)) (hearings : List (ℕ × Hearing)) (v : Hearing) (mid closed_notes : List Noted)
+pub heard_break : (m : Moment) (u : ℕ) (bytes stream : List ℕ) (r : Refusal) (o : Outcome) (g h i : GatewayValue) (links : List (ℕ × SourceLink)) (hearings : List (ℕ × Hearing)) (v : Hearing) (mid closed_notes : List Noted)
     → lookup (nat_eq u) m.fed ≡ Some stream → break_in stream ≡ None → HearsAll m.shared u (stream ++ bytes) (items_of stream) (Some r) [] mid h v
-    → closed_notes ≡ mid ++ closed r ∷ [] → ((S : Shared) → GatewayShows h S → Did S (posts (asks u hangup) ∷ []) closed_notes o.notes i) → o.to_pmu ≡ []
+    → closed_notes ≡ mid ++ closed r ∷ [] → ((S : SharedMachine) → GatewayShows h S → Did S (posts (asks u hangup) ∷ []) closed_notes o.notes i) → o.to_pmu ≡ []
     → MomentShows (with_parts g links hearings) m → Takes m (sub_bytes u bytes) o (with_parts i links (remove_entry (nat_eq u) (set_value (nat_eq u) hearings v)))
 heard_break m u bytes stream r o g h i links hearings v mid closed_notes found whole hears noted goes none shows =
     let S = state_after m.shared (pairs_of hears.did.deeds) in

@@ -3,12 +3,12 @@ use Rattle.std.specs.Prelude.{◌≡◌, ℕ, List, [], ◌∷◌, None}
 use Rattle.std.specs.List.{flat_map}
 use Rattle.pg_data.specs.Measurements.{Measurement}
 use Rattle.pg_gateway.specs.Occurrences.{Occurrence, measure}
-use Rattle.pg_gateway.specs.Shared.{Shared, opening as shared_opening, refusal}
+use Rattle.pg_gateway.specs.State.{SharedMachine, opening as shared_opening, refusal}
 use Rattle.pg_gateway.specs.Views.{part, shared_run}
 use Rattle.pg_gateway.specs.Laws.{AgreeOn}
 use Rattle.pg_serve.specs.Inputs.{Fact, Outcome}
 use Rattle.pg_serve.specs.Shown.{WorldValue, queue_shown}
-use Rattle.pg_serve.specs.Full.{events_made, view_of, handed_over, AllLossless, HasAnswered}
+use Rattle.pg_serve.specs.Full.{events_made, view_of, handed_over, OutcomesLossless, HasAnswered}
 
 -- events of two worlds, side by side
 pub data Beside : Type 0 where
@@ -41,14 +41,14 @@ other_of pairs = flat_map other_by pairs
 
 -- What u is to see of both agrees: data frames that both worlds take agree on the blocks that u is granted of them, and may
 -- differ otherwise in any way; other events agree on u's part, and an event of one world alone gives u none.
-abbrev pub AgreeAt : ℕ → Shared → Shared → Beside → Type 0
+abbrev pub AgreeAt : ℕ → SharedMachine → SharedMachine → Beside → Type 0
 AgreeAt u S T (frames m n) = (refusal S (measure m) ≡ None) × (refusal T (measure n) ≡ None) × AgreeOn u S m T n
 AgreeAt u S T (events e f) = part u S e ≡ part u T f
 AgreeAt u S T (mine e) = part u S e ≡ []
 AgreeAt u S T (other f) = part u T f ≡ []
 
 -- So they do one after another, from these states.
-abbrev pub Agree : ℕ → Shared → Shared → List Beside → Type 0
+abbrev pub Agree : ℕ → SharedMachine → SharedMachine → List Beside → Type 0
 Agree u S T [] = Unit {0}
 Agree u S T (x ∷ pairs) = AgreeAt u S T x × Agree u (shared_run S (mine_by x)) (shared_run T (other_by x)) pairs
 
@@ -68,7 +68,7 @@ pub record ServesAlike (u : ℕ) (w : WorldValue) (inputs : List Fact) (told : L
 -- Beside any other world that has answered without a loss and without want of memory: a subscriber whose view of both is
 -- the same is served alike; and so is one that sees both alike but for blocks of shared frames that it is not granted.
 pub record StandsBeside (w : WorldValue) (inputs : List Fact) (told : List Outcome) : Type 0 where
-  pub views : (u : ℕ) (v : WorldValue) (others : List Fact) (answers : List Outcome) → HasAnswered v others answers → AllLossless answers
+  pub views : (u : ℕ) (v : WorldValue) (others : List Fact) (answers : List Outcome) → HasAnswered v others answers → OutcomesLossless answers
       → view_of u inputs ≡ view_of u others → ServesAlike u w inputs told v others answers
-  pub frames : (u : ℕ) (v : WorldValue) (others : List Fact) (answers : List Outcome) → HasAnswered v others answers → AllLossless answers
+  pub frames : (u : ℕ) (v : WorldValue) (others : List Fact) (answers : List Outcome) → HasAnswered v others answers → OutcomesLossless answers
       → SeeAlike u inputs others → ServesAlike u w inputs told v others answers

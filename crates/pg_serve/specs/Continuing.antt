@@ -4,7 +4,7 @@ use Rattle.std.proofs.lemmas.List.{append-nil, map-append}
 use Rattle.pg_turn.specs.Known.{Known}
 use Rattle.pg_gateway.specs.declared.event.Event.{Event}
 use Rattle.pg_gateway.specs.declared.event.Reply.{Reply}
-use Rattle.pg_gateway.specs.Shared.{opening}
+use Rattle.pg_gateway.specs.State.{opening}
 use Rattle.pg_gateway.specs.Histories.{said, Legal}
 use Rattle.pg_serve.specs.Sharing.{Call, AreAnswered, history_of}
 use Rattle.pg_serve.specs.Gates.{said_at}

@@ -4,18 +4,18 @@ use Rattle.std.specs.List.{flat_map}
 use Rattle.std.specs.Io.KnownBytes.{Appends, Consumes}
 use Rattle.pg_turn.specs.Known.{Known}
 use Rattle.pg_command.specs.declared.command.Command.{Command}
-use Rattle.pg_session.specs.Events.{drain, command}
-use Rattle.pg_session.specs.Commands.{Hearing, Item, items_of, Shows}
+use Rattle.pg_session.specs.Events.{connect, hangup, command, drain}
+use Rattle.pg_session.specs.Commands.{Hearing, Item, items_of, ShowsHearing}
 use Rattle.pg_gateway.specs.declared.event.Event.{Event}
 use Rattle.pg_gateway.specs.declared.event.Reply.{Reply}
 use Rattle.pg_gateway.specs.Occurrences.{Occurrence, asks}
-use Rattle.pg_gateway.specs.Shared.{opening}
+use Rattle.pg_gateway.specs.State.{opening}
 use Rattle.pg_gateway.specs.Posting.{Posted}
 use Rattle.pg_gateway.specs.Laws.{after, events_of, answers_of}
 use Rattle.pg_gateway.specs.Views.{Handed, private_run, view, handed_in, AllLossless}
 use Rattle.pg_serve.specs.Sharing.{Call, history_of}
 use Rattle.pg_serve.specs.Serving.{command_in}
-use Rattle.pg_serve.specs.Onward.{Piece, calls_in, places_in}
+use Rattle.pg_serve.specs.Onward.{Piece, calls_in, own_in, places_in}
 
 -- the bytes of all that was handed out
 abbrev pub bytes_of : List Handed → List ℕ
@@ -73,11 +73,25 @@ AreCommands u (post ∷ posts) [] = IsNoCommand u post × AreCommands u posts []
 AreCommands u (post ∷ posts) (c ∷ cs) =
     ((post.0 ≡ asks u (command c.stream c.word)) × AreCommands u posts cs) ⊎ (IsNoCommand u post × AreCommands u posts (c ∷ cs))
 
--- While the seat went on, the subscriber's part of the history had just these commands, where none but this seat gave it any.
+-- besides commands: that the subscriber connects, is drained, or hangs up
+abbrev pub IsBesides : ℕ → Posted → Type 0
+IsBesides u post = (post.0 ≡ asks u connect) ⊎ ((size : ℕ) × (post.0 ≡ asks u (drain size))) ⊎ (post.0 ≡ asks u hangup)
+
+-- These posts are just these commands of u, in order, and besides them nothing but that u connects, is drained and hangs up.
+abbrev pub ArePassed : ℕ → List Posted → List Command → Type 0
+ArePassed u [] [] = Unit {0}
+ArePassed u [] (c ∷ cs) = ⊥
+ArePassed u (post ∷ posts) [] = IsBesides u post × ArePassed u posts []
+ArePassed u (post ∷ posts) (c ∷ cs) =
+    ((post.0 ≡ asks u (command c.stream c.word)) × ArePassed u posts cs) ⊎ (IsBesides u post × ArePassed u posts (c ∷ cs))
+
+-- While the seat went on, its own places in the history were just these commands, besides that the subscriber connects, is
+-- drained and hangs up. So the subscriber's part of the history had just these commands, where none but this seat gave it any.
 pub record Obeys (u : ℕ) (v v' : Known Event Reply) (commands : List Command) : Type 0 where
   pub since : List Piece
   pub seen : v'.seen ≡ v.seen ++ calls_in since
   pub own : v'.own ≡ v.own ++ places_in (length v.seen) since
+  pub passed : ArePassed u (own_in since) commands
   pub given : OwnCommands u since → AreCommands u (history_of (calls_in since)) commands
 
 -- A session that had been fed this stream and had given these items is fed the bytes that are read, and posts the commands of
@@ -85,7 +99,17 @@ pub record Obeys (u : ℕ) (v v' : Known Event Reply) (commands : List Command) 
 pub record Hears (stream : List ℕ) (given : List Item) (v v' : Hearing) (s s' : Known Event Reply) (r r' : Option (List ℕ)) : Type 0 where
   pub bytes : List ℕ
   pub items : List Item
+  pub sub : v'.sub ≡ v.sub
   pub read : Consumes r r' bytes
-  pub shows : Shows v' (stream ++ bytes) (given ++ items)
+  pub shows : ShowsHearing v' (stream ++ bytes) (given ++ items)
   pub all : given ++ items ≡ items_of (stream ++ bytes)
   pub obeys : Obeys v.sub s s' (flat_map command_in items)
+
+-- All that a session heard since it was new, in however many calls: it was fed the bytes that were read, and the commands of all
+-- their frames were posted, each once and in order.
+pub record HasHeard (u : ℕ) (v : Hearing) (s s' : Known Event Reply) (r r' : Option (List ℕ)) : Type 0 where
+  pub sub : v.sub ≡ u
+  pub bytes : List ℕ
+  pub read : Consumes r r' bytes
+  pub shows : ShowsHearing v bytes (items_of bytes)
+  pub obeys : Obeys u s s' (flat_map command_in (items_of bytes))

@@ -7,14 +7,14 @@ use Rattle.pg_ingest.specs.Items as link
 use Rattle.pg_ingest.specs.Linking.{Linking}
 use Rattle.pg_ingest.specs.Shown as ingest
 use Rattle.pg_ingest.specs.Shown.{LinkPast, IsAllTold}
-use Rattle.pg_gateway.specs.Shared.{Shared}
+use Rattle.pg_gateway.specs.State.{SharedMachine}
 use Rattle.pg_gateway.specs.Histories.{Legal, state_after}
 use Rattle.pg_gateway.specs.Shown.{GatewayValue, GatewayShows}
 use Rattle.pg_serve.specs.Inputs.{Noted}
 use Rattle.pg_serve.specs.Dues.{Due, Deed, due_of, notes_of, pairs_of, item_due, told_due, link_due, words_due, frames_of, gave, telling_so}
 
 -- From this state, what was due was done, and noted.
-pub record Did (S : Shared) (dues : List Due) (before after : List Noted) (g : GatewayValue) : Type 0 where
+pub record Did (S : SharedMachine) (dues : List Due) (before after : List Noted) (g : GatewayValue) : Type 0 where
   pub deeds : List Deed
   pub are : map due_of deeds ≡ dues
   pub legal : Legal S (pairs_of deeds)
@@ -22,44 +22,44 @@ pub record Did (S : Shared) (dues : List Due) (before after : List Noted) (g : G
   pub notes : after ≡ before ++ notes_of deeds
 
 -- Of a source's bytes some items more were told, and what they make was done.
-pub record Tells (S : Shared) (past : LinkPast) (before after : List Noted) (g : GatewayValue) (v : Linking) : Type 0 where
+pub record Tells (S : SharedMachine) (past : LinkPast) (before after : List Noted) (g : GatewayValue) (v : Linking) : Type 0 where
   pub items : List link.Item
-  pub shows : ingest.Shows v (telling_so past items)
+  pub shows : ingest.ShowsLink v (telling_so past items)
   pub did : Did S (map told_due items) before after g
 
 -- All of them were told, and behind them the bytes broke or not.
-pub record TellsAll (S : Shared) (past : LinkPast) (broken : Option Refusal)
+pub record TellsAll (S : SharedMachine) (past : LinkPast) (broken : Option Refusal)
     (before after : List Noted) (g : GatewayValue) (v : Linking) : Type 0 where
   pub items : List link.Item
   pub all : IsAllTold (telling_so past items)
   pub end : link.break_in past.stream ≡ broken
-  pub shows : ingest.Shows v (telling_so past items)
+  pub shows : ingest.ShowsLink v (telling_so past items)
   pub did : Did S (map told_due items) before after g
 
 -- All of them were told, and a break was noted.
-pub record TakesPiece (S : Shared) (past : LinkPast) (before after : List Noted) (g : GatewayValue) (v : Linking) : Type 0 where
+pub record TakesPiece (S : SharedMachine) (past : LinkPast) (before after : List Noted) (g : GatewayValue) (v : Linking) : Type 0 where
   pub items : List link.Item
   pub all : IsAllTold (telling_so past items)
-  pub shows : ingest.Shows v (telling_so past items)
+  pub shows : ingest.ShowsLink v (telling_so past items)
   pub did : Did S (link_due items (link.break_in past.stream)) before after g
 
 -- All commands that the source was owed were given.
 pub record GivesAll (past : LinkPast) (sent : List ℕ) (v : Linking) : Type 0 where
   pub frames : sent ≡ frames_of past.source (words_due past)
-  pub shows : ingest.Shows v (gave past (words_due past))
+  pub shows : ingest.ShowsLink v (gave past (words_due past))
 
 -- Of a subscriber's bytes some items more were given, and what they make was done.
-pub record Hears (S : Shared) (u : ℕ) (stream : List ℕ) (given : List session.Item)
+pub record Hears (S : SharedMachine) (u : ℕ) (stream : List ℕ) (given : List session.Item)
     (before after : List Noted) (g : GatewayValue) (v : Hearing) : Type 0 where
   pub more : List session.Item
-  pub shows : session.Shows v stream (given ++ more)
+  pub shows : session.ShowsHearing v stream (given ++ more)
   pub did : Did S (map (item_due u) more) before after g
 
 -- All of them were given, and behind them the bytes broke or not.
-pub record HearsAll (S : Shared) (u : ℕ) (stream : List ℕ) (given : List session.Item) (broken : Option Refusal)
+pub record HearsAll (S : SharedMachine) (u : ℕ) (stream : List ℕ) (given : List session.Item) (broken : Option Refusal)
     (before after : List Noted) (g : GatewayValue) (v : Hearing) : Type 0 where
   pub more : List session.Item
   pub all : given ++ more ≡ items_of stream
   pub end : session.break_in stream ≡ broken
-  pub shows : session.Shows v stream (given ++ more)
+  pub shows : session.ShowsHearing v stream (given ++ more)
   pub did : Did S (map (item_due u) more) before after g

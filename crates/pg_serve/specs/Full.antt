@@ -15,35 +15,35 @@ use Rattle.pg_ingest.specs.Items as link
 use Rattle.pg_ingest.specs.Items.{told_of, break_in}
 use Rattle.pg_ingest.specs.Linking.{stats_of as link_stats}
 use Rattle.pg_gateway.specs.Occurrences.{Occurrence, add_pmu, drop_pmu, add_sub, drop_sub, grant, asks, announce, measure, tick, stats, pmu_stats, audit, standing, Answer}
-use Rattle.pg_gateway.specs.Shared.{Shared, opening as shared_opening, seat_of, own_of, refusal}
+use Rattle.pg_gateway.specs.State.{SharedMachine, opening as shared_opening, slot_of, own_of, refusal}
 use Rattle.pg_gateway.specs.Views.{Seen, full_answer, shared_step, view, private_run, Handed, handed_out, handed_in, Lossless}
 use Rattle.pg_gateway.specs.Laws.{after, events_of, answers_of, AgreeOn}
-use Rattle.pg_gateway.specs.Shown.{SeatValue}
+use Rattle.pg_gateway.specs.Shown.{SlotValue}
 use Rattle.pg_serve.specs.Inputs.{Fact, link_up, pmu_bytes, sub_bytes, names, Noted, replied, ignored, closed, Outcome}
 use Rattle.pg_serve.specs.Dues.{Due, posts, ignores_frame, closes, refuses, Deed, answered, ignored_frame, closed_at, refused, pairs_of, link_due}
-use Rattle.pg_serve.specs.Moments.{LinePast, Moment, opening, Turn, Turns, after_turn, after_turns, all_outcomes, inputs_of, history_of, has_source, heard_due, up_due}
+use Rattle.pg_serve.specs.Moments.{SourceLinkPast, Moment, opening, Turn, Turns, after_turn, after_turns, all_outcomes, inputs_of, history_of, has_source, heard_due, up_due}
 use Rattle.pg_serve.specs.Shown.{WorldValue, queue_shown, link_counted, session_counted, ShowsTurns}
 
 -- ---- the turn that an input is
 
-abbrev pub full_deed : Shared → Due → Deed
+abbrev pub full_deed : SharedMachine → Due → Deed
 full_deed S (posts e) = answered e (full_answer S e)
 full_deed S (ignores_frame r) = ignored_frame r
 full_deed S (closes r) = closed_at r
 full_deed S (refuses r) = refused r
 
-abbrev pub after_due : Shared → Due → Shared
+abbrev pub after_due : SharedMachine → Due → SharedMachine
 after_due S (posts e) = shared_step S e
 after_due S (ignores_frame r) = S
 after_due S (closes r) = S
 after_due S (refuses r) = S
 
-abbrev pub full_deeds : Shared → List Due → List Deed
+abbrev pub full_deeds : SharedMachine → List Due → List Deed
 full_deeds S [] = []
 full_deeds S (d ∷ ds) = full_deed S d ∷ full_deeds (after_due S d) ds
 
 -- what is told of a source's bytes more by a piece
-abbrev pub told_more : List ℕ → Option LinePast → List link.Item
+abbrev pub told_more : List ℕ → Option SourceLinkPast → List link.Item
 told_more piece None = []
 told_more piece (Some line) =
     drop (length (told_of line.link.source line.link.stream)) (told_of line.link.source (line.link.stream ++ piece))
@@ -54,7 +54,7 @@ full_told m (pmu_bytes s piece) = told_more piece (lookup (nat_eq s) m.lines)
 full_told m (sub_bytes u piece) = []
 full_told m (names e) = []
 
-abbrev pub told_dues : List ℕ → Option LinePast → List Due
+abbrev pub told_dues : List ℕ → Option SourceLinkPast → List Due
 told_dues piece None = up_due None
 told_dues piece (Some line) = link_due (told_more piece (Some line)) (break_in (line.link.stream ++ piece))
 
@@ -62,7 +62,7 @@ told_dues piece (Some line) = link_due (told_more piece (Some line)) (break_in (
 abbrev pub dues_of : Moment → Fact → List Due
 dues_of m (link_up s) = up_due (lookup (nat_eq s) m.lines)
 dues_of m (pmu_bytes s piece) = told_dues piece (lookup (nat_eq s) m.lines)
-dues_of m (sub_bytes u piece) = heard_due u piece (is_some (seat_of u m.shared.subs)) (lookup (nat_eq u) m.fed)
+dues_of m (sub_bytes u piece) = heard_due u piece (is_some (slot_of u m.shared.subs)) (lookup (nat_eq u) m.fed)
 dues_of m (names e) = posts e ∷ []
 
 abbrev pub full_turn : Moment → Fact → Turn
@@ -151,9 +151,9 @@ NotesLossless (replied a ∷ notes) = Lossless a × NotesLossless notes
 NotesLossless (ignored r ∷ notes) = (r ≢ NoMemory) × NotesLossless notes
 NotesLossless (closed r ∷ notes) = NotesLossless notes
 
-abbrev pub AllLossless : List Outcome → Type 0
-AllLossless [] = Unit {0}
-AllLossless (o ∷ outcomes) = NotesLossless o.notes × AllLossless outcomes
+abbrev pub OutcomesLossless : List Outcome → Type 0
+OutcomesLossless [] = Unit {0}
+OutcomesLossless (o ∷ outcomes) = NotesLossless o.notes × OutcomesLossless outcomes
 
 -- The world may have taken these inputs since it was new, in one call or several, and answered so.
 pub record HasAnswered (w : WorldValue) (inputs : List Fact) (told : List Outcome) : Type 0 where
@@ -163,9 +163,9 @@ pub record HasAnswered (w : WorldValue) (inputs : List Fact) (told : List Outcom
   pub shows : ShowsTurns w turns
 
 -- a subscriber, or none, is what a private gateway is, or none
-abbrev pub OwnShows : Option SeatValue → Option Model → Type 0
+abbrev pub OwnShows : Option SlotValue → Option Model → Type 0
 OwnShows None None = Unit {0}
-OwnShows (Some v) (Some p) = session.Shows v.subscriber p
+OwnShows (Some v) (Some p) = session.ShowsPrivate v.subscriber p
 OwnShows None (Some p) = ⊥
 OwnShows (Some v) None = ⊥
 

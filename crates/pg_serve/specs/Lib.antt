@@ -14,6 +14,7 @@ pub mod Onward
 pub mod Serving
 pub mod Delivery
 pub mod Telling
+pub mod Both
 -- only private contracts and proofs use these
 pub mod Feeding
 pub mod Taking

@@ -16,21 +16,21 @@ use Rattle.pg_ingest.specs.Items as link
 use Rattle.pg_ingest.specs.Items.{break_in as link_break}
 use Rattle.pg_ingest.specs.Shown.{LinkPast, beginning, feeding, renewed, IsAllTold}
 use Rattle.pg_gateway.specs.Occurrences.{Occurrence, add_pmu, drop_pmu, add_sub, drop_sub, grant, asks, announce, measure, tick, stats, pmu_stats, audit, standing, Answer, tells, sub_counts, pmu_counts, entry, stands}
-use Rattle.pg_gateway.specs.Shared.{Shared, opening as shared_opening, seat_of, refusal}
+use Rattle.pg_gateway.specs.State.{SharedMachine, opening as shared_opening, slot_of, refusal}
 use Rattle.pg_gateway.specs.Histories.{Legal, state_after}
 use Rattle.pg_serve.specs.Inputs.{Fact, link_up, pmu_bytes, sub_bytes, names, Outcome}
 use Rattle.pg_serve.specs.Dues.{Due, posts, refuses, Deed, due_of, notes_of, pairs_of, session_grows, link_due, words_due, frames_of, gave, telling_so}
 
 -- A source's line: what happened to its link, and whether its connection was ever up since the link was made.
-pub record LinePast : Type 0 where
+pub record SourceLinkPast : Type 0 where
   pub link : LinkPast
   pub is_up : Bool
 
 -- The shared machine, a line for each source that has a registered PMU, and the bytes of each connected subscriber since its
 -- Connect.
 pub record Moment : Type 0 where
-  pub shared : Shared
-  pub lines : List (ℕ × LinePast)
+  pub shared : SharedMachine
+  pub lines : List (ℕ × SourceLinkPast)
   pub fed : List (ℕ × List ℕ)
 
 abbrev pub opening : Moment
@@ -60,12 +60,12 @@ abbrev pub telling : LinkPast → List ℕ → List link.Item → LinkPast
 telling past piece items = telling_so (feeding past piece) items
 
 -- These items are told of a source's bytes, and this is what they make.
-abbrev pub ToldOf : List ℕ → Option LinePast → List link.Item → List Due → Type 0
+abbrev pub ToldOf : List ℕ → Option SourceLinkPast → List link.Item → List Due → Type 0
 ToldOf piece None items dues = (items ≡ []) × (dues ≡ refuses NoSuchPmu ∷ [])
 ToldOf piece (Some line) items dues =
     IsAllTold (telling line.link piece items) × (dues ≡ link_due items (link_break (line.link.stream ++ piece)))
 
-abbrev pub up_due : Option LinePast → List Due
+abbrev pub up_due : Option SourceLinkPast → List Due
 up_due None = refuses NoSuchPmu ∷ []
 up_due (Some line) = []
 
@@ -96,7 +96,7 @@ begins (audit u index) = false
 begins (standing u place) = false
 
 -- The event of the input's name is posted; or there is no memory for its link or session, and it would not be refused.
-abbrev pub Posts : Shared → Occurrence → List Due → Type 0
+abbrev pub Posts : SharedMachine → Occurrence → List Due → Type 0
 Posts S e dues =
     (dues ≡ posts e ∷ []) ⊎ ((dues ≡ refuses NoMemory ∷ []) × (begins e ≡ true) × (refusal S e ≡ None))
 
@@ -105,7 +105,7 @@ abbrev pub Makes : Moment → Fact → List link.Item → List Due → Type 0
 Makes m (link_up s) items dues = (items ≡ []) × (dues ≡ up_due (lookup (nat_eq s) m.lines))
 Makes m (pmu_bytes s piece) items dues = ToldOf piece (lookup (nat_eq s) m.lines) items dues
 Makes m (sub_bytes u piece) items dues =
-    (items ≡ []) × (dues ≡ heard_due u piece (is_some (seat_of u m.shared.subs)) (lookup (nat_eq u) m.fed))
+    (items ≡ []) × (dues ≡ heard_due u piece (is_some (slot_of u m.shared.subs)) (lookup (nat_eq u) m.fed))
 Makes m (names e) items dues = (items ≡ []) × Posts m.shared e dues
 
 -- The turn may come here: its deeds are what its input makes, each event with an answer that may come there.
@@ -128,17 +128,17 @@ is_done (entry found) = false
 is_done (stands s) = false
 
 -- a PMU of this source is registered
-abbrev pub has_source : Shared → ℕ → Bool
+abbrev pub has_source : SharedMachine → ℕ → Bool
 has_source S s = registered.has_source S.pmus s
 
-abbrev pub new_line : ℕ → LinePast
-new_line s = record { link = beginning s; is_up = false }
+abbrev pub new_source_link : ℕ → SourceLinkPast
+new_source_link s = record { link = beginning s; is_up = false }
 
 -- A link is made with a source's first key, and dropped with its last: by the states before and after an event.
-abbrev pub lines_by : List (ℕ × LinePast) → Shared → Shared → Occurrence → Bool → List (ℕ × LinePast)
+abbrev pub lines_by : List (ℕ × SourceLinkPast) → SharedMachine → SharedMachine → Occurrence → Bool → List (ℕ × SourceLinkPast)
 lines_by lines S T (add_pmu key) done =
     if done
-    then (if has_source S key.source then lines else insert_entry nat_eq lines key.source (new_line key.source))
+    then (if has_source S key.source then lines else insert_entry nat_eq lines key.source (new_source_link key.source))
     else lines
 lines_by lines S T (drop_pmu key) done = if has_source T key.source then lines else remove_entry (nat_eq key.source) lines
 lines_by lines S T (add_sub u size bytes) done = lines
@@ -183,34 +183,34 @@ fed_by fed (audit u index) done = fed
 fed_by fed (standing u place) done = fed
 
 -- a link whose connection was up gives all commands that are owed
-abbrev pub words_given : LinePast → List Word
+abbrev pub words_given : SourceLinkPast → List Word
 words_given line = if line.is_up then words_due line.link else []
 
-abbrev pub gives_all : LinePast → LinePast
+abbrev pub gives_all : SourceLinkPast → SourceLinkPast
 gives_all line = record line { link = gave line.link (words_given line) }
 
-abbrev pub gone_up : LinePast → LinePast
+abbrev pub gone_up : SourceLinkPast → SourceLinkPast
 gone_up line = record { link = renewed line.link; is_up = true }
 
-abbrev pub fed_line : LinePast → List ℕ → List link.Item → LinePast
+abbrev pub fed_line : SourceLinkPast → List ℕ → List link.Item → SourceLinkPast
 fed_line line piece items = record line { link = telling line.link piece items }
 
 -- a line after an input of its source, before its commands
-abbrev pub at_source : Fact → List link.Item → LinePast → LinePast
+abbrev pub at_source : Fact → List link.Item → SourceLinkPast → SourceLinkPast
 at_source (link_up s) items line = gone_up line
 at_source (pmu_bytes s piece) items line = fed_line line piece items
 at_source (sub_bytes u piece) items line = line
 at_source (names e) items line = line
 
-abbrev pub put_line : ℕ → List (ℕ × LinePast) → Option LinePast → List (ℕ × LinePast)
+abbrev pub put_line : ℕ → List (ℕ × SourceLinkPast) → Option SourceLinkPast → List (ℕ × SourceLinkPast)
 put_line s lines None = lines
 put_line s lines (Some line) = set_value (nat_eq s) lines line
 
-abbrev pub line_after : Fact → List link.Item → Option LinePast → Option LinePast
+abbrev pub line_after : Fact → List link.Item → Option SourceLinkPast → Option SourceLinkPast
 line_after f items None = None
 line_after f items (Some line) = Some (at_source f items line)
 
-abbrev pub all_given : Option LinePast → Option LinePast
+abbrev pub all_given : Option SourceLinkPast → Option SourceLinkPast
 all_given None = None
 all_given (Some line) = Some (gives_all line)
 
@@ -223,7 +223,7 @@ abbrev pub fed_more : ℕ → List ℕ → List (ℕ × List ℕ) → Option (Li
 fed_more u piece fed None = fed
 fed_more u piece fed (Some stream) = put_fed u (stream ++ piece) fed (session_break (stream ++ piece))
 
-abbrev pub lines_named : List (ℕ × LinePast) → Shared → Shared → List (Occurrence × Answer) → List (ℕ × LinePast)
+abbrev pub lines_named : List (ℕ × SourceLinkPast) → SharedMachine → SharedMachine → List (Occurrence × Answer) → List (ℕ × SourceLinkPast)
 lines_named lines S T [] = lines
 lines_named lines S T (x ∷ xs) = lines_by lines S T x.0 (is_done x.1)
 
@@ -232,7 +232,7 @@ fed_named fed [] = fed
 fed_named fed (x ∷ xs) = fed_by fed x.0 (is_done x.1)
 
 -- the lines and the bytes after an input, and the shared machine then
-abbrev pub lines_after : Moment → Turn → Shared → Fact → List (ℕ × LinePast)
+abbrev pub lines_after : Moment → Turn → SharedMachine → Fact → List (ℕ × SourceLinkPast)
 lines_after m t S (link_up s) = put_line s m.lines (all_given (line_after t.input t.told (lookup (nat_eq s) m.lines)))
 lines_after m t S (pmu_bytes s piece) = put_line s m.lines (all_given (line_after t.input t.told (lookup (nat_eq s) m.lines)))
 lines_after m t S (sub_bytes u piece) = m.lines
@@ -253,7 +253,7 @@ after_turn m t = record {
 
 -- ---- what is answered
 
-abbrev pub sent : Option LinePast → List ℕ
+abbrev pub sent : Option SourceLinkPast → List ℕ
 sent None = []
 sent (Some line) = frames_of line.link.source (words_given line)
 

@@ -9,7 +9,7 @@ use Rattle.pg_command.specs.declared.command.Command.{Command}
 use Rattle.pg_session.specs.Events as session
 use Rattle.pg_session.specs.Events.{Happening}
 use Rattle.pg_session.specs.Private.{Told, done, refused, handed}
-use Rattle.pg_session.specs.Commands.{Hearing, Item, commands, ignores, items_of, break_in, Shows}
+use Rattle.pg_session.specs.Commands.{Hearing, Item, commands, ignores, items_of, break_in, ShowsHearing}
 use Rattle.pg_gateway.specs.Occurrences.{asks, Answer, tells, sub_counts, pmu_counts, entry, stands}
 use Rattle.pg_gateway.specs.Posting.{Posted, Notes}
 use Rattle.pg_ingest.specs.declared.run.End.{End}
@@ -90,7 +90,7 @@ pub record RanFrom (stream : List ℕ) (given : List Item) (v v' : Hearing) (r r
   pub out : List ℕ
   pub sub : v'.sub ≡ v.sub
   pub buffer : v'.buffer ≡ v.buffer
-  pub shows : Shows v' (stream ++ bytes) (given ++ items)
+  pub shows : ShowsHearing v' (stream ++ bytes) (given ++ items)
   pub read : Consumes r r' bytes
   pub posted : Notes p p' (map (posted_by v) calls)
   pub passed : flat_map passed_by calls ≡ flat_map command_in items
@@ -101,7 +101,7 @@ pub record RanFrom (stream : List ℕ) (given : List Item) (v v' : Hearing) (r r
 -- Whatever the session was fed and gave before, it ran from there.
 abbrev pub Ran : Hearing → Hearing → Option (List ℕ) → Option (List ℕ) → Option (List ℕ) → Option (List ℕ)
     → Option (List Posted) → Option (List Posted) → Type 0
-Ran v v' r r' w w' p p' = (stream : List ℕ) (given : List Item) → Shows v stream given → RanFrom stream given v v' r r' w w' p p'
+Ran v v' r r' w w' p p' = (stream : List ℕ) (given : List Item) → ShowsHearing v stream given → RanFrom stream given v v' r r' w w' p p'
 
 abbrev pub IsNoHangup : Post → Type 0
 IsNoHangup (passes c) = Unit {0}
@@ -132,11 +132,11 @@ pub record ServedFrom (end : End) (stream : List ℕ) (given : List Item) (v v' 
 abbrev pub Served : End → Hearing → Hearing → Option (List ℕ) → Option (List ℕ) → Option (List ℕ) → Option (List ℕ)
     → Option (List Posted) → Option (List Posted) → Type 0
 Served end v v' r r' w w' p p' =
-    (stream : List ℕ) (given : List Item) → Shows v stream given → ServedFrom end stream given v v' r r' w w' p p'
+    (stream : List ℕ) (given : List Item) → ShowsHearing v stream given → ServedFrom end stream given v v' r r' w w' p p'
 
 -- Whatever the session was fed, this is the break behind it, if there is one.
 abbrev pub BreaksBy : Option Refusal → Hearing → Type 0
-BreaksBy broken v = (stream : List ℕ) (given : List Item) → Shows v stream given → break_in stream ≡ broken
+BreaksBy broken v = (stream : List ℕ) (given : List Item) → ShowsHearing v stream given → break_in stream ≡ broken
 
 -- Why a call ends, as far as it shows. All is written, but where a write was cut short.
 abbrev pub EndsBy : End → Hearing → Type 0

@@ -7,7 +7,7 @@ use Rattle.pg_turn.specs.Known.{Known, StandsIn}
 use Rattle.pg_gateway.specs.declared.event.Event.{Event}
 use Rattle.pg_gateway.specs.declared.event.Reply.{Reply}
 use Rattle.pg_gateway.specs.Occurrences.{Occurrence, occurrence, asks, Answer, told, tells}
-use Rattle.pg_gateway.specs.Shared.{opening, May}
+use Rattle.pg_gateway.specs.State.{opening, May}
 use Rattle.pg_gateway.specs.Shown.{GatewayValue, GatewayShows}
 use Rattle.pg_gateway.specs.Posting.{Answers}
 use Rattle.pg_gateway.specs.Histories.{Legal, state_after, said}
@@ -29,7 +29,7 @@ AreAnswered (call ∷ calls) = Answers call.0 call.1 × AreAnswered calls
 
 -- The call (e, r) is the last of a legal history of the gateway that begins with all that the caller had seen. Its place is one
 -- more of the caller's own, and the others stand in what the caller had seen, so that the calls in between are those of others
-pub record Posted (v : Known Event Reply) (e : Event) (r : Reply) (w : Known Event Reply) : Type 0 where
+pub record PostedCall (v : Known Event Reply) (e : Event) (r : Reply) (w : Known Event Reply) : Type 0 where
   pub between : List Call
   pub seen : w.seen ≡ (v.seen ++ between) ++ (e, r) ∷ []
   pub own : w.own ≡ v.own ++ length (v.seen ++ between) ∷ []

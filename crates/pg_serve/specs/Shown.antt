@@ -9,13 +9,13 @@ use Rattle.pg_ingest.specs.Shown as link
 use Rattle.pg_ingest.specs.Shown.{IsAllTold}
 use Rattle.pg_gateway.specs.Related.{Related}
 use Rattle.pg_gateway.specs.Shown.{GatewayValue, GatewayShows}
-use Rattle.pg_serve.specs.declared.line.Line.{Line}
-use Rattle.pg_serve.specs.Moments.{LinePast, Moment, opening, Turns, LegalTurns, after_turns}
+use Rattle.pg_serve.specs.declared.source_link.SourceLink.{SourceLink}
+use Rattle.pg_serve.specs.Moments.{SourceLinkPast, Moment, opening, Turns, LegalTurns, after_turns}
 
 -- What is kept of a world.
 pub record WorldValue : Type 0 where
   pub gateway : GatewayValue
-  pub lines : List (ℕ × Line)
+  pub lines : List (ℕ × SourceLink)
   pub sessions : List (ℕ × Hearing)
   pub failed : Bool
 
@@ -32,20 +32,20 @@ abbrev pub session_counted : ℕ → WorldValue → Option PmuStats
 session_counted u w = option_map (λ hearing. hearing.stats) (lookup (nat_eq u) w.sessions)
 
 -- The link shows what happened to it, and told all that it was fed.
-pub record LineShows (v : Line) (line : LinePast) : Type 0 where
-  pub shows : link.Shows v.link line.link
+pub record SourceLinkShows (v : SourceLink) (line : SourceLinkPast) : Type 0 where
+  pub shows : link.ShowsLink v.link line.link
   pub told : IsAllTold line.link
   pub is_up : v.is_up ≡ line.is_up
 
 -- Fed this stream, the session has given all its items, and it is not broken.
 pub record SessionShows (v : Hearing) (stream : List ℕ) : Type 0 where
-  pub shows : session.Shows v stream (items_of stream)
+  pub shows : session.ShowsHearing v stream (items_of stream)
   pub whole : break_in stream ≡ None
 
 -- the gateway, the links of sources and the sessions of subscribers
 pub record Holding : Type 0 where
   pub gateway : GatewayValue
-  pub lines : List (ℕ × Line)
+  pub lines : List (ℕ × SourceLink)
   pub sessions : List (ℕ × Hearing)
 
 -- what a world holds, whether it failed or not
@@ -54,7 +54,7 @@ holding w = record { gateway = w.gateway; lines = w.lines; sessions = w.sessions
 
 pub record MomentShows (h : Holding) (m : Moment) : Type 0 where
   pub gateway : GatewayShows h.gateway m.shared
-  pub lines : Related LineShows h.lines m.lines
+  pub lines : Related SourceLinkShows h.lines m.lines
   pub sessions : Related SessionShows h.sessions m.fed
 
 -- The world may have taken these turns since it was new, and no call of `run` found no memory for its answer.

@@ -2,17 +2,17 @@
 use Rattle.std.specs.Prelude.{◌≡◌, ℕ, Bool, nat_eq, if◌then◌else◌, List, [], ◌++◌}
 use Rattle.std.specs.Map.{remove_entry}
 use Rattle.pg_gateway.specs.Occurrences.{Occurrence}
-use Rattle.pg_gateway.specs.Shared.{Shared}
+use Rattle.pg_gateway.specs.State.{SharedMachine}
 use Rattle.pg_gateway.specs.Shown.{GatewayValue}
 use Rattle.pg_ingest.specs.Items.{Item, break_in as link_break}
 use Rattle.pg_ingest.specs.Shown.{IsAllTold}
-use Rattle.pg_serve.specs.declared.line.Line.{Line}
-use Rattle.pg_serve.specs.declared.kernel.Core.{Core}
+use Rattle.pg_serve.specs.declared.source_link.SourceLink.{SourceLink}
+use Rattle.pg_serve.specs.declared.world_core.Core.{Core}
 use Rattle.pg_serve.specs.Inputs.{Fact, Outcome}
 use Rattle.pg_serve.specs.Dues.{frames_of, link_due}
-use Rattle.pg_serve.specs.Moments.{LinePast, Moment, Turn, Turns, LegalTurn, LegalTurns, after_turn, after_turns, outcome_of, all_outcomes, inputs_of, lines_by, fed_by, telling, words_given, gone_up, gives_all, fed_line}
+use Rattle.pg_serve.specs.Moments.{SourceLinkPast, Moment, Turn, Turns, LegalTurn, LegalTurns, after_turn, after_turns, outcome_of, all_outcomes, inputs_of, lines_by, fed_by, telling, words_given, gone_up, gives_all, fed_line}
 use Rattle.pg_serve.specs.Feeding.{Did}
-use Rattle.pg_serve.specs.Shown.{Holding, MomentShows, LineShows}
+use Rattle.pg_serve.specs.Shown.{Holding, MomentShows, SourceLinkShows}
 
 -- what a core holds
 abbrev pub held : Core → Holding
@@ -43,23 +43,23 @@ TakesInputs before inputs told after = (m : Moment) → MomentShows before m →
 
 -- The event concerns no link and no session.
 pub record Spares (e : Occurrence) : Type 0 where
-  pub lines : (lines : List (ℕ × LinePast)) (S T : Shared) (b : Bool) → lines_by lines S T e b ≡ lines
+  pub lines : (lines : List (ℕ × SourceLinkPast)) (S T : SharedMachine) (b : Bool) → lines_by lines S T e b ≡ lines
   pub fed : (fed : List (ℕ × List ℕ)) (b : Bool) → fed_by fed e b ≡ fed
 
 -- The event ends u's session, where it is done.
 pub record Ends (u : ℕ) (e : Occurrence) : Type 0 where
-  pub lines : (lines : List (ℕ × LinePast)) (S T : Shared) (b : Bool) → lines_by lines S T e b ≡ lines
+  pub lines : (lines : List (ℕ × SourceLinkPast)) (S T : SharedMachine) (b : Bool) → lines_by lines S T e b ≡ lines
   pub fed : (fed : List (ℕ × List ℕ)) (b : Bool) → fed_by fed e b ≡ (if b then remove_entry (nat_eq u) fed else fed)
 
 -- A line went up, and all commands were given.
-pub record GoesUp (line : LinePast) (frames : List ℕ) (v : Line) : Type 0 where
+pub record GoesUp (line : SourceLinkPast) (frames : List ℕ) (v : SourceLink) : Type 0 where
   pub sent : frames ≡ frames_of line.link.source (words_given (gone_up line))
-  pub shows : LineShows v (gives_all (gone_up line))
+  pub shows : SourceLinkShows v (gives_all (gone_up line))
 
 -- A line took bytes of its source.
-pub record TakesBytes (S : Shared) (line : LinePast) (bytes : List ℕ) (o : Outcome) (g : GatewayValue) (v : Line) : Type 0 where
+pub record TakesBytes (S : SharedMachine) (line : SourceLinkPast) (bytes : List ℕ) (o : Outcome) (g : GatewayValue) (v : SourceLink) : Type 0 where
   pub items : List Item
   pub all : IsAllTold (telling line.link bytes items)
   pub did : Did S (link_due items (link_break (line.link.stream ++ bytes))) [] o.notes g
   pub sent : o.to_pmu ≡ frames_of line.link.source (words_given (fed_line line bytes items))
-  pub shows : LineShows v (gives_all (fed_line line bytes items))
+  pub shows : SourceLinkShows v (gives_all (fed_line line bytes items))

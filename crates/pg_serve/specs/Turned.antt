@@ -1,7 +1,7 @@
 -- Turns of a session's loop, before it hangs up.
 use Rattle.std.specs.Prelude.{◌≡◌, ℕ, List, [], ◌∷◌, ◌++◌, Option, Some, None}
 use Rattle.std.specs.Io.KnownBytes.{Appends}
-use Rattle.pg_session.specs.Commands.{Hearing, Item, items_of, Shows}
+use Rattle.pg_session.specs.Commands.{Hearing, Item, items_of, ShowsHearing}
 use Rattle.pg_gateway.specs.Occurrences.{Answer}
 use Rattle.pg_gateway.specs.Posting.{Posted, Notes}
 use Rattle.pg_ingest.specs.declared.run.End.{End}
@@ -10,7 +10,7 @@ use Rattle.pg_serve.specs.Serving.{drains, hangs_up, Call, posted_by, RanFrom, H
 
 -- Whatever the session was fed, it gave all its items.
 abbrev pub HasGivenAll : Hearing → Type 0
-HasGivenAll v = (stream : List ℕ) (given : List Item) → Shows v stream given → given ≡ items_of stream
+HasGivenAll v = (stream : List ℕ) (given : List Item) → ShowsHearing v stream given → given ≡ items_of stream
 
 -- Of what was left a part was written, and the others are left.
 abbrev pub Writes : List ℕ → List ℕ → Option (List ℕ) → Option (List ℕ) → Type 0
@@ -41,7 +41,7 @@ pub record TurnedFrom (end : Option End) (stream : List ℕ) (given : List Item)
 abbrev pub Turned : Option End → Hearing → Hearing → Option (List ℕ) → Option (List ℕ) → Option (List ℕ) → Option (List ℕ)
     → Option (List Posted) → Option (List Posted) → Type 0
 Turned end v v' r r' w w' p p' =
-    (stream : List ℕ) (given : List Item) → Shows v stream given → TurnedFrom end stream given v v' r r' w w' p p'
+    (stream : List ℕ) (given : List Item) → ShowsHearing v stream given → TurnedFrom end stream given v v' r r' w w' p p'
 
 -- A post hangs up.
 abbrev pub HangsUp : Hearing → Option (List Posted) → Option (List Posted) → Type 0

@@ -6,7 +6,7 @@ ghost use Rattle.pg_session.specs.Commands.{Item};
 ghost use Rattle.pg_ingest.specs.Shown as ingest;
 ghost use Rattle.pg_ingest.specs.Shown.{LinkPast, feeding};
 ghost use Rattle.pg_gateway.specs.Occurrences.{occurrence};
-ghost use Rattle.pg_gateway.specs.Shared.{Shared};
+ghost use Rattle.pg_gateway.specs.State.{SharedMachine};
 ghost use Rattle.pg_gateway.specs.Shown.{GatewayShows};
 ghost use Rattle.pg_serve.specs.Inputs.{noted, all_noted};
 ghost use Rattle.pg_serve.specs.Dues.{posts};
@@ -33,7 +33,7 @@ pub(crate) fn post(
     event: Event,
     notes: &mut Vec<Note>,
 ) -> Result<(), AllocError>
-    ensures did { IfOk result (λ _. (S : Shared) → GatewayShows gateway.old S
+    ensures did { IfOk result (λ _. (S : SharedMachine) → GatewayShows gateway.old S
         → Did S (posts (occurrence event) ∷ []) (all_noted notes.old.items) (all_noted notes.new.items) gateway.new) }
 {
     let reply = gateway.step(event);
@@ -47,7 +47,7 @@ fn post_events(
     link: &mut Link,
     notes: &mut Vec<Note>,
 ) -> Result<Option<Refusal>, AllocError>
-    ensures told { IfOk result (λ broken. (S : Shared) (past : LinkPast) → GatewayShows gateway.old S → ingest.Shows link.old past
+    ensures told { IfOk result (λ broken. (S : SharedMachine) (past : LinkPast) → GatewayShows gateway.old S → ingest.ShowsLink link.old past
         → TellsAll S past broken (all_noted notes.old.items) (all_noted notes.new.items) gateway.new link.new) }
     ensures room { IfOk result (λ broken. length link.new.bytes.held < 65535) }
 {
@@ -70,7 +70,7 @@ fn feed_events(
     bytes: &[u8],
     notes: &mut Vec<Note>,
 ) -> Result<Option<Refusal>, AllocError>
-    ensures told { IfOk result (λ broken. (S : Shared) (past : LinkPast) → GatewayShows gateway.old S → ingest.Shows link.old past
+    ensures told { IfOk result (λ broken. (S : SharedMachine) (past : LinkPast) → GatewayShows gateway.old S → ingest.ShowsLink link.old past
         → TellsAll S (feeding past bytes.now) broken (all_noted notes.old.items) (all_noted notes.new.items)
         gateway.new link.new) }
 {
@@ -93,7 +93,7 @@ pub(crate) fn feed_link(
     bytes: &[u8],
     notes: &mut Vec<Note>,
 ) -> Result<(), AllocError>
-    ensures taken { IfOk result (λ _. (S : Shared) (past : LinkPast) → GatewayShows gateway.old S → ingest.Shows link.old past
+    ensures taken { IfOk result (λ _. (S : SharedMachine) (past : LinkPast) → GatewayShows gateway.old S → ingest.ShowsLink link.old past
         → TakesPiece S (feeding past bytes.now) (all_noted notes.old.items) (all_noted notes.new.items) gateway.new link.new) }
 {
     match feed_events(gateway, link, bytes, notes)? {
@@ -107,7 +107,7 @@ pub(crate) fn feed_link(
 
 /// The commands that a source is owed, one behind another.
 pub(crate) fn commands_owed(alloc: Global, link: &mut Link) -> Result<Vec<u8>, AllocError>
-    ensures given { IfOk result (λ frames. (past : LinkPast) → ingest.Shows link.old past → GivesAll past frames.items link.new) }
+    ensures given { IfOk result (λ frames. (past : LinkPast) → ingest.ShowsLink link.old past → GivesAll past frames.items link.new) }
 {
     let mut frames = Vec::new(alloc);
     while let Some(frame) = link.next_out() {
@@ -123,8 +123,8 @@ fn post_commands(
     sub: SubId,
     notes: &mut Vec<Note>,
 ) -> Result<Option<Refusal>, AllocError>
-    ensures heard { IfOk result (λ broken. (S : Shared) (stream : List ℕ) (given : List Item) → GatewayShows gateway.old S
-        → commands.Shows session.old stream given
+    ensures heard { IfOk result (λ broken. (S : SharedMachine) (stream : List ℕ) (given : List Item) → GatewayShows gateway.old S
+        → commands.ShowsHearing session.old stream given
         → HearsAll S sub stream given broken (all_noted notes.old.items) (all_noted notes.new.items) gateway.new session.new) }
     ensures room { IfOk result (λ broken. length session.new.bytes.held < 65535) }
 {
@@ -147,8 +147,8 @@ pub(crate) fn feed_session(
     bytes: &[u8],
     notes: &mut Vec<Note>,
 ) -> Result<Option<Refusal>, AllocError>
-    ensures heard { IfOk result (λ broken. (S : Shared) (stream : List ℕ) (given : List Item) → GatewayShows gateway.old S
-        → commands.Shows session.old stream given
+    ensures heard { IfOk result (λ broken. (S : SharedMachine) (stream : List ℕ) (given : List Item) → GatewayShows gateway.old S
+        → commands.ShowsHearing session.old stream given
         → HearsAll S sub (stream ++ bytes.now) given broken (all_noted notes.old.items) (all_noted notes.new.items)
         gateway.new session.new) }
 {

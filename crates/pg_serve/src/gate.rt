@@ -7,7 +7,7 @@ ghost use Rattle.pg_gateway.specs.Posting.{Answers, Notes};
 ghost use Rattle.pg_serve.specs.Gates.{said_at};
 ghost use Rattle.pg_serve.specs.Continuing.{goes_on_same, goes_on_more};
 ghost use Rattle.pg_serve.specs.Onward.{GoesOn};
-ghost use Rattle.pg_serve.specs.Sharing.{history_of, Posted, HandsByViews, AnswersByView};
+ghost use Rattle.pg_serve.specs.Sharing.{history_of, PostedCall, HandsByViews, AnswersByView};
 
 use crate::seat_gate::SeatGate;
 use crate::shared::{Seat, Shared};
@@ -81,7 +81,7 @@ impl<R: Wait, N: Named> Gate for SharedGate<'_, R, N> {
     /// Posts at its seat. It waits by parking, and what is promised holds if it returns.
     fn post(&mut self, event: Event) -> Reply
         // All that `Shared::post` promises of the seat.
-        ensures seat { Posted self.old event result self.new }
+        ensures seat { PostedCall self.old event result self.new }
         ensures handed { HandsByViews (history_of self.new.seen) }
         ensures own { AnswersByView (history_of self.new.seen) }
         ensures answers { Answers event result }

@@ -7,21 +7,21 @@ mod edits;
 mod feeding;
 mod gate;
 mod input;
-mod kernel;
 mod laws;
-mod line;
 mod seat_gate;
 mod serve;
 mod shared;
+mod source_link;
 mod work;
 mod world;
+mod world_core;
 
 pub use asked::event_of;
 pub use gate::{Named, SharedGate};
 pub use input::{Input, Note, Output};
 pub use laws::{
-    deliveries_go_on, equal_views_queue_alike, links_tell_on, neighbours_change_nothing,
-    own_blocks_alone, serving_goes_on,
+    deliveries_agree, deliveries_go_on, equal_views_queue_alike, links_tell_on,
+    neighbours_change_nothing, own_blocks_alone, serving_goes_on,
 };
 pub use seat_gate::SeatGate;
 pub use serve::serve_session;

@@ -6,7 +6,7 @@ ghost use Rattle.pg_gateway.specs.Posting.{Answers, Notes};
 ghost use Rattle.pg_serve.specs.Gates.{said_at};
 ghost use Rattle.pg_serve.specs.Continuing.{goes_on_same, goes_on_more};
 ghost use Rattle.pg_serve.specs.Onward.{GoesOn};
-ghost use Rattle.pg_serve.specs.Sharing.{history_of, Posted, HandsByViews, AnswersByView};
+ghost use Rattle.pg_serve.specs.Sharing.{history_of, PostedCall, HandsByViews, AnswersByView};
 
 use crate::shared::{Seat, Shared};
 use pg_gateway::{Event, Gate, Reply};
@@ -80,7 +80,7 @@ impl<R: Wait> Gate for SeatGate<'_, R> {
     fn post(&mut self, event: Event) -> Reply
         ensures table { self.new.table ≡ self.old.table }
         // All that `Shared::post` promises of the seat.
-        ensures seat { Posted self.old event result self.new }
+        ensures seat { PostedCall self.old event result self.new }
         ensures handed { HandsByViews (history_of self.new.seen) }
         ensures own { AnswersByView (history_of self.new.seen) }
         ensures answers { Answers event result }

@@ -3,9 +3,9 @@
 ghost use Rattle.std.specs.Prelude.{◌≡◌, ℕ, ◌+◌, ◌≤◌, [], ◌++◌, IfOk, IfErr, IfSome};
 ghost use Rattle.pg_turn.specs.Known.{times};
 ghost use Rattle.pg_turn.specs.Turns.{IsLonger};
-ghost use Rattle.pg_gateway.specs.Shared.{opening};
+ghost use Rattle.pg_gateway.specs.State.{opening};
 ghost use Rattle.pg_gateway.specs.Shown.{GatewayShows};
-ghost use Rattle.pg_serve.specs.Sharing.{history_of, Posted, HandsByViews, AnswersByView, Closed};
+ghost use Rattle.pg_serve.specs.Sharing.{history_of, PostedCall, HandsByViews, AnswersByView, Closed};
 
 use pg_gateway::{Event, Gateway, Reply};
 use pg_turn::Turnstile;
@@ -61,7 +61,7 @@ impl Shared {
     pub fn post<R: Wait>(&self, rt: &R, seat: Seat, event: Event) -> (Seat, Reply)
         requires table { seat.table ≡ self.now }
         ensures seat { result.0.table ≡ seat.table }
-        ensures posted { Posted seat event result.1 result.0 }
+        ensures posted { PostedCall seat event result.1 result.0 }
         ensures handed { HandsByViews (history_of result.0.seen) }
         ensures own { AnswersByView (history_of result.0.seen) }
     {

@@ -3,15 +3,15 @@ ghost use Rattle.std.specs.Prelude.{◌≡◌, Err, true, nat_eq, is_some, Some,
 ghost use Rattle.pg_serve.specs.Shown.{queue_shown, link_counted, session_counted};
 ghost use Rattle.pg_serve.specs.Taking.{held, TakesInputs};
 ghost use Rattle.std.specs.Map.{lookup};
-ghost use Rattle.pg_gateway.specs.Shared.{Shared, seat_of};
+ghost use Rattle.pg_gateway.specs.State.{SharedMachine, slot_of};
 ghost use Rattle.pg_gateway.specs.Shown.{GatewayShows};
 ghost use Rattle.pg_serve.specs.Moments.{absence};
 ghost use Rattle.pg_serve.specs.Inputs.{Fact, Outcome, facts, outcomes};
-ghost use Rattle.pg_serve.specs.Full.{HasAnswered, AllLossless, Headline};
+ghost use Rattle.pg_serve.specs.Full.{HasAnswered, OutcomesLossless, Headline};
 ghost use Rattle.pg_serve.specs.Beside.{StandsBeside};
 
 use crate::input::{Input, Output};
-use crate::kernel::{Core, absence};
+use crate::world_core::{Core, absence};
 use indexmap::IndexMap;
 use pg_audit::PmuStats;
 use pg_gateway::Gateway;
@@ -70,10 +70,10 @@ impl World {
         ensures answers { IfOk result (λ outputs. (before : List Fact) (told : List Outcome) → HasAnswered self.old before told
             → HasAnswered self.new (before ++ facts inputs.now) (told ++ outcomes outputs.items)) }
         ensures isolates { IfOk result (λ outputs. (before : List Fact) (told : List Outcome) → HasAnswered self.old before told
-            → AllLossless (told ++ outcomes outputs.items)
+            → OutcomesLossless (told ++ outcomes outputs.items)
             → Headline self.new (before ++ facts inputs.now) (told ++ outcomes outputs.items)) }
         ensures beside { IfOk result (λ outputs. (before : List Fact) (told : List Outcome) → HasAnswered self.old before told
-            → AllLossless (told ++ outcomes outputs.items)
+            → OutcomesLossless (told ++ outcomes outputs.items)
             → StandsBeside self.new (before ++ facts inputs.now) (told ++ outcomes outputs.items)) }
         ensures stays { self.old.failed ≡ true → self.new ≡ self.old }
         ensures fails { OnErr result (self.new.failed ≡ true) }
@@ -131,8 +131,8 @@ impl World {
     pub fn session_stats(&self, sub: SubId) -> Result<&PmuStats, Refusal>
         ensures value { IfOk result (λ stats. session_counted sub self.now ≡ Some stats.now) }
         ensures none { IfErr result (λ refusal. session_counted sub self.now ≡ None) }
-        ensures refused { IfErr result (λ refusal. (S : Shared) → GatewayShows self.now.gateway S
-            → refusal ≡ absence (is_some (seat_of sub S.subs))) }
+        ensures refused { IfErr result (λ refusal. (S : SharedMachine) → GatewayShows self.now.gateway S
+            → refusal ≡ absence (is_some (slot_of sub S.subs))) }
     {
         match self.core.sessions.get(&sub) {
             Some(session) => Ok(session.stats()),

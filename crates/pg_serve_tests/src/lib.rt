@@ -8,4 +8,6 @@ mod sharing;
 #[cfg(test)]
 mod ticking;
 #[cfg(test)]
+mod together;
+#[cfg(test)]
 mod working;

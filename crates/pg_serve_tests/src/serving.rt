@@ -1,8 +1,8 @@
 //! Sessions over memory: their subscribers' bytes come from a slice, and a gateway or a seat at a shared one takes their posts.
 use pg_audit::Stats;
 use pg_command::Command;
+use pg_fakes::{FakeReader, FakeWriter};
 use pg_gateway::{Event, Gate, Gateway, Reply};
-use pg_ingest::fakes::{FakeReader, FakeWriter};
 use pg_ingest::{End, Link, run_link};
 use pg_ring::{RingBytes, RingSize};
 use pg_serve::{SeatGate, Shared, serve_session};
@@ -26,21 +26,21 @@ pub(crate) const DATA_7: [u8; 26] = [
 ];
 
 // Commands 5, send CFG-2, and 2, start data, for stream 101.
-const COMMANDS: [u8; 36] = [
+pub(crate) const COMMANDS: [u8; 36] = [
     0xAA, 0x42, 0x00, 0x12, 0x00, 0x65, 0x00, 0x00, 0x00, 0x64, 0x00, 0x00, 0x00, 0x00, 0x00, 0x05,
     0xCB, 0xF9, 0xAA, 0x42, 0x00, 0x12, 0x00, 0x65, 0x00, 0x00, 0x00, 0x64, 0x00, 0x00, 0x00, 0x00,
     0x00, 0x02, 0xBB, 0x1E,
 ];
 
 // Stream 101's CFG-2, and behind it its data frame.
-const HANDED: [u8; 100] =
+pub(crate) const HANDED: [u8; 100] =
     *b"\xAA\x32\x00\x4A\x00\x65\x00\x00\x00\x00\x0F\x00\x00\x00\x00\x0F\x42\x40\x00\x01PMU 7           \x00\x07\x00\x00\x00\x01\x00\x00\x00\x00VA              \x00\x00\x00\x01\x00\x00\x00\x01\x00\x1E\x75\xAF\xAA\x02\x00\x1A\x00\x65\x00\x00\x00\x64\x00\x00\x82\x35\x00\x00\x10\x00\x20\x00\x00\x00\x00\x00\x72\x76";
 
 pub(crate) fn subscriber(rt: &impl Abort, number: u16) -> SubId {
     SubId::new(number).expect(rt, "a number")
 }
 
-fn source(rt: &impl Abort) -> PmuId {
+pub(crate) fn source(rt: &impl Abort) -> PmuId {
     PmuId::new(7).expect(rt, "a number")
 }
 
@@ -62,7 +62,7 @@ fn refused(rt: &impl Abort, gate: &mut impl Gate, event: Event) -> u8 {
 }
 
 // Stream 101 of rate 30 with PMU 7 as its member.
-fn definition(rt: &impl Abort, alloc: Global) -> Definition {
+pub(crate) fn definition(rt: &impl Abort, alloc: Global) -> Definition {
     let pmu = source(rt);
     let mut keys = Vec::new(alloc);
     keys.push(PmuKey { source: pmu, pmu }).expect(rt, "memory");
@@ -111,7 +111,7 @@ fn drained(rt: &impl Abort, alloc: Global, gate: &mut impl Gate, number: u16) ->
 }
 
 // A reader of these bytes, and of at most so many at a time.
-fn reader(bytes: &[u8], most: usize, fails_at: u32, kind: ErrorKind) -> FakeReader<'_> {
+pub(crate) fn reader(bytes: &[u8], most: usize, fails_at: u32, kind: ErrorKind) -> FakeReader<'_> {
     FakeReader {
         left: bytes,
         most,
@@ -121,7 +121,7 @@ fn reader(bytes: &[u8], most: usize, fails_at: u32, kind: ErrorKind) -> FakeRead
     }
 }
 
-fn writer(alloc: Global, fails_at: u32, kind: ErrorKind) -> FakeWriter {
+pub(crate) fn writer(alloc: Global, fails_at: u32, kind: ErrorKind) -> FakeWriter {
     FakeWriter {
         taken: Vec::new(alloc),
         most: 50,
@@ -229,6 +229,37 @@ fn failing_streams(rt: HostRuntime) {
             done(&rt, &mut gate, Event::Connect(subscriber(&rt, 1)));
         }
         assert_eq!(&rt; drained(&rt, alloc, &mut gate, 1), 0);
+    }
+}
+
+// A call makes as many reads as it has turns, each of at most 4,096 bytes, where the reader always has more: here bytes of a
+// frame that is never whole.
+#[test]
+fn reads_of_a_call(rt: HostRuntime) {
+    let alloc = rt.alloc();
+    let mut bytes = vec![in alloc; 0; 10_000].expect(&rt, "memory");
+    for (byte, first) in bytes.iter_mut().zip([0xAA, 0x42, 0xFF, 0xFF]) {
+        *byte = first;
+    }
+    // Turns, the most bytes that the reader gives at once, the reads, and the bytes that are left to read.
+    let rows: [(u64, usize, u32, usize); 4] = [
+        (0, 65_535, 0, 10_000),
+        (1, 65_535, 1, 5_904),
+        (2, 65_535, 2, 1_808),
+        (7, 1, 7, 9_993),
+    ];
+    for (turns, most, reads, left) in rows {
+        let mut gate = Gateway::new(alloc).expect(&rt, "memory");
+        let _link = set_up(&rt, alloc, &mut gate, 1);
+        let mut session = session(&rt, alloc);
+        let mut input = reader(&bytes, most, 0, ErrorKind::Other);
+        let mut out = writer(alloc, 0, ErrorKind::Other);
+        assert_eq!(&rt;
+            serve_session(&mut session, &mut input, &mut out, &mut gate, turns),
+            End::Fault(39)
+        );
+        assert_eq!(&rt; input.calls, reads);
+        assert_eq!(&rt; input.left.len(), left);
     }
 }
 

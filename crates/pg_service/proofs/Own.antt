@@ -2,7 +2,7 @@
 use Rattle.std.proofs.Common.{◌≡◌, subst, sym, refl, ℕ, List, [], ◌∷◌, ◌++◌, map, Option, Some, None, inl, inr}
 use Rattle.std.specs.Prelude.{All}
 use Rattle.std.proofs.lemmas.List.Elements.{All-append, All-cons, All-nil}
-use Rattle.pg_session.specs.Commands.{Hearing, Item, Shows}
+use Rattle.pg_session.specs.Commands.{Hearing, Item, ShowsHearing}
 use Rattle.pg_gateway.specs.Posting.{Posted, Notes}
 use Rattle.pg_ingest.specs.declared.run.End.{End}
 use Rattle.pg_ingest.proofs.Known.{notes_nil, notes_more}

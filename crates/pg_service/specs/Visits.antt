@@ -2,7 +2,7 @@
 use Rattle.std.specs.Prelude.{◌≡◌, ℕ, Bool, true, false, ◌&&◌, if◌then◌else◌, List, [], ◌∷◌, Option, Some, None, is_some}
 use Rattle.pg_wire.specs.declared.refusal.Refusal.{Refusal}
 use Rattle.pg_wire.specs.declared.refusal.Refusal.TheVariants.{NoMemory}
-use Rattle.pg_session.specs.Commands.{Hearing, Item, Shows, unheard}
+use Rattle.pg_session.specs.Commands.{Hearing, Item, ShowsHearing, unheard}
 use Rattle.pg_session.specs.Events.{connect, hangup}
 use Rattle.pg_gateway.specs.declared.event.Reply.{Reply}
 use Rattle.pg_gateway.specs.declared.event.Reply.TheVariants as reply
@@ -21,7 +21,7 @@ pub record Visit : Type 0 where
 
 -- Some stream was fed to its session since it was new.
 abbrev pub HasHeard : Hearing → Type 0
-HasHeard h = (stream : List ℕ) × (given : List Item) × Shows h stream given
+HasHeard h = (stream : List ℕ) × (given : List Item) × ShowsHearing h stream given
 
 -- the place where a subscriber connects: which one, the hosts that may, whether a new connection takes the place of one that
 -- stands, how long who has connected may stall or be idle, and who has

@@ -1,7 +1,7 @@
 //! A gateway behind a gateway, over memory: the second is started before the first has a PMU, and gets its data all the same.
 use crate::frames::{CONFIG_7, DATA_7, after, done, gateway, source, subscriber};
+use pg_fakes::{FakeReader, FakeWriter};
 use pg_gateway::{Event, Gateway};
-use pg_ingest::fakes::{FakeReader, FakeWriter};
 use pg_ingest::{End, Link, run_link};
 use pg_limits::{Allow, Budget};
 use pg_service::{Counted, Door, DoorRules, Due, Gone, Knock, SourceLine, Stay, Turn, Watched};

@@ -3,8 +3,8 @@ use crate::frames::{
     COMMANDS_101, CONFIG_7, DATA_7, HANDED_101, add_ring, after, data_of, done, gateway, source,
     subscriber,
 };
+use pg_fakes::{FakeReader, FakeWriter};
 use pg_gateway::{Event, Gate, Gateway};
-use pg_ingest::fakes::{FakeReader, FakeWriter};
 use pg_ingest::{End, Link, run_link};
 use pg_limits::{Allow, Budget, Network};
 use pg_service::{Counted, Door, DoorRules, Gone, Knock, Overdue, Stay, Watched};

@@ -1,8 +1,8 @@
 //! Sources over memory: budgets, silence, the clock's guard, and whose bytes are whose.
 use crate::frames::{CONFIG_7, DATA_7, after, gateway, source};
+use pg_fakes::{FakeGate, FakeReader, FakeWriter};
 use pg_gateway::Event;
 use pg_ingest::End;
-use pg_ingest::fakes::{FakeGate, FakeReader, FakeWriter};
 use pg_limits::{Budget, ClockGuard};
 use pg_service::{Due, SourceLine, Turn, Watched};
 use std::alloc::Global;

@@ -4,8 +4,8 @@ ghost use Rattle.std.specs.Prelude.{◌≡◌};
 
 use crate::frames::{CONFIG_7, data_of, key, source};
 use crate::loopback::post;
+use pg_fakes::{FakeReader, FakeWriter};
 use pg_gateway::{Event, Gate, Gateway, Reply};
-use pg_ingest::fakes::{FakeReader, FakeWriter};
 use pg_ingest::{Link, run_link};
 use pg_serve::{Named, Seat, Shared, SharedGate, Work};
 use pg_service::{Board, Journal, Lookup, Mailbox, Neighbours, Notice, Ticker, Waiting};

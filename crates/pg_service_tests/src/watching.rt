@@ -1,8 +1,8 @@
 //! What is told of what went through a gate.
 use crate::frames::{COMMANDS_101, CONFIG_7, DATA_7, data_of, done, gateway, source, subscriber};
 use pg_command::Command;
+use pg_fakes::{FakeReader, FakeWriter};
 use pg_gateway::{Event, Gate, Gateway, Reply};
-use pg_ingest::fakes::{FakeReader, FakeWriter};
 use pg_ingest::{Link, run_link};
 use pg_serve::serve_session;
 use pg_service::Watched;

@@ -4,14 +4,14 @@ use Rattle.std.proofs.lemmas.List.{drop_more}
 use Rattle.pg_wire.specs.declared.ids.PmuKey.{PmuKey}
 use Rattle.pg_config.specs.Parts.{Part, block_id}
 use Rattle.pg_data.specs.Measurements.{Measurement, IsMeasurement}
-use Rattle.pg_data.specs.Shared.{Piece, piece_of}
+use Rattle.pg_data.specs.Pieces.{Piece, piece_of}
 use Rattle.pg_audit.specs.declared.counters.Stats.{Stats}
 use Rattle.pg_align.specs.declared.answer.Arrived.{Arrived}
 use Rattle.pg_align.specs.declared.answer.Arrived.TheVariants.{Kept, Late, Twice}
 use Rattle.pg_align.specs.Histories.{is_above}
 use Rattle.pg_align.specs.Slots.{Aligned, answer_at, part_at, with_arrival, others_than}
 use Rattle.pg_session.specs.Events.{key_in, sampled_part, samples_at}
-use Rattle.pg_session.specs.Streams.{Placed, place_of, with_place, placed, is_late, is_twice, arrive_all}
+use Rattle.pg_session.specs.Streams.{PlacedBlock, place_of, with_place, placed, is_late, is_twice, arrive_all}
 use Rattle.pg_session.specs.Output.{times, one_late, one_twice, all_ignored}
 use Rattle.pg_session.specs.Sending.{Sending}
 use Rattle.pg_session.specs.Kept.{by_slots}
@@ -44,7 +44,7 @@ placed_next m members places k x is h l s p =
     ∙ part_placed m members (get_or places k 0) (drop (k + 1) places) x (slice_get m.config.parts (get_or places k 0)) is s (some_there _ _ l) p
 
 -- what has arrived so far, and what is to arrive
-pub record ArrivedSoFar (slot : ℕ) (whole rest : List Placed) (old new : Aligned Piece) (before after : Sending) (lent left over : List Piece) : Type 0 where
+pub record ArrivedSoFar (slot : ℕ) (whole rest : List PlacedBlock) (old new : Aligned Piece) (before after : Sending) (lent left over : List Piece) : Type 0 where
   pub late : ℕ
   pub twice : ℕ
   pub slots : (arrive_all by_slots old slot whole).slots ≡ (arrive_all by_slots new slot rest).slots
@@ -56,7 +56,7 @@ pub record ArrivedSoFar (slot : ℕ) (whole rest : List Placed) (old new : Align
   pub room : others_than slot new.slots ≤ new.window
   pub ready : left ≡ map piece_of_placed rest ++ over
 
-pub arrived-none : (slot : ℕ) (whole : List Placed) (a : Aligned Piece) (s : Sending) (lent over : List Piece) → IsTrue a.is_on
+pub arrived-none : (slot : ℕ) (whole : List PlacedBlock) (a : Aligned Piece) (s : Sending) (lent over : List Piece) → IsTrue a.is_on
     → AreEffective a.effective whole → others_than slot a.slots ≤ a.window → lent ≡ map piece_of_placed whole ++ over
     → ArrivedSoFar slot whole whole a a s s lent lent over
 arrived-none slot whole a s lent over on effective room ready = record {
@@ -88,7 +88,7 @@ ignored_more Kept n k s = ap₂ (λ a b. all_ignored a b 0 s) (nothing_more n) (
 ignored_more Late n k s = ap₂ (λ a b. all_ignored a b 0 s) (one_more n) (nothing_more k)
 ignored_more Twice n k s = twice_past n k s ∙ ap₂ (λ a b. all_ignored a b 0 s) (nothing_more n) (one_more k)
 
-pub arrived-one : (slot : ℕ) (whole rest : List Placed) (p : Placed) (a b c : Aligned Piece) (r s t : Sending) (lent left over : List Piece)
+pub arrived-one : (slot : ℕ) (whole rest : List PlacedBlock) (p : PlacedBlock) (a b c : Aligned Piece) (r s t : Sending) (lent left over : List Piece)
     → ArrivedSoFar slot whole (p ∷ rest) a b r s lent left over
     → c ≡ with_arrival b slot p.place p.piece → others_than slot c.slots ≡ others_than slot b.slots
     → t ≡ with_stats s (one_ignored (answer_at b slot p.place) s.output.stats)
@@ -119,17 +119,17 @@ arrived-one slot whole rest p a b c r s t lent left over x e room g =
     window_kept f = ap (λ (d : Aligned Piece). d.window) f ∙ window_by _ _ refl refl
 
 -- the next block is a member's, or is none
-pub rest_some : (rest others : List Placed) (o : Option ℕ) (place : ℕ) (piece : Piece) → rest ≡ with_place o piece others → o ≡ Some place
+pub rest_some : (rest others : List PlacedBlock) (o : Option ℕ) (place : ℕ) (piece : Piece) → rest ≡ with_place o piece others → o ≡ Some place
     → rest ≡ record { place = place; piece = piece } ∷ others
 rest_some rest others o place piece e f = e ∙ ap (λ x. with_place x piece others) f
 
-pub rest_none : (rest others : List Placed) (o : Option ℕ) (piece : Piece) → rest ≡ with_place o piece others → o ≡ None → rest ≡ others
+pub rest_none : (rest others : List PlacedBlock) (o : Option ℕ) (piece : Piece) → rest ≡ with_place o piece others → o ≡ None → rest ≡ others
 rest_none rest others o piece e f = e ∙ ap (λ x. with_place x piece others) f
 
-pub piece_there : (left : List Piece) (rest : List Placed) (p : Placed) (over : List Piece) → left ≡ map piece_of_placed (p ∷ rest) ++ over → slice_get left 0 ≡ Some p.piece
+pub piece_there : (left : List Piece) (rest : List PlacedBlock) (p : PlacedBlock) (over : List Piece) → left ≡ map piece_of_placed (p ∷ rest) ++ over → slice_get left 0 ≡ Some p.piece
 piece_there left rest p over h = ap (λ xs. slice_get xs 0) h
 
-pub piece_first : {slot : ℕ} {whole rest : List Placed} {p : Placed} {a b : Aligned Piece} {r s : Sending} {lent left over : List Piece}
+pub piece_first : {slot : ℕ} {whole rest : List PlacedBlock} {p : PlacedBlock} {a b : Aligned Piece} {r s : Sending} {lent left over : List Piece}
     → ArrivedSoFar slot whole (p ∷ rest) a b r s lent left over → slice_get left 0 ≡ Some p.piece
 piece_first {rest = rest} {p = p} {left = left} {over = over} x = piece_there left rest p over x.ready
 
@@ -137,7 +137,7 @@ some_same : (x y : Piece) → Some x ≡ Some y → x ≡ y
 some_same x y e = cc e
 
 -- the block that was taken is the next one
-pub arrived-next : {slot : ℕ} {whole rest : List Placed} {p : Placed} {a b : Aligned Piece} {r s : Sending} {lent left over : List Piece}
+pub arrived-next : {slot : ℕ} {whole rest : List PlacedBlock} {p : PlacedBlock} {a b : Aligned Piece} {r s : Sending} {lent left over : List Piece}
     (c : Aligned Piece) (t : Sending) (block : Piece) (taken : Option Piece) (remaining : List Piece)
     → ArrivedSoFar slot whole (p ∷ rest) a b r s lent left over
     → taken ≡ slice_get left 0 → taken ≡ Some block → remaining ≡ drop 1 left

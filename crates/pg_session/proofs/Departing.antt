@@ -1,7 +1,7 @@
 -- Slots that leave one after another, and their frames.
 use Rattle.std.proofs.Common.{◌≡◌, ℕ, ◌+◌, ◌/◌, ◌^◌, ◌<◌, List, [], ◌∷◌, ◌++◌, length, map, Bool, true, false, Option, Some, refl, sym, ap, ◌∙◌, arith, subst, append_assoc}
 use Rattle.std.proofs.lemmas.List.{append-nil, map-append}
-use Rattle.pg_data.specs.Shared.{Piece}
+use Rattle.pg_data.specs.Pieces.{Piece}
 use Rattle.pg_align.specs.Histories.{Departed, Departures, with_first}
 use Rattle.pg_align.specs.Slots.{Aligned, OpenSlot, leaves_now, leaving_of, flushed_of, after_leaving, without_least}
 use Rattle.pg_session.specs.Sending.{Sending, Sends}

@@ -4,7 +4,7 @@ use Rattle.std.proofs.lemmas.List.{take_at}
 use Rattle.pg_wire.specs.declared.refusal.Refusal.{Refusal}
 use Rattle.pg_wire.specs.declared.ids.PmuKey.{PmuKey}
 use Rattle.pg_config.specs.Parts.{Part}
-use Rattle.pg_data.specs.Shared.{Piece}
+use Rattle.pg_data.specs.Pieces.{Piece}
 use Rattle.pg_stream.specs.Slots.{slot_at}
 use Rattle.pg_align.specs.Slots.{Aligned, with_arrival}
 use Rattle.pg_wire.specs.Keys.{key_eq}
@@ -14,7 +14,7 @@ use Rattle.pg_outcfg.specs.Listing.{Listing, config_at, without_config}
 use Rattle.pg_session.specs.Fields.{AreGranted}
 use Rattle.pg_session.specs.Events.{Sample}
 use Rattle.pg_session.specs.Shape.{same_config, same_shape}
-use Rattle.pg_session.specs.Streams.{StreamOf, Turn, Placed, placed, base_of, effective_in, still, arrive_all, arrival_turn, measure_turn, reshape_turn, tick_turn}
+use Rattle.pg_session.specs.Streams.{StreamOf, Turn, PlacedBlock, placed, base_of, effective_in, still, arrive_all, arrival_turn, measure_turn, reshape_turn, tick_turn}
 use Rattle.pg_session.specs.Private.{stopped}
 use Rattle.pg_session.specs.Kept.{by_slots, by_gaps}
 use Rattle.pg_session.specs.Fields.{AreFitted, stream_after}
@@ -38,12 +38,12 @@ fits_if listed false t u x y = y
 pub tick-fits : (listed : Listing) (s : OneStream) → Fits listed s → Fits listed (tick_turn by_slots listed s).stream
 tick-fits listed s w = fits_if listed s.slots.is_on _ (still s) (leaving-effective (by_slots.tick s.slots) _ ∙ w) w
 
-arrivals-effective : (a : Aligned Piece) (slot : ℕ) (ps : List Placed) → (arrive_all by_slots a slot ps).slots.effective ≡ a.effective
+arrivals-effective : (a : Aligned Piece) (slot : ℕ) (ps : List PlacedBlock) → (arrive_all by_slots a slot ps).slots.effective ≡ a.effective
 arrivals-effective a slot [] = refl
 arrivals-effective a slot (p ∷ ps) =
     arrivals-effective (with_arrival a slot p.place p.piece) slot ps ∙ (arrived_by a slot p.place p.piece _ _ refl refl).1
 
-arrival-fits : (listed : Listing) (s : OneStream) (blocks : List Placed) (slot : Result ℕ Refusal) → Fits listed s
+arrival-fits : (listed : Listing) (s : OneStream) (blocks : List PlacedBlock) (slot : Result ℕ Refusal) → Fits listed s
     → Fits listed (arrival_turn by_slots listed s blocks slot).stream
 arrival-fits listed s blocks (Err r) w = w
 arrival-fits listed s blocks (Ok slot) w =

@@ -7,8 +7,8 @@ use Rattle.pg_wire.specs.declared.ids.PmuKey.{PmuKey}
 use Rattle.pg_config.specs.Parts.{Part, Source}
 use Rattle.pg_data.specs.Measurements.{Measurement}
 use Rattle.pg_session.specs.Events.{Sample, config_of, announced_part, announced_at, sampled_part, samples_at}
-use Rattle.pg_data.specs.Shared.{Piece}
-use Rattle.pg_session.specs.Streams.{Placed, place_of, with_place, placed}
+use Rattle.pg_data.specs.Pieces.{Piece}
+use Rattle.pg_session.specs.Streams.{PlacedBlock, place_of, with_place, placed}
 use Rattle.pg_session.specs.Wanted.{piece_of_placed}
 use Rattle.pg_session.specs.Ready.{GoesOn}
 
@@ -106,7 +106,7 @@ member_pieces None p place e = absurd (cc e)
 member_pieces (Some x) p place e = refl
 
 -- a block in front of others
-pub pieces_split : (o : Option ℕ) (p : Piece) (others : List Placed)
+pub pieces_split : (o : Option ℕ) (p : Piece) (others : List PlacedBlock)
     → map piece_of_placed (with_place o p others) ≡ map piece_of_placed (with_place o p []) ++ map piece_of_placed others
 pieces_split None p others = refl
 pieces_split (Some place) p others = refl

@@ -13,7 +13,7 @@ use Rattle.pg_command.specs.declared.command.Command.{Command}
 use Rattle.pg_command.specs.Reading.{command_of}
 use Rattle.pg_audit.specs.declared.counters.PmuStats.{PmuStats}
 use Rattle.pg_audit.specs.Counting.{no_pmu_stats}
-use Rattle.pg_session.specs.Commands.{Item, commands, ignores, item_of, item_kept, item_read, items_of, break_in, with_item, with_items, Hearing, Shows, next_of, GivesOf, Holds}
+use Rattle.pg_session.specs.Commands.{Item, commands, ignores, item_of, item_kept, item_read, items_of, break_in, with_item, with_items, Hearing, ShowsHearing, next_of, GivesCommandOf, Holds}
 use Rattle.pg_session.specs.declared.session.Next.{Next}
 use Rattle.pg_session.specs.declared.session.Next.TheVariants as next
 
@@ -22,9 +22,9 @@ with_items-append stats [] item = refl
 with_items-append stats (x ∷ items) item = with_items-append (with_item stats x) items item
 
 -- one more item
-item_shown : (old new : Hearing) (stream : List ℕ) (given : List Item) (frame : List ℕ) (item : Item) (shows : Shows old stream given)
-    → item ≡ item_of frame → wire.Shows new.bytes stream (shows.frames ++ frame ∷ []) → new.stats ≡ with_item old.stats item
-    → Shows new stream (given ++ item ∷ [])
+item_shown : (old new : Hearing) (stream : List ℕ) (given : List Item) (frame : List ℕ) (item : Item) (shows : ShowsHearing old stream given)
+    → item ≡ item_of frame → wire.ShowsStream new.bytes stream (shows.frames ++ frame ∷ []) → new.stats ≡ with_item old.stats item
+    → ShowsHearing new stream (given ++ item ∷ [])
 item_shown old new stream given frame item shows is bytes stats = record {
   frames = shows.frames ++ frame ∷ [];
   bytes = bytes;
@@ -33,31 +33,31 @@ item_shown old new stream given frame item shows is bytes stats = record {
 }
 
 pub frame_given : (old new : Hearing) (frame : Bor (List ℕ)) (read : Result Command Refusal)
-    → taking.Gives old.bytes (taken.Frame frame) new.bytes → read ≡ command_of frame.now → new.stats ≡ with_item old.stats (item_read read)
-    → (stream : List ℕ) (given : List Item) → Shows old stream given → GivesOf stream given (next_of (item_read read)) new
+    → taking.GivesFrame old.bytes (taken.Frame frame) new.bytes → read ≡ command_of frame.now → new.stats ≡ with_item old.stats (item_read read)
+    → (stream : List ℕ) (given : List Item) → ShowsHearing old stream given → GivesCommandOf stream given (next_of (item_read read)) new
 frame_given old new frame read gives is stats stream given shows = by read is stats
   where
     kept : item_of frame.now ≡ item_read (command_of frame.now)
     kept = ap (item_kept frame.now) (gives stream shows.frames shows.bytes).0
 
     by : (r : Result Command Refusal) → r ≡ command_of frame.now → new.stats ≡ with_item old.stats (item_read r)
-        → GivesOf stream given (next_of (item_read r)) new
+        → GivesCommandOf stream given (next_of (item_read r)) new
     by (Ok c) is stats =
         item_shown old new stream given frame.now (commands c) shows (ap item_read is ∙ sym kept) (gives stream shows.frames shows.bytes).1 stats
     by (Err r) is stats =
         item_shown old new stream given frame.now (ignores r) shows (ap item_read is ∙ sym kept) (gives stream shows.frames shows.bytes).1 stats
 
 pub skipped_given : (old new : Hearing) (refusal : Refusal)
-    → taking.Gives old.bytes (taken.Skipped refusal) new.bytes → new.stats ≡ with_item old.stats (ignores refusal)
-    → (stream : List ℕ) (given : List Item) → Shows old stream given → GivesOf stream given (next.Ignored refusal) new
+    → taking.GivesFrame old.bytes (taken.Skipped refusal) new.bytes → new.stats ≡ with_item old.stats (ignores refusal)
+    → (stream : List ℕ) (given : List Item) → ShowsHearing old stream given → GivesCommandOf stream given (next.Ignored refusal) new
 skipped_given old new refusal gives stats stream given shows =
     let g = gives stream shows.frames shows.bytes in
     item_shown old new stream given g.0 (ignores refusal) shows (sym (ap (item_kept g.0) g.1)) g.2 stats
 
 -- all items were given, and this is the break behind them
-ended : (old new : Hearing) (stream : List ℕ) (given : List Item) (rest : List ℕ) (broken : Option Refusal) (shows : Shows old stream given)
-    → Splits stream shows.frames rest → break_of rest ≡ broken → wire.Shows new.bytes stream shows.frames → new.stats ≡ old.stats
-    → (given ≡ items_of stream) × (break_in stream ≡ broken) × Shows new stream given
+ended : (old new : Hearing) (stream : List ℕ) (given : List Item) (rest : List ℕ) (broken : Option Refusal) (shows : ShowsHearing old stream given)
+    → Splits stream shows.frames rest → break_of rest ≡ broken → wire.ShowsStream new.bytes stream shows.frames → new.stats ≡ old.stats
+    → (given ≡ items_of stream) × (break_in stream ≡ broken) × ShowsHearing new stream given
 ended old new stream given rest broken shows split broke bytes stats =
     let only = frames_in-only stream shows.frames rest split in (
       shows.items ∙ ap (map item_of) only.0,
@@ -65,14 +65,14 @@ ended old new stream given rest broken shows split broke bytes stats =
       record { frames = shows.frames; bytes = bytes; items = shows.items; stats = stats ∙ shows.stats },
     )
 
-pub more_given : (old new : Hearing) → taking.Gives old.bytes taken.More new.bytes → new.stats ≡ old.stats
-    → (stream : List ℕ) (given : List Item) → Shows old stream given → GivesOf stream given next.More new
+pub more_given : (old new : Hearing) → taking.GivesFrame old.bytes taken.More new.bytes → new.stats ≡ old.stats
+    → (stream : List ℕ) (given : List Item) → ShowsHearing old stream given → GivesCommandOf stream given next.More new
 more_given old new gives stats stream given shows =
     let g = gives stream shows.frames shows.bytes in
     ended old new stream given new.bytes.held None shows g.0 g.1 g.2 stats
 
-pub broken_given : (old new : Hearing) (refusal : Refusal) → taking.Gives old.bytes (taken.Broken refusal) new.bytes → new.stats ≡ old.stats
-    → (stream : List ℕ) (given : List Item) → Shows old stream given → GivesOf stream given (next.Broken refusal) new
+pub broken_given : (old new : Hearing) (refusal : Refusal) → taking.GivesFrame old.bytes (taken.Broken refusal) new.bytes → new.stats ≡ old.stats
+    → (stream : List ℕ) (given : List Item) → ShowsHearing old stream given → GivesCommandOf stream given (next.Broken refusal) new
 broken_given old new refusal gives stats stream given shows =
     let g = gives stream shows.frames shows.bytes in
     ended old new stream given g.0.0 (Some refusal) shows g.0.1 g.0.2 g.1 stats

@@ -2,14 +2,14 @@
 use Rattle.std.proofs.Common.{length-append, ◌≡◌, ℕ, zero, suc, ◌+◌, ◌<◌, ◌≤◌, All, List, [], ◌∷◌, ◌++◌, length, map, drop, get_or, slice_get, Option, Some, None, IfSome, true, if◌then◌else◌, refl, sym, ap, ap₂, ◌∙◌, arith}
 use Rattle.std.proofs.lemmas.List.{drop_more, append_assoc, length-map}
 use Rattle.pg_config.specs.Parts.{Part, Source, block_id}
-use Rattle.pg_data.specs.Shared.{Piece}
+use Rattle.pg_data.specs.Pieces.{Piece}
 use Rattle.pg_data.specs.Measurements.{Measurement, block_of}
 use Rattle.pg_align.specs.Slots.{Aligned}
 use Rattle.pg_session.specs.Events.{Sample, config_of, announced_part, announced_at, sampled_part, samples_at}
 use Rattle.pg_wire.specs.declared.ids.PmuKey.{PmuKey}
 use Rattle.pg_outcfg.specs.Listing.{Listing}
 use Rattle.pg_session.specs.Ready.{AreRising, ArePlaces, AreHeld}
-use Rattle.pg_session.specs.Streams.{StreamOf, Placed, with_place, placed}
+use Rattle.pg_session.specs.Streams.{StreamOf, PlacedBlock, with_place, placed}
 use Rattle.pg_session.specs.Fields.{AreListed}
 use Rattle.pg_session.specs.Wanted.{piece_of_placed, wanted_of, all_wanted}
 use Rattle.pg_session.proofs.Changing.{key_made}
@@ -66,7 +66,7 @@ pub places_within : (n : ℕ) (places : List ℕ) → ArePlaces n places → All
 places_within n places p = rising_within 0 n places p.rising
 
 -- no copy is wanted of a block that is no member's
-pub none_wanted : (rest others : List Placed) (o : Option ℕ) (piece : Piece) → rest ≡ with_place o piece others → length rest ≡ 0 → o ≡ None
+pub none_wanted : (rest others : List PlacedBlock) (o : Option ℕ) (piece : Piece) → rest ≡ with_place o piece others → length rest ≡ 0 → o ≡ None
 none_wanted rest others None piece e z = refl
 none_wanted rest others (Some place) piece e z = absurd (let n = ap length e in omega (arith, n, z))
 
@@ -74,7 +74,7 @@ pub empty_list : {X : Type 0} (xs : List X) → length xs ≡ 0 → xs ≡ []
 empty_list [] e = refl
 empty_list (x ∷ xs) e = absurd (omega (arith, e))
 
-pub none_left : (front before : List Piece) (rest whole : List Placed) → front ++ map piece_of_placed rest ≡ before ++ map piece_of_placed whole → whole ≡ []
+pub none_left : (front before : List Piece) (rest whole : List PlacedBlock) → front ++ map piece_of_placed rest ≡ before ++ map piece_of_placed whole → whole ≡ []
     → length before ≤ length front → length rest ≡ 0
 none_left front before rest whole e empty h =
     let a = length-append front (map piece_of_placed rest) in

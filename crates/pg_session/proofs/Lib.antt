@@ -15,6 +15,7 @@ pub mod Turning
 pub mod Fitting
 pub mod Shapes
 pub mod Granting
+pub mod Guessing
 pub mod Putting
 pub mod Laying
 pub mod Going

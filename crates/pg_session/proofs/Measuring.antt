@@ -9,22 +9,22 @@ use Rattle.pg_wire.specs.declared.refusal.Refusal.TheVariants.{BadFraction, Time
 use Rattle.pg_wire.specs.declared.ids.PmuKey.{PmuKey}
 use Rattle.pg_wire.specs.Keys.{key_eq}
 use Rattle.pg_config.specs.Parts.{Part}
-use Rattle.pg_data.specs.Measurements.{Measurement, IsMeasurement, resolution}
-use Rattle.pg_data.specs.Shared.{Piece}
+use Rattle.pg_data.specs.Measurements.{Measurement, IsMeasurement, resolution, block_of}
+use Rattle.pg_data.specs.Pieces.{Piece}
 use Rattle.pg_data.proofs.Sources.{resolution-shared}
 use Rattle.pg_stream.specs.Slots.{slot_at, number_at}
 use Rattle.pg_align.specs.Histories.{is_above}
 use Rattle.pg_align.specs.Slots.{Aligned, OpenSlot, part_at, put_into, opened, with_part, with_arrival}
 use Rattle.pg_outcfg.specs.Listing.{Listing, config_at}
 use Rattle.pg_outcfg.proofs.Orders.{same_key}
-use Rattle.pg_session.specs.Events.{Sample, sampled_part, samples_at}
-use Rattle.pg_session.specs.Streams.{StreamOf, Placed, place_of, with_place, placed, base_of, effective_in, still, arrive_all, arrival_turn, measure_turn}
+use Rattle.pg_session.specs.Events.{Sample, key_in, sampled_part, samples_at}
+use Rattle.pg_session.specs.Streams.{StreamOf, PlacedBlock, place_of, with_place, placed, base_of, effective_in, still, arrive_all, arrival_turn, measure_turn}
 use Rattle.pg_session.specs.Kept.{by_slots}
 use Rattle.pg_session.specs.Ready.{ArePlaces}
 use Rattle.pg_session.specs.Fields.{AreEffective, AreListed, AreTimed}
 
 -- a member whose key the CFG-1 list has is effective
-effective_step : (listed : Listing) (members : List PmuKey) (key : PmuKey) (piece : Piece) (ps : List Placed) (o : Option ℕ) → place_of members key ≡ o
+effective_step : (listed : Listing) (members : List PmuKey) (key : PmuKey) (piece : Piece) (ps : List PlacedBlock) (o : Option ℕ) → place_of members key ≡ o
     → IsTrue (is_some (config_at listed key)) → AreEffective (effective_in listed members) ps
     → AreEffective (effective_in listed members) (with_place o piece ps)
 effective_step listed members key piece ps None e h w = w
@@ -40,6 +40,20 @@ effective-placed listed members quality [] h = tt
 effective-placed listed members quality (s ∷ samples) h =
     effective_step listed members s.key (record { quality = quality; block = s.block }) (placed members quality samples) _ refl h.0
     (effective-placed listed members quality samples h.1)
+
+-- at most one placed block for each place
+place_few : (o : Option ℕ) (piece : Piece) (others : List PlacedBlock) (n : ℕ) → length others ≤ n → length (with_place o piece others) ≤ suc n
+place_few None piece others n h = omega (arith, h)
+place_few (Some place) piece others n h = omega (arith, h)
+
+part_few : (members : List PmuKey) (m : Measurement) (i : ℕ) (places : List ℕ) (n : ℕ) (o : Option Part) → length (placed members m.quality (samples_at m places)) ≤ n
+    → length (placed members m.quality (sampled_part m i o ++ samples_at m places)) ≤ suc n
+part_few members m i places n None h = omega (arith, h)
+part_few members m i places n (Some part) h = place_few (place_of members (key_in m.config part)) (record { quality = m.quality; block = block_of m i }) _ n h
+
+pub placed_few : (members : List PmuKey) (m : Measurement) (places : List ℕ) → length (placed members m.quality (samples_at m places)) ≤ length places
+placed_few members m [] = omega arith
+placed_few members m (i ∷ places) = part_few members m i places (length places) (slice_get m.config.parts i) (placed_few members m places)
 
 -- a block more: at most one slot more, and that one is the block's
 put_length : (fresh : OpenSlot Piece) (place : ℕ) (piece : Piece) (slots : List (OpenSlot Piece)) → length (with_part fresh place piece slots) ≤ length slots + 1
@@ -82,7 +96,7 @@ arrival_by rate a slot place piece true false e f t w =
       timed = put_timed rate (opened a slot place piece) place piece a.slots t w;
     }
 
-pub arrivals-keep : (rate : ℕ) (a : Aligned Piece) (slot : ℕ) (ps : List Placed) → slot / rate < 2 ^ 32 → AreTimed rate a.slots
+pub arrivals-keep : (rate : ℕ) (a : Aligned Piece) (slot : ℕ) (ps : List PlacedBlock) → slot / rate < 2 ^ 32 → AreTimed rate a.slots
     → Keeps rate (length ps) a (arrive_all by_slots a slot ps).slots
 arrivals-keep rate a slot [] t w = record { effective = refl; window = refl; longer = omega arith; timed = w }
 arrivals-keep rate a slot (p ∷ ps) t w =

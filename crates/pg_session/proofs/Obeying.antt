@@ -3,7 +3,7 @@ use Rattle.std.proofs.Common.{◌≡◌, ◌⊎◌, ℕ, ◌&&◌, ◌==◌, Lis
 use Rattle.std.proofs.lemmas.Bool.{eqb-true}
 use Rattle.pg_wire.specs.declared.refusal.Refusal.{Refusal}
 use Rattle.pg_wire.specs.declared.refusal.Refusal.TheVariants.{NoMemory, NoSuchStream, UnknownCommand, Unsupported, ReplyFull, NotConnected}
-use Rattle.pg_data.specs.Shared.{Piece}
+use Rattle.pg_data.specs.Pieces.{Piece}
 use Rattle.pg_align.specs.Slots.{Aligned, with_start}
 use Rattle.pg_outcfg.specs.Listing.{Listing}
 use Rattle.pg_ring.specs.Shown.{Queue}

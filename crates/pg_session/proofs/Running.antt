@@ -1,12 +1,12 @@
 -- Runs of private events, and what they are to the queue.
 use Rattle.std.proofs.Common.{◌≡◌, ◌⊎◌, ◌≤◌, MatchOption, ℕ, zero, suc, ◌-◌, ◌<◌, ◌&&◌, nat_le, List, [], ◌∷◌, ◌++◌, length, fold, Bool, true, false, if◌then◌else◌, Option, Some, None, option_map, inl, inr, refl, sym, ap, ap₂, ◌∙◌, arith}
 use Rattle.std.proofs.lemmas.List.{append_assoc}
-use Rattle.pg_data.specs.Shared.{Piece}
+use Rattle.pg_data.specs.Pieces.{Piece}
 use Rattle.pg_align.specs.Histories as align
 use Rattle.pg_entitle.specs.Grants.{has_key}
 use Rattle.pg_ring.specs.Numbers.{Numbered, none_made}
 use Rattle.pg_ring.specs.Fates as ring
-use Rattle.pg_ring.specs.Fates.{Call, History, longer, history_of, fates, one_if}
+use Rattle.pg_ring.specs.Fates.{Call, QueueHistory, longer, history_of, fates, one_if}
 use Rattle.pg_ring.proofs.Fates.{has_one_fate}
 use Rattle.pg_wire.specs.declared.refusal.Refusal.{Refusal}
 use Rattle.pg_wire.specs.declared.refusal.Refusal.TheVariants.{NoMemory}
@@ -58,7 +58,7 @@ frames_called kept [] out = refl
 frames_called zero (f ∷ frames) out = frames_called zero frames _
 frames_called (suc kept) (f ∷ frames) out = frames_called kept frames _
 
-turns_called : (kept : ℕ) (turns : List (Turn (align.History Piece))) (out : Output Numbered)
+turns_called : (kept : ℕ) (turns : List (Turn (align.StreamHistory Piece))) (out : Output Numbered)
     → (turns_taken by_numbers kept turns out).queue ≡ called out.queue (turn_calls kept turns)
 turns_called kept [] out = refl
 turns_called kept (turn ∷ turns) out =
@@ -122,7 +122,7 @@ run_called p (x ∷ xs) =
     ∙ sym (called_append p.output.queue (calls_of p x.0 x.1) (calls_in (next by_arrivals by_numbers p x.0 x.1) xs))
 
 -- a history's queue is what its calls make of it
-history_called : (h : History) (calls : List Call) → (fold longer h calls).now ≡ called h.now calls
+history_called : (h : QueueHistory) (calls : List Call) → (fold longer h calls).now ≡ called h.now calls
 history_called h [] = refl
 history_called h (call ∷ calls) = history_called (longer h call) calls
 

@@ -5,10 +5,10 @@ use Rattle.std.proofs.lemmas.List.Quantifiers.{position-Some}
 use Rattle.pg_wire.specs.declared.refusal.Refusal.{Refusal}
 use Rattle.pg_wire.specs.declared.ids.PmuKey.{PmuKey}
 use Rattle.pg_wire.specs.Keys.{key_eq}
-use Rattle.pg_data.specs.Shared.{Piece}
+use Rattle.pg_data.specs.Pieces.{Piece}
 use Rattle.pg_stream.specs.declared.definition.Definition.{Definition}
 use Rattle.pg_stream.specs.Slots.{slot_at}
-use Rattle.pg_align.specs.Histories.{History, Departures, is_above, flush_all}
+use Rattle.pg_align.specs.Histories.{StreamHistory, Departures, is_above, flush_all}
 use Rattle.pg_align.specs.Slots.{Aligned, OpenSlot, part_at, with_arrival, leaves_now, without_first, all_leaving_of, all_flushed_of, all_flushed}
 use Rattle.pg_align.specs.Shown as align
 use Rattle.pg_align.proofs.Histories.{Shows-arrival, Shows-tick, Shows-reshape}
@@ -17,13 +17,13 @@ use Rattle.pg_outcfg.specs.Listing.{Listing, config_at}
 use Rattle.pg_outcfg.specs.Frames.{changed}
 use Rattle.pg_session.specs.Events.{Sample}
 use Rattle.pg_session.specs.Shape.{same_shape, same_list}
-use Rattle.pg_session.specs.Streams.{StreamOf, Turn, Placed, Arrivals, place_of, with_place, placed, base_of, effective_in, is_late, is_twice, slot_frame, still, framed, reshape_turn, arrive_all, arrival_turn, measure_turn, tick_turn}
+use Rattle.pg_session.specs.Streams.{StreamOf, Turn, PlacedBlock, Arrivals, place_of, with_place, placed, base_of, effective_in, is_late, is_twice, slot_frame, still, framed, reshape_turn, arrive_all, arrival_turn, measure_turn, tick_turn}
 use Rattle.pg_session.specs.ByAll.{by_arrivals}
 use Rattle.pg_session.specs.Kept.{by_slots}
 use Rattle.pg_session.specs.Shown.{StreamShows}
 
 -- what the code makes of a stream shows what the model makes of it
-pub record TurnShows (t : Turn (Aligned Piece)) (u : Turn (History Piece)) : Type 0 where
+pub record TurnShows (t : Turn (Aligned Piece)) (u : Turn (StreamHistory Piece)) : Type 0 where
   pub stream : StreamShows t.stream u.stream
   pub frames : t.frames ≡ u.frames
   pub late : t.late ≡ u.late
@@ -35,16 +35,16 @@ abbrev pub stream_of : {A : Type 0} → Definition → A → ℕ → StreamOf A
 stream_of d a count = record { definition = d; slots = a; count = count }
 
 -- what holds of streams with one definition and one count holds of streams that show one another
-pub lifted : (Q : StreamOf (Aligned Piece) → StreamOf (History Piece) → Type 0)
-    → ((d : Definition) (a : Aligned Piece) (h : History Piece) (count : ℕ) → align.Shows a h → length a.effective ≡ length d.members
+pub lifted : (Q : StreamOf (Aligned Piece) → StreamOf (StreamHistory Piece) → Type 0)
+    → ((d : Definition) (a : Aligned Piece) (h : StreamHistory Piece) (count : ℕ) → align.Shows a h → length a.effective ≡ length d.members
     → Q (stream_of d a count) (stream_of d h count))
-    → (s : StreamOf (Aligned Piece)) (t : StreamOf (History Piece)) → StreamShows s t → Q s t
+    → (s : StreamOf (Aligned Piece)) (t : StreamOf (StreamHistory Piece)) → StreamShows s t → Q s t
 lifted Q f s t w =
     subst (λ d. Q s (stream_of d t.slots t.count)) w.definition
     (subst (λ count. Q s (stream_of s.definition t.slots count)) w.count
     (f s.definition s.slots t.slots s.count w.slots w.places))
 
-still-shows : (d : Definition) (a : Aligned Piece) (h : History Piece) (count : ℕ) → align.Shows a h → length a.effective ≡ length d.members
+still-shows : (d : Definition) (a : Aligned Piece) (h : StreamHistory Piece) (count : ℕ) → align.Shows a h → length a.effective ≡ length d.members
     → TurnShows (still (stream_of d a count)) (still (stream_of d h count))
 still-shows d a h count s n = record {
   stream = record { definition = refl; slots = s; places = n; count = refl };
@@ -69,8 +69,8 @@ pub flushed-effective : (a : Aligned Piece) (slots : List (OpenSlot Piece)) → 
 flushed-effective a [] = refl
 flushed-effective a (slot ∷ slots) = flushed-effective (without_first a (slot ∷ slots)) slots
 
-framed-shows : (listed : Listing) (d : Definition) (a : Aligned Piece) (h : History Piece) (count : ℕ)
-    (x : Departures Piece (Aligned Piece)) (y : Departures Piece (History Piece))
+framed-shows : (listed : Listing) (d : Definition) (a : Aligned Piece) (h : StreamHistory Piece) (count : ℕ)
+    (x : Departures Piece (Aligned Piece)) (y : Departures Piece (StreamHistory Piece))
     → x.frames ≡ y.frames → align.Shows x.after y.after → length x.after.effective ≡ length d.members
     → TurnShows (framed by_slots listed (stream_of d a count) x) (framed by_arrivals listed (stream_of d h count) y)
 framed-shows listed d a h count x y frames after n = record {
@@ -82,7 +82,7 @@ framed-shows listed d a h count x y frames after n = record {
 }
 
 -- The CFG-1 list becomes another one.
-reshape_by : (listed other : Listing) (d : Definition) (a : Aligned Piece) (h : History Piece) (count counted : ℕ) → align.Shows a h
+reshape_by : (listed other : Listing) (d : Definition) (a : Aligned Piece) (h : StreamHistory Piece) (count counted : ℕ) → align.Shows a h
     → length a.effective ≡ length d.members → (b : Bool) → same_shape d.members listed other ≡ b
     → (if same_list listed other then count else changed count) ≡ counted
     → TurnShows (reshape_turn by_slots listed other (stream_of d a count)) (reshape_turn by_arrivals listed other (stream_of d h count))
@@ -101,18 +101,18 @@ reshape_by listed other d a h count counted s n false e c =
       past = refl;
     }
 
-pub reshape-shows : (listed other : Listing) (s : StreamOf (Aligned Piece)) (t : StreamOf (History Piece)) → StreamShows s t
+pub reshape-shows : (listed other : Listing) (s : StreamOf (Aligned Piece)) (t : StreamOf (StreamHistory Piece)) → StreamShows s t
     → TurnShows (reshape_turn by_slots listed other s) (reshape_turn by_arrivals listed other t)
 reshape-shows listed other =
     lifted (λ s t. TurnShows (reshape_turn by_slots listed other s) (reshape_turn by_arrivals listed other t))
     (λ d a h count s n. reshape_by listed other d a h count _ s n _ refl refl)
 
 -- each place is a member's
-abbrev pub AreWithin : ℕ → List Placed → Type 0
+abbrev pub AreWithin : ℕ → List PlacedBlock → Type 0
 AreWithin n [] = Unit {0}
 AreWithin n (p ∷ ps) = (p.place < n) × AreWithin n ps
 
-placed_step : (members : List PmuKey) (key : PmuKey) (piece : Piece) (ps : List Placed) (o : Option ℕ) → place_of members key ≡ o
+placed_step : (members : List PmuKey) (key : PmuKey) (piece : Piece) (ps : List PlacedBlock) (o : Option ℕ) → place_of members key ≡ o
     → AreWithin (length members) ps → AreWithin (length members) (with_place o piece ps)
 placed_step members key piece ps None e h = h
 placed_step members key piece ps (Some place) e h = ((position-Some (λ m. key_eq m key) members place key e).0, h)
@@ -130,13 +130,13 @@ arrived_by a slot place piece true true e f = rw (e, f) (refl, refl)
 arrived_by a slot place piece true false e f = rw (e, f) (refl, refl)
 
 -- blocks arrive one after another
-pub record ArrivalsShow (d : Definition) (x : Arrivals (Aligned Piece)) (y : Arrivals (History Piece)) : Type 0 where
+pub record ArrivalsShow (d : Definition) (x : Arrivals (Aligned Piece)) (y : Arrivals (StreamHistory Piece)) : Type 0 where
   pub slots : align.Shows x.slots y.slots
   pub places : length x.slots.effective ≡ length d.members
   pub late : x.late ≡ y.late
   pub twice : x.twice ≡ y.twice
 
-arrivals-show : (d : Definition) (a : Aligned Piece) (h : History Piece) (slot : ℕ) (ps : List Placed) → align.Shows a h → IsTrue a.is_on
+arrivals-show : (d : Definition) (a : Aligned Piece) (h : StreamHistory Piece) (slot : ℕ) (ps : List PlacedBlock) → align.Shows a h → IsTrue a.is_on
     → length a.effective ≡ length d.members → AreWithin (length d.members) ps
     → ArrivalsShow d (arrive_all by_slots a slot ps) (arrive_all by_arrivals h slot ps)
 arrivals-show d a h slot [] s on n w = record { slots = s; places = n; late = refl; twice = refl }
@@ -151,7 +151,7 @@ arrivals-show d a h slot (p ∷ ps) s on n w =
       twice = ap₂ (λ answer k. is_twice answer + k) here.0 rest.twice;
     }
 
-arrival_by : (listed : Listing) (d : Definition) (a : Aligned Piece) (h : History Piece) (count : ℕ) (blocks : List Placed) (slot : Result ℕ Refusal)
+arrival_by : (listed : Listing) (d : Definition) (a : Aligned Piece) (h : StreamHistory Piece) (count : ℕ) (blocks : List PlacedBlock) (slot : Result ℕ Refusal)
     → align.Shows a h → IsTrue a.is_on → length a.effective ≡ length d.members → AreWithin (length d.members) blocks
     → TurnShows (arrival_turn by_slots listed (stream_of d a count) blocks slot) (arrival_turn by_arrivals listed (stream_of d h count) blocks slot)
 arrival_by listed d a h count blocks (Err r) s on n w = record {
@@ -176,7 +176,7 @@ arrival_by listed d a h count blocks (Ok slot) s on n w =
       past = refl;
     }
 
-same_on : (a : Aligned Piece) (h : History Piece) → align.Shows a h → a.is_on ≡ h.is_on
+same_on : (a : Aligned Piece) (h : StreamHistory Piece) → align.Shows a h → a.is_on ≡ h.is_on
 same_on a h s = ap (λ (b : Aligned Piece). b.is_on) s.same
 
 and_first : (b c : Bool) → (b && c) ≡ true → IsTrue b
@@ -184,14 +184,14 @@ and_first true c e = refl
 and_first false c e = absurd (cc e)
 
 -- one turn or another, by the same test
-turn_by : (b c : Bool) (x u : Turn (Aligned Piece)) (y v : Turn (History Piece)) → b ≡ c → (b ≡ true → TurnShows x y) → TurnShows u v
+turn_by : (b c : Bool) (x u : Turn (Aligned Piece)) (y v : Turn (StreamHistory Piece)) → b ≡ c → (b ≡ true → TurnShows x y) → TurnShows u v
     → TurnShows (if b then x else u) (if c then y else v)
 turn_by true true x u y v e t f = t refl
 turn_by false false x u y v e t f = f
 turn_by true false x u y v e t f = absurd (cc e)
 turn_by false true x u y v e t f = absurd (cc e)
 
-pub measure-shows : (listed : Listing) (soc quality frac : ℕ) (samples : List Sample) (s : StreamOf (Aligned Piece)) (t : StreamOf (History Piece)) → StreamShows s t
+pub measure-shows : (listed : Listing) (soc quality frac : ℕ) (samples : List Sample) (s : StreamOf (Aligned Piece)) (t : StreamOf (StreamHistory Piece)) → StreamShows s t
     → TurnShows (measure_turn by_slots listed soc quality frac samples s) (measure_turn by_arrivals listed soc quality frac samples t)
 measure-shows listed soc quality frac samples =
     lifted (λ s t. TurnShows (measure_turn by_slots listed soc quality frac samples s) (measure_turn by_arrivals listed soc quality frac samples t))
@@ -206,14 +206,14 @@ measure-shows listed soc quality frac samples =
     (λ e. arrival_by listed d a h count blocks slot s (and_first a.is_on some e) n (placed-within d.members quality samples))
     (still-shows d a h count s n))
 
-ticked-shows : (listed : Listing) (d : Definition) (a : Aligned Piece) (h : History Piece) (count : ℕ) → align.Shows a h → length a.effective ≡ length d.members
+ticked-shows : (listed : Listing) (d : Definition) (a : Aligned Piece) (h : StreamHistory Piece) (count : ℕ) → align.Shows a h → length a.effective ≡ length d.members
     → TurnShows (framed by_slots listed (stream_of d a count) (by_slots.leave (by_slots.tick a)))
     (framed by_arrivals listed (stream_of d h count) (by_arrivals.leave (by_arrivals.tick h)))
 ticked-shows listed d a h count s n =
     let ticked = Shows-tick a h s in
     framed-shows listed d a h count _ _ (Shows-frames _ _ ticked) (Shows-end _ _ ticked) (ap length (leaving-effective _ _) ∙ n)
 
-pub tick-shows : (listed : Listing) (s : StreamOf (Aligned Piece)) (t : StreamOf (History Piece)) → StreamShows s t
+pub tick-shows : (listed : Listing) (s : StreamOf (Aligned Piece)) (t : StreamOf (StreamHistory Piece)) → StreamShows s t
     → TurnShows (tick_turn by_slots listed s) (tick_turn by_arrivals listed t)
 tick-shows listed =
     lifted (λ s t. TurnShows (tick_turn by_slots listed s) (tick_turn by_arrivals listed t))

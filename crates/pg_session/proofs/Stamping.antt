@@ -12,21 +12,21 @@ use Rattle.pg_wire.specs.declared.ids.PmuKey.{PmuKey}
 use Rattle.pg_wire.specs.Head.{head_of, Heading, frame_of}
 use Rattle.pg_wire.specs.Stream.{joined}
 use Rattle.pg_config.specs.Parts.{Part}
-use Rattle.pg_data.specs.Shared.{Piece}
+use Rattle.pg_data.specs.Pieces.{Piece}
 use Rattle.pg_entitle.specs.Grants.{has_key}
 use Rattle.pg_stream.specs.declared.definition.Definition.{Definition}
 use Rattle.pg_stream.specs.Limits.{HasNumbers, is_within_limits}
 use Rattle.pg_stream.specs.Slots.{IsBefore, slot_at, stamp_at, numerator_at}
 use Rattle.pg_stream.proofs.Nearest.{stamp_at_is, numerator_below, stamps_rise}
 use Rattle.pg_stream.proofs.Within.{decides_limits}
-use Rattle.pg_align.specs.Histories.{Departed, History, RiseTo, slot_left, is_above, arrived, open_numbers, leave_all, flush_all, flush_in_turn, take_arrival, keep_arrival, ticked}
+use Rattle.pg_align.specs.Histories.{Departed, StreamHistory, RiseTo, slot_left, is_above, arrived, open_numbers, leave_all, flush_all, flush_in_turn, take_arrival, keep_arrival, ticked}
 use Rattle.pg_align.proofs.Rising.{AreSo, CameFor, leaving-rises, flushing-rises, leaving-so, flushing-so, leaving-stays, flushing-stays}
 use Rattle.pg_outcfg.specs.Listing.{Listing}
 use Rattle.pg_outcfg.specs.Quality.{joined_quality}
 use Rattle.pg_outcfg.specs.Frames.{data_blocks, data_heading, qualities_of}
 use Rattle.pg_session.specs.Events.{Happening, Sample, grant, revoke, announce, measure, define, remove, tick, connect, hangup, command, drain}
 use Rattle.pg_session.specs.Shape.{same_shape}
-use Rattle.pg_session.specs.Streams.{StreamOf, Turn, Placed, placed, base_of, slot_frame, still, framed, reshape_turn, arrive_all, arrival_turn, measure_turn, tick_turn}
+use Rattle.pg_session.specs.Streams.{StreamOf, Turn, PlacedBlock, placed, base_of, slot_frame, still, framed, reshape_turn, arrive_all, arrival_turn, measure_turn, tick_turn}
 use Rattle.pg_session.specs.Private.{Told, done, refused, handed, May, next, refusal, effect, refuse, refused_at, turns_of, stream_at, stopped, started as start_stream, switched, at_stream, defined, put_first, with_refusal}
 use Rattle.pg_session.specs.ByAll.{by_arrivals, by_numbers}
 use Rattle.pg_session.specs.Shown.{Model, begin}
@@ -34,10 +34,10 @@ use Rattle.pg_session.specs.Laws.{Run, after}
 use Rattle.pg_session.specs.Stamps.{IsLegal, made_of, made_at, made_in, StaysOn, IsFrameOf, AreOfRisingSlots, stamp_in}
 
 abbrev OneStream : Type 0
-OneStream = StreamOf (History Piece)
+OneStream = StreamOf (StreamHistory Piece)
 
 abbrev OneTurn : Type 0
-OneTurn = Turn (History Piece)
+OneTurn = Turn (StreamHistory Piece)
 
 -- the second of a slot is one that SOC can tell
 abbrev IsTimed : ℕ → ℕ → Type 0
@@ -81,7 +81,7 @@ on_off : (b : Bool) → b ≡ true → b ≡ false → ⊥
 on_off true e f = cc f
 on_off false e f = cc e
 
-left_goes : (listed : Listing) (s : OneStream) (h : History Piece) → HasNumbers s.definition → h.last ≡ s.slots.last → s.slots.is_on ≡ true → h.is_on ≡ true
+left_goes : (listed : Listing) (s : OneStream) (h : StreamHistory Piece) → HasNumbers s.definition → h.last ≡ s.slots.last → s.slots.is_on ≡ true → h.is_on ≡ true
     → CameFor (IsTimed s.definition.rate) h.arrivals
     → Goes s (framed by_arrivals listed s (leave_all h)).stream (framed by_arrivals listed s (leave_all h)).frames
 left_goes listed s h numbers same on still_on came = record {
@@ -107,12 +107,12 @@ tick_goes listed s sound = by s.slots.is_on refl
     by false on = still_goes s sound
 
 -- an arrival keeps the last slot that left and the switch
-record Keeps (P : ℕ → Type 0) (h after : History Piece) : Type 0 where
+record Keeps (P : ℕ → Type 0) (h after : StreamHistory Piece) : Type 0 where
   pub last : after.last ≡ h.last
   pub is_on : after.is_on ≡ h.is_on
   pub came : CameFor P after.arrivals
 
-take_keeps : (P : ℕ → Type 0) (h : History Piece) (slot place : ℕ) (part : Piece) → P slot → CameFor P h.arrivals → Keeps P h (take_arrival h slot place part)
+take_keeps : (P : ℕ → Type 0) (h : StreamHistory Piece) (slot place : ℕ) (part : Piece) → P slot → CameFor P h.arrivals → Keeps P h (take_arrival h slot place part)
 take_keeps P h slot place part is came = by (is_above h.last slot) (is_some (arrived h.arrivals slot place))
   where
     by : (a b : Bool) → Keeps P h (if not a then h else (if b then h else keep_arrival h slot place part))
@@ -120,7 +120,7 @@ take_keeps P h slot place part is came = by (is_above h.last slot) (is_some (arr
     by true true = record { last = refl; is_on = refl; came = came }
     by true false = record { last = refl; is_on = refl; came = (is, came) }
 
-arrive_keeps : (P : ℕ → Type 0) (h : History Piece) (slot : ℕ) (ps : List Placed) → P slot → CameFor P h.arrivals → Keeps P h (arrive_all by_arrivals h slot ps).slots
+arrive_keeps : (P : ℕ → Type 0) (h : StreamHistory Piece) (slot : ℕ) (ps : List PlacedBlock) → P slot → CameFor P h.arrivals → Keeps P h (arrive_all by_arrivals h slot ps).slots
 arrive_keeps P h slot [] is came = record { last = refl; is_on = refl; came = came }
 arrive_keeps P h slot (p ∷ ps) is came =
     let one = take_keeps P h slot p.place p.piece is came in
@@ -138,7 +138,7 @@ measure_goes : (listed : Listing) (soc quality frac : ℕ) (samples : List Sampl
     → Goes s (measure_turn by_arrivals listed soc quality frac samples s).stream (measure_turn by_arrivals listed soc quality frac samples s).frames
 measure_goes listed soc quality frac samples s sound = by (s.slots.is_on && nat_lt 0 (length blocks)) refl
   where
-    blocks : List Placed
+    blocks : List PlacedBlock
     blocks = placed s.definition.members quality samples
 
     at : (o : Result ℕ Refusal) → slot_at s.definition.rate (base_of samples) soc frac ≡ o → s.slots.is_on ≡ true
@@ -583,7 +583,7 @@ sound_after : (p : Model) (xs : Run) → AreSound p.streams → IsLegal p xs →
 sound_after p [] w legal = w
 sound_after p (x ∷ xs) w legal = sound_after (next by_arrivals by_numbers p x.0 x.1) xs (next_sound p x.0 x.1 legal.0 w) legal.1
 
-pub slots-rise : (size limit : ℕ) (last : Option ℕ) (before run : Run) (number : ℕ) (s : StreamOf (History Piece))
+pub slots-rise : (size limit : ℕ) (last : Option ℕ) (before run : Run) (number : ℕ) (s : StreamOf (StreamHistory Piece))
     → IsLegal (begin size limit last) (before ++ run) → stream_at (after (begin size limit last) before).streams number ≡ Some s
     → StaysOn number (after (begin size limit last) before) run
     → AreOfRisingSlots s.definition s.slots.last (made_in number (after (begin size limit last) before) run)
@@ -623,7 +623,7 @@ made_off p e (done made kept) number s w found off = turns_off p e number s w fo
 made_off p e (refused r) number s w found off = refl
 made_off p e (handed bytes begun gap) number s w found off = turns_off p e number s w found off
 
-pub off-makes_none : (size limit : ℕ) (last : Option ℕ) (before : Run) (number : ℕ) (s : StreamOf (History Piece)) (e : Happening) (r : Told)
+pub off-makes_none : (size limit : ℕ) (last : Option ℕ) (before : Run) (number : ℕ) (s : StreamOf (StreamHistory Piece)) (e : Happening) (r : Told)
     → IsLegal (begin size limit last) before → stream_at (after (begin size limit last) before).streams number ≡ Some s
     → s.slots.is_on ≡ false → made_at number (after (begin size limit last) before) e r ≡ []
 off-makes_none size limit last before number s e r legal found off =

@@ -1,8 +1,8 @@
 -- How a subscriber stands is the same of what is kept and of the model that it shows.
 use Rattle.std.proofs.Common.{◌≡◌, ℕ, zero, suc, List, [], ◌∷◌, length, slice_get, option_map, Option, Some, refl, ap, ap₂, ◌∙◌, Bool}
-use Rattle.pg_data.specs.Shared.{Piece}
+use Rattle.pg_data.specs.Pieces.{Piece}
 use Rattle.pg_stream.specs.declared.definition.Definition.{Definition}
-use Rattle.pg_align.specs.Histories.{History}
+use Rattle.pg_align.specs.Histories.{StreamHistory}
 use Rattle.pg_align.specs.Slots.{Aligned}
 use Rattle.pg_outcfg.specs.Frames.{effective_of}
 use Rattle.pg_outcfg.specs.Listing.{Listing}
@@ -15,7 +15,7 @@ use Rattle.pg_session.specs.ByAll.{by_arrivals}
 use Rattle.pg_session.specs.Kept.{by_slots}
 use Rattle.pg_session.specs.Standing.{stream_standing, standing_of, own_standing}
 
-same_stream : (listed : Listing) (s : StreamOf (Aligned Piece)) (t : StreamOf (History Piece)) → StreamShows s t
+same_stream : (listed : Listing) (s : StreamOf (Aligned Piece)) (t : StreamOf (StreamHistory Piece)) → StreamShows s t
     → stream_standing by_slots listed s ≡ stream_standing by_arrivals listed t
 same_stream listed s t shows =
     let stands : Definition → Bool → StreamStanding = λ d on. record {
@@ -26,7 +26,7 @@ same_stream listed s t shows =
     } in
     ap₂ stands shows.definition (ap (λ a. a.is_on) shows.slots.same)
 
-same_place : (listed : Listing) (ss : List (StreamOf (Aligned Piece))) (ts : List (StreamOf (History Piece))) (place : ℕ) → StreamsShow ss ts
+same_place : (listed : Listing) (ss : List (StreamOf (Aligned Piece))) (ts : List (StreamOf (StreamHistory Piece))) (place : ℕ) → StreamsShow ss ts
     → option_map (stream_standing by_slots listed) (slice_get ss place) ≡ option_map (stream_standing by_arrivals listed) (slice_get ts place)
 same_place listed [] [] place shows = refl
 same_place listed (s ∷ ss) (t ∷ ts) zero shows = ap Some (same_stream listed s t shows.0)

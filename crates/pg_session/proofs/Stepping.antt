@@ -6,10 +6,10 @@ use Rattle.pg_wire.specs.declared.refusal.Refusal.{Refusal}
 use Rattle.pg_wire.specs.declared.refusal.Refusal.TheVariants.{NoMemory, NoSuchStream, UnknownCommand, Unsupported, ReplyFull, StreamExists, StreamsFull, BadDefinition, NotConnected}
 use Rattle.pg_wire.specs.Number.{number_of}
 use Rattle.pg_wire.specs.declared.ids.PmuKey.{PmuKey}
-use Rattle.pg_data.specs.Shared.{Piece}
+use Rattle.pg_data.specs.Pieces.{Piece}
 use Rattle.pg_stream.specs.declared.definition.Definition.{Definition}
 use Rattle.pg_stream.specs.Limits.{is_within_limits}
-use Rattle.pg_align.specs.Histories.{History}
+use Rattle.pg_align.specs.Histories.{StreamHistory}
 use Rattle.pg_align.specs.Slots.{Aligned}
 use Rattle.pg_align.specs.Shown as align
 use Rattle.pg_align.proofs.Histories.{Shows-start, Shows-discard, Shows-reshape, Shows-opening}
@@ -36,7 +36,7 @@ use Rattle.pg_session.proofs.Simulating.{TurnShows, reshape-shows, measure-shows
 
 -- the queue and the counters show those of the model
 pub record OutputShows (o : Output Queue) (p : Output Numbered) : Type 0 where
-  pub queue : ring.Shows o.queue p.queue
+  pub queue : ring.ShowsNumbered o.queue p.queue
   pub stats : o.stats ≡ p.stats
 
 dropped_by_test : (m : Numbered) (frame : List ℕ) (b : Bool) → nat_le (length frame) m.byte_limit ≡ b
@@ -44,7 +44,7 @@ dropped_by_test : (m : Numbered) (frame : List ℕ) (b : Bool) → nat_le (lengt
 dropped_by_test m frame true e = rw (e, length_push m.queue (length m.made + 1)) refl
 dropped_by_test m frame false e = rw e (omega arith)
 
-dropped-shows : (queue : Queue) (m : Numbered) (frame : List ℕ) → ring.Shows queue m → by_gaps.dropped queue frame ≡ by_numbers.dropped m frame
+dropped-shows : (queue : Queue) (m : Numbered) (frame : List ℕ) → ring.ShowsNumbered queue m → by_gaps.dropped queue frame ≡ by_numbers.dropped m frame
 dropped-shows queue m frame h =
     let before : length queue.frames ≡ length m.queue = ap (λ (q : Queue). length q.frames) h.same ∙ length-with_gaps m.made m.mark m.queue in
     let new = push_made m frame in
@@ -71,13 +71,13 @@ frames-show zero (frame ∷ frames) o p h = frames-show zero frames _ _ (lost-sh
 frames-show (suc kept) (frame ∷ frames) o p h = frames-show kept frames _ _ (kept-shows o p frame h)
 
 -- turns, one for each stream
-abbrev TurnsShow : List (Turn (Aligned Piece)) → List (Turn (History Piece)) → Type 0
+abbrev TurnsShow : List (Turn (Aligned Piece)) → List (Turn (StreamHistory Piece)) → Type 0
 TurnsShow [] [] = Unit {0}
 TurnsShow (t ∷ ts) (u ∷ us) = TurnShows t u × TurnsShow ts us
 TurnsShow [] (u ∷ us) = ⊥
 TurnsShow (t ∷ ts) [] = ⊥
 
-ignored-shows : (t : Turn (Aligned Piece)) (u : Turn (History Piece)) (o : Output Queue) (p : Output Numbered) → TurnShows t u → OutputShows o p
+ignored-shows : (t : Turn (Aligned Piece)) (u : Turn (StreamHistory Piece)) (o : Output Queue) (p : Output Numbered) → TurnShows t u → OutputShows o p
     → OutputShows (ignored by_gaps t o) (ignored by_numbers u p)
 ignored-shows t u o p w h = record {
   queue = h.queue;
@@ -87,7 +87,7 @@ ignored-shows t u o p w h = record {
       ∙ ap₂ (λ n k. all_ignored u.late n k p.stats) w.twice w.past;
 }
 
-turns-show : (kept : ℕ) (ts : List (Turn (Aligned Piece))) (us : List (Turn (History Piece))) (o : Output Queue) (p : Output Numbered)
+turns-show : (kept : ℕ) (ts : List (Turn (Aligned Piece))) (us : List (Turn (StreamHistory Piece))) (o : Output Queue) (p : Output Numbered)
     → TurnsShow ts us → OutputShows o p → OutputShows (turns_taken by_gaps kept ts o) (turns_taken by_numbers kept us p)
 turns-show kept [] [] o p w h = h
 turns-show kept [] (u ∷ us) o p w h = absurd w
@@ -100,31 +100,31 @@ turns-show kept (t ∷ ts) (u ∷ us) o p w h =
     (turns_taken by_numbers (kept - length frames) us (frames_made by_numbers kept frames (ignored by_numbers u p)))) same taken
 
 -- lists of streams
-turns-map : (f : StreamOf (Aligned Piece) → Turn (Aligned Piece)) (g : StreamOf (History Piece) → Turn (History Piece))
-    → ((s : StreamOf (Aligned Piece)) (t : StreamOf (History Piece)) → StreamShows s t → TurnShows (f s) (g t))
-    → (ss : List (StreamOf (Aligned Piece))) (ts : List (StreamOf (History Piece))) → StreamsShow ss ts → TurnsShow (map f ss) (map g ts)
+turns-map : (f : StreamOf (Aligned Piece) → Turn (Aligned Piece)) (g : StreamOf (StreamHistory Piece) → Turn (StreamHistory Piece))
+    → ((s : StreamOf (Aligned Piece)) (t : StreamOf (StreamHistory Piece)) → StreamShows s t → TurnShows (f s) (g t))
+    → (ss : List (StreamOf (Aligned Piece))) (ts : List (StreamOf (StreamHistory Piece))) → StreamsShow ss ts → TurnsShow (map f ss) (map g ts)
 turns-map f g each [] [] w = tt
 turns-map f g each [] (t ∷ ts) w = absurd w
 turns-map f g each (s ∷ ss) [] w = absurd w
 turns-map f g each (s ∷ ss) (t ∷ ts) w = (each s t w.0, turns-map f g each ss ts w.1)
 
-streams-map : (f : StreamOf (Aligned Piece) → StreamOf (Aligned Piece)) (g : StreamOf (History Piece) → StreamOf (History Piece))
-    → ((s : StreamOf (Aligned Piece)) (t : StreamOf (History Piece)) → StreamShows s t → StreamShows (f s) (g t))
-    → (ss : List (StreamOf (Aligned Piece))) (ts : List (StreamOf (History Piece))) → StreamsShow ss ts → StreamsShow (map f ss) (map g ts)
+streams-map : (f : StreamOf (Aligned Piece) → StreamOf (Aligned Piece)) (g : StreamOf (StreamHistory Piece) → StreamOf (StreamHistory Piece))
+    → ((s : StreamOf (Aligned Piece)) (t : StreamOf (StreamHistory Piece)) → StreamShows s t → StreamShows (f s) (g t))
+    → (ss : List (StreamOf (Aligned Piece))) (ts : List (StreamOf (StreamHistory Piece))) → StreamsShow ss ts → StreamsShow (map f ss) (map g ts)
 streams-map f g each [] [] w = tt
 streams-map f g each [] (t ∷ ts) w = absurd w
 streams-map f g each (s ∷ ss) [] w = absurd w
 streams-map f g each (s ∷ ss) (t ∷ ts) w = (each s t w.0, streams-map f g each ss ts w.1)
 
-turned-streams : (ts : List (Turn (Aligned Piece))) (us : List (Turn (History Piece))) → TurnsShow ts us
-    → StreamsShow (map (λ (t : Turn (Aligned Piece)). t.stream) ts) (map (λ (u : Turn (History Piece)). u.stream) us)
+turned-streams : (ts : List (Turn (Aligned Piece))) (us : List (Turn (StreamHistory Piece))) → TurnsShow ts us
+    → StreamsShow (map (λ (t : Turn (Aligned Piece)). t.stream) ts) (map (λ (u : Turn (StreamHistory Piece)). u.stream) us)
 turned-streams [] [] w = tt
 turned-streams [] (u ∷ us) w = absurd w
 turned-streams (t ∷ ts) [] w = absurd w
 turned-streams (t ∷ ts) (u ∷ us) w = (w.0.stream, turned-streams ts us w.1)
 
-turned-frames : (ts : List (Turn (Aligned Piece))) (us : List (Turn (History Piece))) → TurnsShow ts us
-    → flat_map (λ (t : Turn (Aligned Piece)). t.frames) ts ≡ flat_map (λ (u : Turn (History Piece)). u.frames) us
+turned-frames : (ts : List (Turn (Aligned Piece))) (us : List (Turn (StreamHistory Piece))) → TurnsShow ts us
+    → flat_map (λ (t : Turn (Aligned Piece)). t.frames) ts ≡ flat_map (λ (u : Turn (StreamHistory Piece)). u.frames) us
 turned-frames [] [] w = refl
 turned-frames [] (u ∷ us) w = absurd w
 turned-frames (t ∷ ts) [] w = absurd w
@@ -136,8 +136,8 @@ own_of c g l s t streams queue =
     record { connected = c; grants = g; listed = l; streams = streams; output = record { queue = queue; stats = s }; last_tick = t }
 
 lifted_own : (P : Own → Model → Type 0)
-    → ((c : Bool) (g : List PmuKey) (l : Listing) (s : Stats) (t : Option ℕ) (ss : List (StreamOf (Aligned Piece))) (ts : List (StreamOf (History Piece)))
-    (q : Queue) (m : Numbered) → StreamsShow ss ts → ring.Shows q m → P (own_of c g l s t ss q) (own_of c g l s t ts m))
+    → ((c : Bool) (g : List PmuKey) (l : Listing) (s : Stats) (t : Option ℕ) (ss : List (StreamOf (Aligned Piece))) (ts : List (StreamOf (StreamHistory Piece)))
+    (q : Queue) (m : Numbered) → StreamsShow ss ts → ring.ShowsNumbered q m → P (own_of c g l s t ss q) (own_of c g l s t ts m))
     → (v : Own) (p : Model) → OwnShows v p → P v p
 lifted_own P f v p w =
     subst (λ c. P v (own_of c p.grants p.listed p.output.stats p.last_tick p.streams p.output.queue)) w.connected
@@ -147,20 +147,20 @@ lifted_own P f v p w =
     (subst (λ t. P v (own_of v.connected v.grants v.listed v.output.stats t p.streams p.output.queue)) w.last_tick
     (f v.connected v.grants v.listed v.output.stats v.last_tick v.streams p.streams v.output.queue p.output.queue w.streams w.queue)))))
 
-shows_of : (c : Bool) (g : List PmuKey) (l : Listing) (s : Stats) (t : Option ℕ) (ss : List (StreamOf (Aligned Piece))) (ts : List (StreamOf (History Piece)))
+shows_of : (c : Bool) (g : List PmuKey) (l : Listing) (s : Stats) (t : Option ℕ) (ss : List (StreamOf (Aligned Piece))) (ts : List (StreamOf (StreamHistory Piece)))
     (o : Output Queue) (p : Output Numbered) → StreamsShow ss ts → OutputShows o p
     → OwnShows (record { connected = c; grants = g; listed = l; streams = ss; output = o; last_tick = t })
     (record { connected = c; grants = g; listed = l; streams = ts; output = p; last_tick = t })
 shows_of c g l s t ss ts o p w h =
     record { connected = refl; grants = refl; listed = refl; streams = w; queue = h.queue; stats = h.stats; last_tick = refl }
 
-still-each : (s : StreamOf (Aligned Piece)) (t : StreamOf (History Piece)) → StreamShows s t → TurnShows (still s) (still t)
+still-each : (s : StreamOf (Aligned Piece)) (t : StreamOf (StreamHistory Piece)) → StreamShows s t → TurnShows (still s) (still t)
 still-each s t w = record { stream = w; frames = refl; late = refl; twice = refl; past = refl }
 
 abbrev TurnsOf : Happening → Own → Model → Type 0
 TurnsOf e v p = TurnsShow (private.turns_of by_slots by_gaps v e) (private.turns_of by_arrivals by_numbers p e)
 
-grant_turns : (b : Bool) (l other : Listing) (ss : List (StreamOf (Aligned Piece))) (ts : List (StreamOf (History Piece))) → StreamsShow ss ts
+grant_turns : (b : Bool) (l other : Listing) (ss : List (StreamOf (Aligned Piece))) (ts : List (StreamOf (StreamHistory Piece))) → StreamsShow ss ts
     → TurnsShow (if b then map still ss else map (reshape_turn by_slots l other) ss) (if b then map still ts else map (reshape_turn by_arrivals l other) ts)
 grant_turns true l other ss ts w = turns-map still still still-each ss ts w
 grant_turns false l other ss ts w = turns-map _ _ (reshape-shows l other) ss ts w
@@ -203,13 +203,13 @@ turned_shown e kept v p w =
     }
 
 -- the stream of a number
-found_step : (s : StreamOf (Aligned Piece)) (t : StreamOf (History Piece)) (ss : List (StreamOf (Aligned Piece))) (ts : List (StreamOf (History Piece))) (number : ℕ)
+found_step : (s : StreamOf (Aligned Piece)) (t : StreamOf (StreamHistory Piece)) (ss : List (StreamOf (Aligned Piece))) (ts : List (StreamOf (StreamHistory Piece))) (number : ℕ)
     (b : Bool) → is_some (stream_at ss number) ≡ is_some (stream_at ts number)
     → is_some (if b then Some s else stream_at ss number) ≡ is_some (if b then Some t else stream_at ts number)
 found_step s t ss ts number true e = refl
 found_step s t ss ts number false e = e
 
-stream_found : (ss : List (StreamOf (Aligned Piece))) (ts : List (StreamOf (History Piece))) (number : ℕ) → StreamsShow ss ts
+stream_found : (ss : List (StreamOf (Aligned Piece))) (ts : List (StreamOf (StreamHistory Piece))) (number : ℕ) → StreamsShow ss ts
     → is_some (stream_at ss number) ≡ is_some (stream_at ts number)
 stream_found [] [] number w = refl
 stream_found [] (t ∷ ts) number w = absurd w
@@ -218,13 +218,13 @@ stream_found (s ∷ ss) (t ∷ ts) number w =
     found_step s t ss ts number (s.definition.stream == number) (stream_found ss ts number w.1)
     ∙ ap (λ (d : Definition). is_some (if d.stream == number then Some t else stream_at ts number)) w.0.definition
 
-streams-length : (ss : List (StreamOf (Aligned Piece))) (ts : List (StreamOf (History Piece))) → StreamsShow ss ts → length ss ≡ length ts
+streams-length : (ss : List (StreamOf (Aligned Piece))) (ts : List (StreamOf (StreamHistory Piece))) → StreamsShow ss ts → length ss ≡ length ts
 streams-length [] [] w = refl
 streams-length [] (t ∷ ts) w = absurd w
 streams-length (s ∷ ss) [] w = absurd w
 streams-length (s ∷ ss) (t ∷ ts) w = ap suc (streams-length ss ts w.1)
 
-takes_shown : (q : Queue) (m : Numbered) → ring.Shows q m → by_gaps.takes_reply q ≡ by_numbers.takes_reply m
+takes_shown : (q : Queue) (m : Numbered) → ring.ShowsNumbered q m → by_gaps.takes_reply q ≡ by_numbers.takes_reply m
 takes_shown q m h = ap by_gaps.takes_reply h.same
 
 abbrev Refuses : Happening → Own → Model → Type 0
@@ -254,7 +254,7 @@ refusal_shown (command number word) = lifted_own (Refuses (command number word))
 refusal_shown (drain n) = lifted_own (Refuses (drain n)) (λ c g l s t ss ts q m w h. refl)
 
 -- streams that are switched, added and removed
-stopped-shows : (s : StreamOf (Aligned Piece)) (t : StreamOf (History Piece)) → StreamShows s t
+stopped-shows : (s : StreamOf (Aligned Piece)) (t : StreamOf (StreamHistory Piece)) → StreamShows s t
     → StreamShows (private.stopped by_slots by_gaps s) (private.stopped by_arrivals by_numbers t)
 stopped-shows s t w = record { definition = w.definition; slots = Shows-discard _ _ w.slots; places = w.places; count = w.count }
 
@@ -262,24 +262,24 @@ start_places : (a : Aligned Piece) (b : Bool) → a.is_on ≡ b → (by_slots.st
 start_places a true e = rw e refl
 start_places a false e = rw e refl
 
-started-shows : (s : StreamOf (Aligned Piece)) (t : StreamOf (History Piece)) → StreamShows s t
+started-shows : (s : StreamOf (Aligned Piece)) (t : StreamOf (StreamHistory Piece)) → StreamShows s t
     → StreamShows (private.started by_slots by_gaps s) (private.started by_arrivals by_numbers t)
 started-shows s t w =
     record { definition = w.definition; slots = Shows-start _ _ w.slots; places = ap length (start_places s.slots _ refl) ∙ w.places; count = w.count }
 
-switched_by : (b c : Bool) (s : StreamOf (Aligned Piece)) (t : StreamOf (History Piece)) → StreamShows s t
+switched_by : (b c : Bool) (s : StreamOf (Aligned Piece)) (t : StreamOf (StreamHistory Piece)) → StreamShows s t
     → StreamShows (if b then private.stopped by_slots by_gaps s else (if c then private.started by_slots by_gaps s else s))
     (if b then private.stopped by_arrivals by_numbers t else (if c then private.started by_arrivals by_numbers t else t))
 switched_by true c s t w = stopped-shows s t w
 switched_by false true s t w = started-shows s t w
 switched_by false false s t w = w
 
-at_by : (word : ℕ) (b : Bool) (s : StreamOf (Aligned Piece)) (t : StreamOf (History Piece)) → StreamShows s t
+at_by : (word : ℕ) (b : Bool) (s : StreamOf (Aligned Piece)) (t : StreamOf (StreamHistory Piece)) → StreamShows s t
     → StreamShows (if b then private.switched by_slots by_gaps word s else s) (if b then private.switched by_arrivals by_numbers word t else t)
 at_by word true s t w = switched_by (word == 1) (word == 2) s t w
 at_by word false s t w = w
 
-at-shows : (number word : ℕ) (s : StreamOf (Aligned Piece)) (t : StreamOf (History Piece)) → StreamShows s t
+at-shows : (number word : ℕ) (s : StreamOf (Aligned Piece)) (t : StreamOf (StreamHistory Piece)) → StreamShows s t
     → StreamShows (private.at_stream by_slots by_gaps number (private.switched by_slots by_gaps word) s)
     (private.at_stream by_arrivals by_numbers number (private.switched by_arrivals by_numbers word) t)
 at-shows number word s t w =
@@ -298,26 +298,26 @@ defined-shows v p d e = record {
   count = refl;
 }
 
-streams-append : (ss rs : List (StreamOf (Aligned Piece))) (ts us : List (StreamOf (History Piece))) → StreamsShow ss ts → StreamsShow rs us
+streams-append : (ss rs : List (StreamOf (Aligned Piece))) (ts us : List (StreamOf (StreamHistory Piece))) → StreamsShow ss ts → StreamsShow rs us
     → StreamsShow (ss ++ rs) (ts ++ us)
 streams-append [] rs [] us w x = x
 streams-append [] rs (t ∷ ts) us w x = absurd w
 streams-append (s ∷ ss) rs [] us w x = absurd w
 streams-append (s ∷ ss) rs (t ∷ ts) us w x = (w.0, streams-append ss rs ts us w.1 x)
 
-abbrev Without : ℕ → List (StreamOf (Aligned Piece)) → List (StreamOf (History Piece)) → Type 0
+abbrev Without : ℕ → List (StreamOf (Aligned Piece)) → List (StreamOf (StreamHistory Piece)) → Type 0
 Without number ss ts =
     StreamsShow (filter (λ (s : StreamOf (Aligned Piece)). not (s.definition.stream == number)) ss)
-    (filter (λ (t : StreamOf (History Piece)). not (t.definition.stream == number)) ts)
+    (filter (λ (t : StreamOf (StreamHistory Piece)). not (t.definition.stream == number)) ts)
 
-removed_step : (number : ℕ) (s : StreamOf (Aligned Piece)) (t : StreamOf (History Piece)) (ss : List (StreamOf (Aligned Piece))) (ts : List (StreamOf (History Piece)))
+removed_step : (number : ℕ) (s : StreamOf (Aligned Piece)) (t : StreamOf (StreamHistory Piece)) (ss : List (StreamOf (Aligned Piece))) (ts : List (StreamOf (StreamHistory Piece)))
     (b c : Bool) → (s.definition.stream == number) ≡ b → (t.definition.stream == number) ≡ c → b ≡ c → StreamShows s t → Without number ss ts → Without number (s ∷ ss) (t ∷ ts)
 removed_step number s t ss ts true true e f g w x = rw (e, f) x
 removed_step number s t ss ts false false e f g w x = rw (e, f) (w, x)
 removed_step number s t ss ts true false e f g w x = absurd (cc g)
 removed_step number s t ss ts false true e f g w x = absurd (cc g)
 
-removed-shows : (number : ℕ) (ss : List (StreamOf (Aligned Piece))) (ts : List (StreamOf (History Piece))) → StreamsShow ss ts → Without number ss ts
+removed-shows : (number : ℕ) (ss : List (StreamOf (Aligned Piece))) (ts : List (StreamOf (StreamHistory Piece))) → StreamsShow ss ts → Without number ss ts
 removed-shows number [] [] w = tt
 removed-shows number [] (t ∷ ts) w = absurd w
 removed-shows number (s ∷ ss) [] w = absurd w
@@ -335,7 +335,7 @@ frame_by : (word : ℕ) (d e : Definition) (m n : ℕ) (l k : Listing) (t u : Op
 frame_by word d e m n l k t u a b c f =
     ap (λ x. frame_at word x m l t) a ∙ ap (λ x. frame_at word e x l t) b ∙ ap (λ x. frame_at word e n x t) c ∙ ap (λ x. frame_at word e n k x) f
 
-reply_found : (word number : ℕ) (ss : List (StreamOf (Aligned Piece))) (ts : List (StreamOf (History Piece))) → StreamsShow ss ts
+reply_found : (word number : ℕ) (ss : List (StreamOf (Aligned Piece))) (ts : List (StreamOf (StreamHistory Piece))) → StreamsShow ss ts
     → (v : Own) (p : Model) → v.listed ≡ p.listed → v.last_tick ≡ p.last_tick
     → option_map (private.reply_frame by_slots by_gaps v word) (stream_at ss number) ≡ option_map (private.reply_frame by_arrivals by_numbers p word) (stream_at ts number)
 reply_found word number [] [] w v p e f = refl

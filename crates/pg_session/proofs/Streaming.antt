@@ -2,7 +2,7 @@
 use Rattle.std.proofs.Common.{◌≡◌, ℕ, zero, suc, ◌+◌, ◌<◌, List, [], ◌∷◌, ◌++◌, length, map, take, drop, set, get_or, Bool, true, false, if◌then◌else◌, refl, sym, ap, ◌∙◌, arith, subst}
 use Rattle.std.proofs.lemmas.List.{map_more, drop_more, drop_at}
 use Rattle.std.proofs.lemmas.List.Edits.{map_over_more}
-use Rattle.pg_data.specs.Shared.{Piece}
+use Rattle.pg_data.specs.Pieces.{Piece}
 use Rattle.pg_audit.specs.declared.counters.Stats.{Stats}
 use Rattle.pg_align.specs.Slots.{Aligned}
 use Rattle.pg_outcfg.specs.Listing.{Listing}

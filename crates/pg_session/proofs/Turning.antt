@@ -4,7 +4,7 @@ use Rattle.std.specs.List.{flat_map}
 use Rattle.pg_wire.specs.declared.refusal.Refusal.{Refusal}
 use Rattle.pg_wire.specs.declared.refusal.Refusal.TheVariants.{NoMemory}
 use Rattle.pg_wire.specs.declared.ids.PmuKey.{PmuKey}
-use Rattle.pg_data.specs.Shared.{Piece}
+use Rattle.pg_data.specs.Pieces.{Piece}
 use Rattle.pg_outcfg.specs.Listing.{Listing}
 use Rattle.pg_align.specs.Slots.{Aligned}
 use Rattle.pg_session.specs.Events.{Happening}

@@ -1,6 +1,6 @@
 -- Turns that are taken one after another.
 use Rattle.std.proofs.Common.{◌≡◌, ℕ, zero, suc, ◌+◌, ◌-◌, ◌≤◌, List, [], ◌∷◌, ◌++◌, length, Bool, true, false, refl, sym, ap, ◌∙◌, arith}
-use Rattle.pg_data.specs.Shared.{Piece}
+use Rattle.pg_data.specs.Pieces.{Piece}
 use Rattle.pg_align.specs.Slots.{Aligned}
 use Rattle.pg_ring.specs.Shown.{Queue}
 use Rattle.pg_session.specs.Streams.{Turn}

@@ -1,13 +1,13 @@
 -- The model: a stream by all arrivals of its on-period, and a queue by all frames ever made.
 use Rattle.std.specs.Prelude.{length, sum_by}
-use Rattle.pg_data.specs.Shared.{Piece}
-use Rattle.pg_align.specs.Histories.{History, opening, answer_to, take_arrival, ticked, leave_all, flush_all, reshaped, started, discarded}
+use Rattle.pg_data.specs.Pieces.{Piece}
+use Rattle.pg_align.specs.Histories.{StreamHistory, opening, answer_to, take_arrival, ticked, leave_all, flush_all, reshaped, started, discarded}
 use Rattle.pg_ring.specs.Shown.{begun_of, bytes_to_leave, frames_begun, gap_of, saturated}
 use Rattle.pg_ring.specs.Numbers.{Numbered, shown_of, push_made, dropped_by, lose_made, reply_made, drain_made, clear_made, cleared_by}
 use Rattle.pg_ring.specs.Steps.{takes_reply}
 use Rattle.pg_session.specs.Machines.{Alignment, Queueing}
 
-abbrev pub by_arrivals : Alignment (History Piece)
+abbrev pub by_arrivals : Alignment (StreamHistory Piece)
 by_arrivals = record {
   opening = λ d. opening d.window d.wait (length d.members);
   is_on = λ h. h.is_on;

@@ -66,9 +66,9 @@ abbrev pub heard : Hearing → List ℕ → Hearing
 heard v piece = record v { bytes = fed v.bytes piece }
 
 -- Fed this stream since it was new, the session has given these items, and its counters are theirs.
-pub record Shows (v : Hearing) (stream : List ℕ) (given : List Item) : Type 0 where
+pub record ShowsHearing (v : Hearing) (stream : List ℕ) (given : List Item) : Type 0 where
   pub frames : List (List ℕ)
-  pub bytes : wire.Shows v.bytes stream frames
+  pub bytes : wire.ShowsStream v.bytes stream frames
   pub items : given ≡ map item_of frames
   pub stats : v.stats ≡ stats_of given
 
@@ -79,15 +79,15 @@ next_of (ignores r) = Ignored r
 
 -- What a call gives of the stream of which these items were given before: each is the next one, and there is no more only
 -- where all items of the stream were given.
-abbrev pub GivesOf : List ℕ → List Item → Next → Hearing → Type 0
-GivesOf stream given (Cmd c) new = Shows new stream (given ++ commands c ∷ [])
-GivesOf stream given (Ignored r) new = Shows new stream (given ++ ignores r ∷ [])
-GivesOf stream given More new = (given ≡ items_of stream) × (break_in stream ≡ None) × Shows new stream given
-GivesOf stream given (Broken r) new = (given ≡ items_of stream) × (break_in stream ≡ Some r) × Shows new stream given
+abbrev pub GivesCommandOf : List ℕ → List Item → Next → Hearing → Type 0
+GivesCommandOf stream given (Cmd c) new = ShowsHearing new stream (given ++ commands c ∷ [])
+GivesCommandOf stream given (Ignored r) new = ShowsHearing new stream (given ++ ignores r ∷ [])
+GivesCommandOf stream given More new = (given ≡ items_of stream) × (break_in stream ≡ None) × ShowsHearing new stream given
+GivesCommandOf stream given (Broken r) new = (given ≡ items_of stream) × (break_in stream ≡ Some r) × ShowsHearing new stream given
 
 -- Whatever stream and items the session shows before a call, it shows the next of them after it.
-abbrev pub Gives : Hearing → Next → Hearing → Type 0
-Gives old next new = (stream : List ℕ) (given : List Item) → Shows old stream given → GivesOf stream given next new
+abbrev pub GivesCommand : Hearing → Next → Hearing → Type 0
+GivesCommand old next new = (stream : List ℕ) (given : List Item) → ShowsHearing old stream given → GivesCommandOf stream given next new
 
 -- Each command and each ignored frame takes bytes off those that are held; behind a break none is held; and where no whole
 -- frame is, less than one is held, so that there is room.

@@ -4,13 +4,13 @@ use Rattle.pg_wire.specs.declared.ids.PmuKey.{PmuKey}
 use Rattle.pg_wire.specs.declared.refusal.Refusal.{Refusal}
 use Rattle.pg_wire.specs.declared.refusal.Refusal.TheVariants.{NoMemory}
 use Rattle.pg_entitle.specs.Grants.{has_key}
-use Rattle.pg_data.specs.Shared.{Piece}
+use Rattle.pg_data.specs.Pieces.{Piece}
 use Rattle.pg_stream.specs.Limits.{IsWithinLimits}
 use Rattle.pg_align.specs.Slots.{Aligned, OpenSlot}
 use Rattle.pg_audit.specs.declared.counters.Stats.{Stats}
 use Rattle.pg_outcfg.specs.Listing.{Listing, config_at}
 use Rattle.pg_session.specs.Events.{Sample, command}
-use Rattle.pg_session.specs.Streams.{StreamOf, Placed, Turn, effective_in}
+use Rattle.pg_session.specs.Streams.{StreamOf, PlacedBlock, Turn, effective_in}
 use Rattle.pg_align.specs.declared.answer.Arrived.{Arrived}
 use Rattle.pg_align.specs.declared.answer.Arrived.TheVariants.{Kept, Late, Twice}
 use Rattle.pg_session.specs.Output.{one_late, one_twice, all_ignored}
@@ -33,7 +33,7 @@ pub record IsStream (s : StreamOf (Aligned Piece)) : Type 0 where
   pub timed : AreTimed s.definition.rate s.slots.slots
 
 -- the members at these places are effective
-abbrev pub AreEffective : List Bool → List Placed → Type 0
+abbrev pub AreEffective : List Bool → List PlacedBlock → Type 0
 AreEffective effective [] = Unit {0}
 AreEffective effective (p ∷ ps) = IsTrue (slice_index_or effective p.place false) × AreEffective effective ps
 
@@ -80,7 +80,7 @@ AreGranted grants [] = Unit {0}
 AreGranted grants (e ∷ listed) = IsTrue (has_key grants e.0) × AreGranted grants listed
 
 -- what the fields of a subscriber keep
-pub record IsKept (v : SubscriberValue) (capacity places slots : ℕ) : Type 0 where
+pub record SubscriberIsKept (v : SubscriberValue) (capacity places slots : ℕ) : Type 0 where
   pub few : length v.own.streams ≤ 8
   pub room : 8 ≤ capacity
   pub fitted : AreFitted v.own.listed v.own.streams

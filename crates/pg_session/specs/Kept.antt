@@ -1,6 +1,6 @@
 -- What the code keeps: of a stream its open slots, of a queue the frames that stand with their gaps.
 use Rattle.std.specs.Prelude.{◌+◌, ◌-◌, length, sum_by}
-use Rattle.pg_data.specs.Shared.{Piece}
+use Rattle.pg_data.specs.Pieces.{Piece}
 use Rattle.pg_align.specs.Slots.{Aligned, none_open, answer_at, with_arrival, with_tick, all_leaving, all_flushed, with_shape, with_start, with_none}
 use Rattle.pg_ring.specs.Shown.{Queue, begun_of, bytes_to_leave, frames_begun, gap_of, saturated, drained, emptied, data_frames}
 use Rattle.pg_ring.specs.Steps.{with_data, with_lost, with_reply, takes_reply}

@@ -4,8 +4,8 @@ use Rattle.pg_wire.specs.declared.refusal.Refusal.{Refusal}
 use Rattle.pg_wire.specs.declared.refusal.Refusal.TheVariants.{TimeEnd}
 use Rattle.pg_entitle.specs.Grants.{has_key}
 use Rattle.pg_ring.specs.Fates.{Call, Push, Lose, Reply, Drain, HangUp, history_of, fates, one_if}
-use Rattle.pg_align.specs.Histories.{History}
-use Rattle.pg_data.specs.Shared.{Piece}
+use Rattle.pg_align.specs.Histories.{StreamHistory}
+use Rattle.pg_data.specs.Pieces.{Piece}
 use Rattle.pg_data.specs.Measurements.{Measurement, IsMeasurement}
 use Rattle.pg_stream.specs.Slots.{slot_at}
 use Rattle.pg_session.specs.Streams.{Turn, base_of}
@@ -55,7 +55,7 @@ frame_calls kept [] = []
 frame_calls zero (frame ∷ frames) = Lose ∷ frame_calls zero frames
 frame_calls (suc kept) (frame ∷ frames) = Push frame ∷ frame_calls kept frames
 
-abbrev pub turn_calls : ℕ → List (Turn (History Piece)) → List Call
+abbrev pub turn_calls : ℕ → List (Turn (StreamHistory Piece)) → List Call
 turn_calls kept [] = []
 turn_calls kept (turn ∷ turns) = frame_calls kept turn.frames ++ turn_calls (kept - length turn.frames) turns
 

@@ -2,7 +2,7 @@
 -- over all arrivals and all frames ever made it is the model (ByAll), over open slots and queued frames it is what the
 -- code keeps (Kept).
 use Rattle.std.specs.Prelude.{ℕ, Bool, List}
-use Rattle.pg_data.specs.Shared.{Piece}
+use Rattle.pg_data.specs.Pieces.{Piece}
 use Rattle.pg_align.specs.declared.answer.Arrived.{Arrived}
 use Rattle.pg_align.specs.Histories.{Departures}
 use Rattle.pg_stream.specs.declared.definition.Definition.{Definition}

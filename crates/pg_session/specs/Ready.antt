@@ -3,7 +3,7 @@ use Rattle.std.specs.Prelude.{◌≡◌, ◌≢◌, ◌++◌, ◌<◌, ◌≤◌
 use Rattle.std.specs.Arc.{arc_value}
 use Rattle.pg_wire.specs.declared.ids.PmuKey.{PmuKey}
 use Rattle.pg_config.specs.Parts.{Part, block_id}
-use Rattle.pg_data.specs.Shared.{Piece}
+use Rattle.pg_data.specs.Pieces.{Piece}
 use Rattle.pg_entitle.specs.Grants.{has_key}
 use Rattle.pg_outcfg.specs.Listing.{Listing, config_at}
 use Rattle.pg_session.specs.Events.{Happening, Announcing, Sample, config_of, happening, grant, revoke, announce, measure, define, remove, tick, connect, hangup, command, drain}

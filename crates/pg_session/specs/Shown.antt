@@ -1,9 +1,9 @@
 -- What the code keeps of a subscriber, what it shows of the private gateway, and one step of the two.
 use Rattle.std.specs.Prelude.{◌≡◌, ℕ, Bool, false, List, [], ◌∷◌, length, Option}
 use Rattle.pg_config.specs.Parts.{Part}
-use Rattle.pg_data.specs.Shared.{Piece}
+use Rattle.pg_data.specs.Pieces.{Piece}
 use Rattle.pg_audit.specs.Counting.{no_stats}
-use Rattle.pg_align.specs.Histories.{History}
+use Rattle.pg_align.specs.Histories.{StreamHistory}
 use Rattle.pg_align.specs.Slots.{Aligned}
 use Rattle.pg_align.specs.Shown as align
 use Rattle.pg_ring.specs.Shown.{Queue}
@@ -16,7 +16,7 @@ use Rattle.pg_session.specs.ByAll.{by_arrivals, by_numbers}
 
 -- the private gateway by all arrivals and all frames ever made
 abbrev pub Model : Type 0
-Model = Private (History Piece) Numbered
+Model = Private (StreamHistory Piece) Numbered
 
 -- the same by open slots and queued frames
 abbrev pub Own : Type 0
@@ -41,14 +41,14 @@ begin size limit last =
       last_tick = last;
     }
 
-pub record StreamShows (s : StreamOf (Aligned Piece)) (t : StreamOf (History Piece)) : Type 0 where
+pub record StreamShows (s : StreamOf (Aligned Piece)) (t : StreamOf (StreamHistory Piece)) : Type 0 where
   pub definition : s.definition ≡ t.definition
   pub slots : align.Shows s.slots t.slots
   pub places : length s.slots.effective ≡ length s.definition.members
   pub count : s.count ≡ t.count
 
 -- each stream shows one
-abbrev pub StreamsShow : List (StreamOf (Aligned Piece)) → List (StreamOf (History Piece)) → Type 0
+abbrev pub StreamsShow : List (StreamOf (Aligned Piece)) → List (StreamOf (StreamHistory Piece)) → Type 0
 StreamsShow [] [] = Unit {0}
 StreamsShow (s ∷ ss) (t ∷ ts) = StreamShows s t × StreamsShow ss ts
 StreamsShow [] (t ∷ ts) = ⊥
@@ -59,19 +59,19 @@ pub record OwnShows (v : Own) (p : Model) : Type 0 where
   pub grants : v.grants ≡ p.grants
   pub listed : v.listed ≡ p.listed
   pub streams : StreamsShow v.streams p.streams
-  pub queue : ring.Shows v.output.queue p.output.queue
+  pub queue : ring.ShowsNumbered v.output.queue p.output.queue
   pub stats : v.output.stats ≡ p.output.stats
   pub last_tick : v.last_tick ≡ p.last_tick
 
 -- The value shows this state. Copies that lie ready are no part of it.
-abbrev pub Shows : SubscriberValue → Model → Type 0
-Shows v p = OwnShows v.own p
+abbrev pub ShowsPrivate : SubscriberValue → Model → Type 0
+ShowsPrivate v p = OwnShows v.own p
 
 -- This reply may come to the event in this state, and the value then shows the state's successor.
 pub record Follows (p : Model) (e : Happening) (lost : Bool) (r : Told) (v : SubscriberValue) : Type 0 where
   pub may : May by_arrivals by_numbers p e lost r
-  pub shows : Shows v (next by_arrivals by_numbers p e r)
+  pub shows : ShowsPrivate v (next by_arrivals by_numbers p e r)
 
 -- Whatever state the value shows before the event, the reply follows from that state.
 abbrev pub Takes : SubscriberValue → Happening → Bool → Told → SubscriberValue → Type 0
-Takes old e lost r new = (p : Model) → Shows old p → Follows p e lost r new
+Takes old e lost r new = (p : Model) → ShowsPrivate old p → Follows p e lost r new

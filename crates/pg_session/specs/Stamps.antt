@@ -1,10 +1,10 @@
 -- The stamps of a stream rise: the data frames that it makes in a run of private events, and what these carry.
 use Rattle.std.specs.Prelude.{◌≡◌, ◌/◌, ◌<◌, ◌^◌, ◌==◌, ℕ, IsTrue, false, if◌then◌else◌, List, [], ◌∷◌, ◌++◌, AllPairs, Option, Some, MatchOption}
 use Rattle.pg_wire.specs.Head.{head_of}
-use Rattle.pg_data.specs.Shared.{Piece}
+use Rattle.pg_data.specs.Pieces.{Piece}
 use Rattle.pg_stream.specs.declared.definition.Definition.{Definition}
 use Rattle.pg_stream.specs.Slots.{IsBefore}
-use Rattle.pg_align.specs.Histories.{History, is_above}
+use Rattle.pg_align.specs.Histories.{StreamHistory, is_above}
 use Rattle.pg_outcfg.specs.Listing.{Listing}
 use Rattle.pg_outcfg.specs.Frames.{data_frame_of}
 use Rattle.pg_session.specs.Streams.{StreamOf, Turn}
@@ -20,7 +20,7 @@ IsLegal p [] = Unit {0}
 IsLegal p (x ∷ xs) = May by_arrivals by_numbers p x.0 false x.1 × IsLegal (next by_arrivals by_numbers p x.0 x.1) xs
 
 -- of these turns, the data frames that the stream of a number makes
-abbrev pub made_of : ℕ → List (Turn (History Piece)) → List (List ℕ)
+abbrev pub made_of : ℕ → List (Turn (StreamHistory Piece)) → List (List ℕ)
 made_of number [] = []
 made_of number (turn ∷ turns) = if turn.stream.definition.stream == number then turn.frames ++ made_of number turns else made_of number turns
 
@@ -66,7 +66,7 @@ stamp_in frame = ((head_of frame).soc, (head_of frame).frac)
 -- it events at which the stream is on. The data frames that it makes at those are frames of slots that rise strictly, above each
 -- slot that had left before in the on-period; and of any two of them the earlier carries the earlier stamp.
 pub record StampsRise : Type 0 where
-  pub slots : (size limit : ℕ) (last : Option ℕ) (before run : Run) (number : ℕ) (s : StreamOf (History Piece))
+  pub slots : (size limit : ℕ) (last : Option ℕ) (before run : Run) (number : ℕ) (s : StreamOf (StreamHistory Piece))
       → IsLegal (begin size limit last) (before ++ run) → stream_at (after (begin size limit last) before).streams number ≡ Some s
       → StaysOn number (after (begin size limit last) before) run
       → AreOfRisingSlots s.definition s.slots.last (made_in number (after (begin size limit last) before) run)
@@ -74,6 +74,6 @@ pub record StampsRise : Type 0 where
       → IsLegal (begin size limit last) (before ++ run) → StaysOn number (after (begin size limit last) before) run
       → AllPairs (λ frame later. IsBefore (stamp_in frame) (stamp_in later)) (made_in number (after (begin size limit last) before) run)
   -- a stream that is off makes none, so that each data frame is made in an on-period
-  pub off : (size limit : ℕ) (last : Option ℕ) (before : Run) (number : ℕ) (s : StreamOf (History Piece)) (e : Happening) (r : Told)
+  pub off : (size limit : ℕ) (last : Option ℕ) (before : Run) (number : ℕ) (s : StreamOf (StreamHistory Piece)) (e : Happening) (r : Told)
       → IsLegal (begin size limit last) before → stream_at (after (begin size limit last) before).streams number ≡ Some s
       → s.slots.is_on ≡ false → made_at number (after (begin size limit last) before) e r ≡ []

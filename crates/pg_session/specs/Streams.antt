@@ -4,7 +4,7 @@ use Rattle.std.specs.List.{position}
 use Rattle.pg_wire.specs.declared.refusal.Refusal.{Refusal}
 use Rattle.pg_wire.specs.declared.ids.PmuKey.{PmuKey}
 use Rattle.pg_wire.specs.Keys.{key_eq}
-use Rattle.pg_data.specs.Shared.{Piece}
+use Rattle.pg_data.specs.Pieces.{Piece}
 use Rattle.pg_stream.specs.declared.definition.Definition.{Definition}
 use Rattle.pg_stream.specs.Slots.{slot_at}
 use Rattle.pg_align.specs.declared.answer.Arrived.{Arrived}
@@ -34,7 +34,7 @@ pub record Turn (A : Type 0) : Type 0 where
   pub past : ℕ
 
 -- a block that is a member's: the member's place, and what is used of the block
-pub record Placed : Type 0 where
+pub record PlacedBlock : Type 0 where
   pub place : ℕ
   pub piece : Piece
 
@@ -43,12 +43,12 @@ abbrev pub place_of : List PmuKey → PmuKey → Option ℕ
 place_of members key = position (λ m. key_eq m key) members
 
 -- with its member's place, if it has one, before the others
-abbrev pub with_place : Option ℕ → Piece → List Placed → List Placed
+abbrev pub with_place : Option ℕ → Piece → List PlacedBlock → List PlacedBlock
 with_place None piece others = others
 with_place (Some place) piece others = record { place = place; piece = piece } ∷ others
 
 -- those of a measurement's blocks that are members', in the frame's order
-abbrev pub placed : List PmuKey → ℕ → List Sample → List Placed
+abbrev pub placed : List PmuKey → ℕ → List Sample → List PlacedBlock
 placed members quality [] = []
 placed members quality (s ∷ samples) =
     with_place (place_of members s.key) (record { quality = quality; block = s.block }) (placed members quality samples)
@@ -110,7 +110,7 @@ module _ {A : Type 0} (by : Alignment A) where
       record turn { stream = record turn.stream { slots = by.reshape turn.stream.slots (effective_in other s.definition.members) } })
 
   -- blocks arrive in a slot, one after another
-  abbrev pub arrive_all : A → ℕ → List Placed → Arrivals A
+  abbrev pub arrive_all : A → ℕ → List PlacedBlock → Arrivals A
   arrive_all a slot [] = record { slots = a; late = 0; twice = 0 }
   arrive_all a slot (p ∷ ps) =
       let others = arrive_all (by.arrive a slot p.place p.piece) slot ps in
@@ -120,7 +120,7 @@ module _ {A : Type 0} (by : Alignment A) where
   -- All arrive first, and only then do slots leave. An error is TimeEnd, and so its blocks count as past the end of time: `slot_at`
   -- gives BadFraction only of a numerator that is not below the resolution, and no measurement has one, since the reader of data
   -- frames refuses such a frame with BadFraction (law `only_time_ends`).
-  abbrev pub arrival_turn : Listing → StreamOf A → List Placed → Result ℕ Refusal → Turn A
+  abbrev pub arrival_turn : Listing → StreamOf A → List PlacedBlock → Result ℕ Refusal → Turn A
   arrival_turn listed s blocks (Err r) = record (still s) { past = length blocks }
   arrival_turn listed s blocks (Ok slot) =
       let arrived = arrive_all s.slots slot blocks in

@@ -1,6 +1,6 @@
 -- All streams take their turns, one after another, while an event makes frames.
 use Rattle.std.specs.Prelude.{◌≡◌, ◌+◌, ◌≤◌, ℕ, true, false, List, [], ◌∷◌, length}
-use Rattle.pg_data.specs.Shared.{Piece}
+use Rattle.pg_data.specs.Pieces.{Piece}
 use Rattle.pg_align.specs.Slots.{Aligned}
 use Rattle.pg_session.specs.Streams.{Turn}
 use Rattle.pg_session.specs.Output.{turns_taken}

@@ -3,12 +3,12 @@ use Rattle.std.specs.Prelude.{◌&&◌, ◌++◌, ℕ, not, nat_lt, List, [], �
 use Rattle.pg_wire.specs.declared.ids.PmuKey.{PmuKey}
 use Rattle.pg_config.specs.Parts.{Part}
 use Rattle.pg_entitle.specs.Grants.{has_key}
-use Rattle.pg_data.specs.Shared.{Piece}
+use Rattle.pg_data.specs.Pieces.{Piece}
 use Rattle.pg_align.specs.Slots.{Aligned}
 use Rattle.pg_session.specs.Events.{Sample}
-use Rattle.pg_session.specs.Streams.{StreamOf, Placed, placed}
+use Rattle.pg_session.specs.Streams.{StreamOf, PlacedBlock, placed}
 
-abbrev pub piece_of_placed : Placed → Piece
+abbrev pub piece_of_placed : PlacedBlock → Piece
 piece_of_placed p = p.piece
 
 -- the copies that a stream asks for: of each block that is a member's, where it is on

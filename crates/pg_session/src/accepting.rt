@@ -6,7 +6,7 @@ ghost use Rattle.std.specs.Arc.{arc_value};
 ghost use Rattle.pg_entitle.specs.Grants.{has_key};
 ghost use Rattle.pg_outcfg.specs.Listing.{config_at};
 ghost use Rattle.pg_session.specs.Events.{announced_at, config_of, samples_at};
-ghost use Rattle.pg_data.specs.Shared.{piece_of};
+ghost use Rattle.pg_data.specs.Pieces.{piece_of};
 ghost use Rattle.pg_session.specs.Streams.{place_of, with_place, placed};
 ghost use Rattle.pg_session.specs.Wanted.{piece_of_placed, all_wanted};
 ghost use Rattle.pg_session.specs.Ready.{AreHeld, AreOwn, ArePlaces, GoesOn};

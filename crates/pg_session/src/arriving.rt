@@ -1,10 +1,11 @@
 //! The blocks of a data frame arrive at a stream.
 
 ghost use Rattle.std.specs.Prelude.{◌≡◌, ◌+◌, ◌<◌, ◌≤◌, ◌++◌, ℕ, List, length, map, drop, All, IsTrue, slice_index_or, false};
-ghost use Rattle.pg_data.specs.Shared.{Piece};
+ghost use Rattle.pg_data.specs.Pieces.{Piece};
+ghost use Rattle.pg_stream.specs.Limits.{IsWithinLimits};
 ghost use Rattle.pg_align.specs.Slots.{others_than, answer_at, with_arrival};
 ghost use Rattle.pg_session.specs.Events.{samples_at};
-ghost use Rattle.pg_session.specs.Streams.{Placed, place_of, with_place, placed, arrive_all};
+ghost use Rattle.pg_session.specs.Streams.{PlacedBlock, place_of, with_place, placed, arrive_all};
 ghost use Rattle.pg_session.specs.Output.{all_ignored};
 ghost use Rattle.pg_session.specs.Sending.{Sending};
 ghost use Rattle.pg_session.specs.Kept.{by_slots};
@@ -12,19 +13,21 @@ ghost use Rattle.pg_session.specs.Fields.{AreEffective, with_stats, one_ignored}
 ghost use Rattle.pg_session.specs.Wanted.{piece_of_placed};
 
 use crate::output::Output;
-use crate::stream::place_in;
+use crate::stream::place_next;
 use circular_buffer::HeapCircularBuffer;
 use pg_align::{Align, Arrived};
 use pg_data::{DataFrame, SharedBlock};
 use pg_stream::Definition;
 use pg_wire::PmuKey;
 
-/// 1 for a member, else 0.
-fn count_one(definition: &Definition, key: &PmuKey) -> usize
-    ensures count { (piece : Piece) (others : List Placed) → length (with_place (place_of definition.now.members key.now) piece others) ≡ result + length others }
+/// 1 for a member, which is guessed to be the one at the place `next`, else 0.
+#[inline(always)]
+fn count_one(definition: &Definition, key: &PmuKey, next: &mut usize) -> usize
+    requires limits { IsWithinLimits definition.now }
+    ensures count { (piece : Piece) (others : List PlacedBlock) → length (with_place (place_of definition.now.members key.now) piece others) ≡ result + length others }
     ensures few { result ≤ 1 }
 {
-    match place_in(definition, key) {
+    match place_next(definition, key, next) {
         Some(_) => 1,
         None => 0,
     }
@@ -32,16 +35,37 @@ fn count_one(definition: &Definition, key: &PmuKey) -> usize
 
 /// How many of these blocks are members'.
 pub(crate) fn count_placed(definition: &Definition, frame: &DataFrame, places: &[usize]) -> usize
+    requires limits { IsWithinLimits definition.now }
     requires places { All (λ i. i < length frame.now.config.parts) places.now }
     ensures count { result ≡ length (placed definition.now.members frame.now.quality (samples_at frame.now places.now)) }
     ensures few { result ≤ length places.now }
 {
     let _count = frame.count();
+    let mut next = 0;
     let mut count = 0;
     for place in places {
-        count += count_one(definition, &frame.key(*place));
+        count += count_one(definition, &frame.key(*place), &mut next);
     }
     count
+}
+
+/// Whether one of these blocks is a member's.
+pub(crate) fn has_placed(definition: &Definition, frame: &DataFrame, places: &[usize]) -> bool
+    requires limits { IsWithinLimits definition.now }
+    requires places { All (λ i. i < length frame.now.config.parts) places.now }
+    ensures some { IsTrue result
+        → 0 < length (placed definition.now.members frame.now.quality (samples_at frame.now places.now)) }
+    ensures none { result ≡ false
+        → length (placed definition.now.members frame.now.quality (samples_at frame.now places.now)) ≡ 0 }
+{
+    let _count = frame.count();
+    let mut next = 0;
+    for place in places {
+        if count_one(definition, &frame.key(*place), &mut next) > 0 {
+            return true;
+        }
+    }
+    false
 }
 
 /// A member's block arrives in a slot; one that is late or comes twice is counted.
@@ -71,6 +95,7 @@ pub(crate) fn arrive_all_in(
     blocks: &mut HeapCircularBuffer<SharedBlock>,
     output: &mut Output,
 )
+    requires limits { IsWithinLimits definition.now }
     requires places { All (λ i. i < length frame.now.config.parts) places.now }
     requires on { IsTrue align.old.is_on }
     requires effective { AreEffective align.old.effective (placed definition.now.members frame.now.quality (samples_at frame.now places.now)) }
@@ -86,8 +111,9 @@ pub(crate) fn arrive_all_in(
     ensures capacity { blocks.new.capacity ≡ blocks.old.capacity }
 {
     let _count = frame.count();
+    let mut next = 0;
     for place in places {
-        let Some(member) = place_in(definition, &frame.key(*place)) else {
+        let Some(member) = place_next(definition, &frame.key(*place), &mut next) else {
             continue;
         };
         let Some(block) = blocks.pop_front() else {

@@ -2,13 +2,14 @@
 
 ghost use Rattle.std.specs.Prelude.{◌≡◌, ◌+◌, ◌*◌, ◌<◌, ◌≤◌, ◌++◌, [], ◌∷◌, List, length, map, All, None, OnOk, IfErr, IsOk};
 ghost use Rattle.std.specs.Arc.{arc_value};
-ghost use Rattle.pg_data.specs.Shared.{piece_of};
+ghost use Rattle.pg_data.specs.Pieces.{piece_of};
+ghost use Rattle.pg_stream.specs.Limits.{IsWithinLimits};
 ghost use Rattle.pg_session.specs.Events.{announced_at, config_of, samples_at};
-ghost use Rattle.pg_session.specs.Streams.{Placed, place_of, with_place, placed};
+ghost use Rattle.pg_session.specs.Streams.{PlacedBlock, place_of, with_place, placed};
 ghost use Rattle.pg_session.specs.Ready.{ArePlaces};
 ghost use Rattle.pg_session.specs.Wanted.{piece_of_placed, wanted_of, all_wanted};
 
-use crate::stream::{Stream, place_in};
+use crate::stream::{Stream, place_next};
 use circular_buffer::HeapCircularBuffer;
 use pg_config::{PmuConfig, SourceConfig};
 use pg_data::{DataFrame, SharedBlock};
@@ -54,17 +55,20 @@ pub(crate) fn copy_parts(
     Ok(())
 }
 
-/// Lays a copy of a PMU's block, where that is a member's. The one refusal is `NoMemory`.
+/// Lays a copy of a PMU's block, where that is a member's, which is guessed to be the one at the place `next`. The one refusal
+/// is `NoMemory`.
 fn lay_block(
     definition: &Definition,
     key: &PmuKey,
     frame: &Arc<DataFrame>,
     place: usize,
+    next: &mut usize,
     blocks: &mut HeapCircularBuffer<SharedBlock>,
 ) -> Result<(), Refusal>
+    requires limits { IsWithinLimits definition.now }
     requires place { place < length (arc_value frame.now).config.parts }
     requires room { length blocks.old.items < blocks.old.capacity }
-    ensures laid { (others : List Placed) → OnOk result (blocks.new.items ++ map piece_of_placed others
+    ensures laid { (others : List PlacedBlock) → OnOk result (blocks.new.items ++ map piece_of_placed others
         ≡ blocks.old.items ++ map piece_of_placed (with_place (place_of definition.now.members key.now) (piece_of (arc_value frame.now) place) others)) }
     ensures few { length blocks.new.items ≤ length blocks.old.items + 1 }
     ensures grows { length blocks.old.items ≤ length blocks.new.items }
@@ -72,7 +76,7 @@ fn lay_block(
     ensures capacity { blocks.new.capacity ≡ blocks.old.capacity }
     ensures memory { IfErr result (λ refusal. refusal ≡ Refusal.NoMemory) }
 {
-    if place_in(definition, key).is_none() {
+    if place_next(definition, key, next).is_none() {
         return Ok(());
     }
     let copy = Arc::try_clone(frame)?;
@@ -89,6 +93,7 @@ pub(crate) fn copy_members(
     places: &[usize],
     blocks: &mut HeapCircularBuffer<SharedBlock>,
 ) -> Result<(), Refusal>
+    requires limits { IsWithinLimits definition.now }
     requires places { All (λ i. i < length (arc_value frame.now).config.parts) places.now }
     requires room { length blocks.old.items + length places.now ≤ blocks.old.capacity }
     ensures laid { OnOk result (blocks.new.items
@@ -99,8 +104,10 @@ pub(crate) fn copy_members(
     ensures memory { IfErr result (λ refusal. refusal ≡ Refusal.NoMemory) }
 {
     let _count = frame.count();
+    let mut next = 0;
     for place in places {
-        lay_block(definition, &frame.key(*place), frame, *place, blocks)?;
+        let key = frame.key(*place);
+        lay_block(definition, &key, frame, *place, &mut next, blocks)?;
     }
     Ok(())
 }

@@ -10,17 +10,19 @@ ghost use Rattle.pg_session.specs.Fields.{AreTimed};
 use crate::output::Output;
 use pg_align::Align;
 use pg_data::SharedBlock;
-use pg_outcfg::{ConfigList, data_frame};
+use pg_outcfg::{ConfigList, data_frame_near};
 use pg_stream::Definition;
 use std::alloc::Global;
 
-/// Makes the frame of a slot that left, and sends it. Where a frame of the event was lost this one is not composed.
+/// Makes the frame of a slot that left, and sends it. Where a frame of the event was lost this one is not composed. `size` is the
+/// size of the stream's last frame, if it is known: this one mostly has the same.
 fn send_slot(
     alloc: Global,
     definition: &Definition,
     listed: &ConfigList,
     slot: u64,
     parts: &[Option<SharedBlock>],
+    size: &mut u16,
     output: &mut Output,
 )
     requires limits { IsWithinLimits definition.now }
@@ -33,7 +35,7 @@ fn send_slot(
     if output.is_lost() {
         output.lose();
     } else {
-        output.send(data_frame(alloc, definition, slot, listed, parts));
+        output.send(data_frame_near(alloc, definition, slot, listed, parts, size));
     }
 }
 
@@ -43,6 +45,7 @@ pub(crate) fn leave_all(
     definition: &Definition,
     listed: &ConfigList,
     align: &mut Align,
+    size: &mut u16,
     output: &mut Output,
 )
     requires limits { IsWithinLimits definition.now }
@@ -55,7 +58,9 @@ pub(crate) fn leave_all(
     ensures few { output.new.made + length align.new.slots ≤ output.old.made + length align.old.slots }
 {
     while let Some(left) = align.leave_next() {
-        send_slot(alloc, definition, listed, left.slot, left.parts, output);
+        send_slot(
+            alloc, definition, listed, left.slot, left.parts, size, output,
+        );
     }
 }
 
@@ -65,6 +70,7 @@ pub(crate) fn flush_all(
     definition: &Definition,
     listed: &ConfigList,
     align: &mut Align,
+    size: &mut u16,
     output: &mut Output,
 )
     requires limits { IsWithinLimits definition.now }
@@ -77,6 +83,8 @@ pub(crate) fn flush_all(
     ensures few { output.new.made + length align.new.slots ≤ output.old.made + length align.old.slots }
 {
     while let Some(left) = align.flush_next() {
-        send_slot(alloc, definition, listed, left.slot, left.parts, output);
+        send_slot(
+            alloc, definition, listed, left.slot, left.parts, size, output,
+        );
     }
 }

@@ -1,7 +1,7 @@
 //! A subscriber's bytes, cut into commands as they come.
 
 ghost use Rattle.std.specs.Prelude.{◌≡◌, ℕ, ◌+◌, ◌≤◌, ◌<◌, List, [], ◌++◌, length, take, drop, vec_len, IfOk, IfErr};
-ghost use Rattle.pg_session.specs.Commands.{Hearing, Item, item_read, with_item, next_of, unheard, heard, Shows, Gives, Holds};
+ghost use Rattle.pg_session.specs.Commands.{Hearing, Item, item_read, with_item, next_of, unheard, heard, ShowsHearing, GivesCommand, Holds};
 
 use crate::pending::Pending;
 use pg_audit::PmuStats;
@@ -54,7 +54,7 @@ impl Session {
     /// A session of this subscriber that was fed nothing. The one refusal is `NoMemory`.
     pub fn new(alloc: Global, sub: SubId) -> Result<Session, Refusal>
         ensures state { IfOk result (λ s. s ≡ unheard sub) }
-        ensures shows { IfOk result (λ s. Shows s [] []) }
+        ensures shows { IfOk result (λ s. ShowsHearing s [] []) }
         ensures memory { IfErr result (λ refusal. refusal ≡ Refusal.NoMemory) }
     {
         Ok(Session {
@@ -124,14 +124,14 @@ impl Session {
         requires { length self.old.bytes.held + length piece.now ≤ 65535 }
         ensures state { self.new ≡ heard self.old piece.now }
         // Whatever stream it was fed before, it is fed the piece after it.
-        ensures shows { (stream : List ℕ) (given : List Item) → Shows self.old stream given → Shows self.new (stream ++ piece.now) given }
+        ensures shows { (stream : List ℕ) (given : List Item) → ShowsHearing self.old stream given → ShowsHearing self.new (stream ++ piece.now) given }
     {
         self.deframer.feed(piece);
     }
 
     /// The next command, as soon as its frame is whole, or why a frame was ignored. Commands and ignored frames are counted.
     pub fn next_command(&mut self) -> Next
-        ensures gives { Gives self.old result self.new }
+        ensures gives { GivesCommand self.old result self.new }
         ensures holds { Holds self.old result self.new }
         ensures same { self.new.sub ≡ self.old.sub }
         ensures buffer { self.new.buffer ≡ self.old.buffer }

@@ -3,7 +3,7 @@
 ghost use Rattle.std.specs.Prelude.{◌≡◌, ◌+◌, ◌<◌, ◌≤◌, ◌^◌, ◌++◌, ◌∷◌, [], ℕ, List, length, map, drop, not, All, IfOk, IfErr, OnOk, IsOk, IsTrue, IsSome, option_map, if◌then◌else◌, true, false};
 ghost use Rattle.std.specs.Arc.{arc_value};
 ghost use Rattle.circular_buffer.specs.Buffer.{Buffer};
-ghost use Rattle.pg_data.specs.Shared.{Piece};
+ghost use Rattle.pg_data.specs.Pieces.{Piece};
 ghost use Rattle.pg_stream.specs.Limits.{IsWithinLimits};
 ghost use Rattle.pg_align.specs.Slots.{none_open, with_shape, with_start, with_none};
 ghost use Rattle.pg_outcfg.specs.Listing.{config_at};
@@ -21,7 +21,7 @@ ghost use Rattle.pg_session.specs.Wanted.{wanted_of};
 ghost use Rattle.pg_session.specs.Standing.{stream_standing};
 
 use crate::accepting::after_members;
-use crate::arriving::{arrive_all_in, count_placed, pass_all};
+use crate::arriving::{arrive_all_in, count_placed, has_placed, pass_all};
 use crate::change::{Change, config_of};
 use crate::copying::copy_members;
 use crate::leaving::{flush_all, leave_all};
@@ -40,16 +40,18 @@ use std::sync::Arc;
 /// The most members of a stream.
 const MOST_MEMBERS: usize = 32;
 
-/// A stream: its definition, its open slots, and the count of changes of the CFG-1 list since its definition.
+/// A stream: its definition, its open slots, and the count of changes of the CFG-1 list since its definition. `size` is the size of
+/// its last data frame, a good guess for the next one, or 0 where its effective members have changed since.
 #[derive(Drop)]
 pub(crate) struct Stream {
     definition: Definition,
     align: Align,
     changes: OutCfg,
+    size: u16,
 }
 
 impl Model for Stream {
-    ghost use Rattle.pg_data.specs.Shared.{Piece};
+    ghost use Rattle.pg_data.specs.Pieces.{Piece};
     ghost use Rattle.pg_align.specs.Slots.{Aligned};
     ghost use Rattle.pg_session.specs.Streams.{StreamOf};
     ghost use Rattle.pg_session.specs.Fields.{IsStream, AreListed, turn_stats, with_stats};
@@ -89,6 +91,7 @@ fn mark_changed<'a>(
 }
 
 /// The place of a PMU among the members of a stream.
+#[inline(never)]
 pub(crate) fn place_in(definition: &Definition, key: &PmuKey) -> Option<usize>
     ensures { result ≡ place_of definition.now.members key.now }
 {
@@ -97,6 +100,33 @@ pub(crate) fn place_in(definition: &Definition, key: &PmuKey) -> Option<usize>
         .as_slice()
         .iter()
         .position(|member| *member == *key)
+}
+
+/// The same for a PMU that is guessed to be the member at the place `next`: where it is, no other is looked at. `next` is then
+/// the place behind the one where it was found, so that members which come in their order are found at once.
+#[inline(always)]
+pub(crate) fn place_next(definition: &Definition, key: &PmuKey, next: &mut usize) -> Option<usize>
+    requires limits { IsWithinLimits definition.now }
+    ensures { result ≡ place_of definition.now.members key.now }
+{
+    let place = place_near(definition, key, *next);
+    if let Some(place) = place {
+        *next = place.saturating_add(1);
+    }
+    place
+}
+
+/// The same for a PMU that may well be the member at the place `guess`.
+#[inline(always)]
+fn place_near(definition: &Definition, key: &PmuKey, guess: usize) -> Option<usize>
+    requires limits { IsWithinLimits definition.now }
+    ensures { result ≡ place_of definition.now.members key.now }
+{
+    let members = definition.members.as_slice();
+    if guess < members.len() && members[guess] == *key {
+        return Some(guess);
+    }
+    place_in(definition, key)
 }
 
 /// Counts a change of the CFG-1 list, if it is one.
@@ -134,6 +164,7 @@ impl Stream {
             definition,
             align,
             changes: OutCfg::new(),
+            size: 0,
         })
     }
 
@@ -211,7 +242,15 @@ impl Stream {
     {
         count_if(&mut self.changes, counts);
         if self.is_reshaped(listed, change) {
-            flush_all(alloc, &self.definition, listed, &mut self.align, output);
+            flush_all(
+                alloc,
+                &self.definition,
+                listed,
+                &mut self.align,
+                &mut self.size,
+                output,
+            );
+            self.size = 0;
             let members = self.definition.members.as_slice();
             let mut effective = [false; MOST_MEMBERS];
             let effective = &mut effective[..members.len()];
@@ -230,7 +269,14 @@ impl Stream {
     {
         if self.align.is_on() {
             self.align.tick();
-            leave_all(alloc, &self.definition, listed, &mut self.align, output);
+            leave_all(
+                alloc,
+                &self.definition,
+                listed,
+                &mut self.align,
+                &mut self.size,
+                output,
+            );
         }
     }
 
@@ -264,8 +310,7 @@ impl Stream {
         if !self.align.is_on() {
             return;
         }
-        let count = count_placed(&self.definition, frame, places);
-        if count == 0 {
+        if !has_placed(&self.definition, frame, places) {
             return;
         }
         match slot_of(self.definition.rate, frame.base(), frame.soc, frame.frac) {
@@ -279,9 +324,19 @@ impl Stream {
                     blocks,
                     output,
                 );
-                leave_all(alloc, &self.definition, listed, &mut self.align, output);
+                leave_all(
+                    alloc,
+                    &self.definition,
+                    listed,
+                    &mut self.align,
+                    &mut self.size,
+                    output,
+                );
             }
-            Err(_) => pass_all(count, blocks, output),
+            Err(_) => {
+                let count = count_placed(&self.definition, frame, places);
+                pass_all(count, blocks, output);
+            }
         }
     }
 

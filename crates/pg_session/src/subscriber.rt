@@ -8,7 +8,7 @@ ghost use Rattle.pg_session.specs.Events.{Happening, happening, config_of, annou
 ghost use Rattle.pg_config.specs.Parts.{Part};
 ghost use Rattle.pg_session.specs.Private.{told};
 ghost use Rattle.pg_session.specs.Ready.{Accepts, AreHeld, AreOwn, ArePlaces, IsPlain, IsReady, KeepsBuffer, NeedsNone, ReturnsBuffer};
-ghost use Rattle.pg_session.specs.Shown.{Model, SubscriberValue, Shows, Takes, begin};
+ghost use Rattle.pg_session.specs.Shown.{Model, SubscriberValue, ShowsPrivate, Takes, begin};
 ghost use Rattle.pg_session.specs.Standing.{standing_of, own_standing};
 ghost use Rattle.pg_session.specs.Steps.{Steps, MakesFew, HasNoCopies};
 ghost use Rattle.pg_session.specs.Fields.{Obeys, MayRefuse};
@@ -67,7 +67,7 @@ impl Model for Subscriber {
     ghost use Rattle.std.specs.Prelude.{map, vec_capacity};
     ghost use Rattle.std.specs.Arc.{arc_value};
     ghost use Rattle.pg_session.specs.Shown.{SubscriberValue};
-    ghost use Rattle.pg_session.specs.Fields.{IsKept};
+    ghost use Rattle.pg_session.specs.Fields.{SubscriberIsKept};
 
     ghost Value = { SubscriberValue };
 
@@ -84,7 +84,7 @@ impl Model for Subscriber {
       configs = map arc_value s.configs.items;
     } };
 
-    ghost invariant = { λ s. IsKept (record {
+    ghost invariant = { λ s. SubscriberIsKept (record {
       own = record {
         connected = s.connected;
         grants = s.grants;
@@ -108,7 +108,7 @@ impl Subscriber {
         bytes: RingBytes,
         last: Option<u32>,
     ) -> Result<Subscriber, Refusal>
-        ensures shows { IfOk result (λ s. Shows s (begin ring bytes last)) }
+        ensures shows { IfOk result (λ s. ShowsPrivate s (begin ring bytes last)) }
         ensures none { IfOk result HasNoCopies }
         ensures memory { IfErr result (λ refusal. refusal ≡ Refusal.NoMemory) }
     {
@@ -130,6 +130,14 @@ impl Subscriber {
         ensures value { result ≡ has_key self.now.own.grants key }
     {
         self.grants.holds(key)
+    }
+
+    /// The same of a PMU that is guessed to stand at the place `next` of those that are granted, by rising key: where it does
+    /// there is no search. `next` is then the place behind it.
+    pub fn holds_next(&self, key: PmuKey, next: &mut usize) -> bool
+        ensures value { result ≡ has_key self.now.own.grants key }
+    {
+        self.grants.holds_next(key, next)
     }
 
     /// Whether the subscriber is connected.
@@ -164,7 +172,7 @@ impl Subscriber {
 
     /// How the subscriber stands: what waits for it, and the stream at this place, 0 the one that was defined first.
     pub fn standing(&self, place: usize) -> Standing
-        ensures value { (p : Model) → Shows self.now p → result ≡ standing_of p place }
+        ensures value { (p : Model) → ShowsPrivate self.now p → result ≡ standing_of p place }
         // the same of what is kept, whatever state that shows
         ensures kept { result ≡ own_standing self.now.own place }
     {
@@ -208,6 +216,7 @@ impl Subscriber {
     /// # Errors
     ///
     /// `NoMemory`, and then no copy lies ready.
+    #[inline(always)]
     pub fn copies(&mut self, event: &PrivateEvent<'_>) -> Result<(), Refusal>
         requires accepts { Accepts self.old event.now }
         ensures ready { IfOk result (λ u. IsReady self.new (happening event.now)) }
@@ -256,6 +265,7 @@ impl Subscriber {
     }
 
     /// Lays the copies that an event needs, where none lie.
+    #[inline(always)]
     fn lay(&mut self, event: &PrivateEvent<'_>) -> Result<(), Refusal>
         requires accepts { Accepts self.old event.now }
         requires none { HasNoCopies self.old }
@@ -277,6 +287,7 @@ impl Subscriber {
     }
 
     /// Lays the copy that a grant needs: of what the PMU has announced, where it is granted anew.
+    #[inline(never)]
     fn lay_granted(&mut self, key: &PmuKey, config: &Arc<PmuConfig>) -> Result<(), Refusal>
         requires none { HasNoCopies self.old }
         ensures blocks { self.new.blocks ≡ [] }
@@ -315,6 +326,8 @@ impl Subscriber {
     /// `BadDefinition`, `StreamExists`, `StreamsFull`, `NoMemory`; of a removal `NoSuchStream`; of a connect `Busy`; of a
     /// hang-up `NotConnected`; of a command `NotConnected`, `NoSuchStream`, `UnknownCommand`, `Unsupported`, and where it asks
     /// for a reply `ReplyFull`, `NoMemory`. A drain is answered with its buffer, and with `NotConnected`.
+    // Each caller names its event, so that of the match nothing is left where it is inlined.
+    #[inline(always)]
     pub fn take(&mut self, event: PrivateEvent<'_>, lost: bool) -> PrivateReply
         requires accepts { Accepts self.old event }
         requires ready { IsReady self.old (happening event) }
@@ -341,6 +354,7 @@ impl Subscriber {
     }
 
     /// A tick.
+    #[inline(never)]
     fn tick(&mut self, soc: u32, lost: bool) -> PrivateReply
         requires none { HasNoCopies self.old }
         ensures steps { Steps self.old (tick soc) lost (told result) self.new }
@@ -385,6 +399,7 @@ impl Subscriber {
     }
 
     /// The subscriber connects.
+    #[inline(never)]
     fn connect(&mut self, lost: bool) -> PrivateReply
         requires none { HasNoCopies self.old }
         ensures steps { Steps self.old connect lost (told result) self.new }
@@ -400,6 +415,7 @@ impl Subscriber {
     }
 
     /// The subscriber hangs up.
+    #[inline(never)]
     fn hang_up(&mut self, lost: bool) -> PrivateReply
         requires none { HasNoCopies self.old }
         ensures steps { Steps self.old hangup lost (told result) self.new }
@@ -418,6 +434,7 @@ impl Subscriber {
 
     /// A PMU is granted. What it has announced, of which a copy lies ready, is put into the CFG-1 list; each stream whose effective
     /// blocks that changes is flushed first.
+    #[inline(never)]
     fn grant(&mut self, key: PmuKey, lost: bool) -> PrivateReply
         requires blocks { self.old.blocks ≡ [] }
         ensures steps { (config : Option Part) → self.old.configs ≡ granted_wanted self.old.own.grants key config → Steps self.old (grant key config) lost (told result) self.new }
@@ -450,6 +467,7 @@ impl Subscriber {
     }
 
     /// Granted PMUs announced their configurations, whose copies lie ready.
+    #[inline(never)]
     fn announce(&mut self, config: &SourceConfig, places: &[usize], lost: bool) -> PrivateReply
         requires places { ArePlaces (length config.now.parts) places.now }
         requires own { AreOwn self.old.own.grants (announced_at config.now places.now) }
@@ -476,6 +494,7 @@ impl Subscriber {
     }
 
     /// The grant of a PMU is taken back. Each stream whose effective blocks that changes is flushed first.
+    #[inline(never)]
     fn revoke(&mut self, key: PmuKey, lost: bool) -> PrivateReply
         requires none { HasNoCopies self.old }
         ensures steps { Steps self.old (revoke key) lost (told result) self.new }
@@ -503,6 +522,7 @@ impl Subscriber {
     }
 
     /// What waits is handed out into a buffer, as far as it goes.
+    #[inline(never)]
     fn drain(&mut self, mut buf: Vec<u8>, lost: bool) -> PrivateReply
         requires none { HasNoCopies self.old }
         ensures steps { Steps self.old (drain (vec_len buf)) lost (told result) self.new }
@@ -521,6 +541,7 @@ impl Subscriber {
     }
 
     /// A stream is removed, with its open slots.
+    #[inline(never)]
     fn remove(&mut self, stream: StreamId, lost: bool) -> PrivateReply
         requires none { HasNoCopies self.old }
         ensures steps { Steps self.old (remove stream) lost (told result) self.new }
@@ -536,6 +557,7 @@ impl Subscriber {
     }
 
     /// A command of the subscriber. Refused ones are counted, where it is connected.
+    #[inline(never)]
     fn command(&mut self, asked: &Command, lost: bool) -> PrivateReply
         requires none { HasNoCopies self.old }
         ensures steps { Steps self.old (command asked.now.stream asked.now.word) lost (told result) self.new }
@@ -585,6 +607,7 @@ impl Subscriber {
     }
 
     /// A stream is defined. It is off, and stands last.
+    #[inline(never)]
     fn define(&mut self, definition: Definition, lost: bool) -> PrivateReply
         requires none { HasNoCopies self.old }
         ensures steps { Steps self.old (define definition) lost (told result) self.new }

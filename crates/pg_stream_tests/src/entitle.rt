@@ -39,3 +39,35 @@ fn sorted(rt: HostRuntime) -> Result<(), Fail> {
     assert_eq!(rt; grants.holds(key(2, 1).ok_or("a key")?), true);
     Ok(())
 }
+
+/// Whatever place is guessed, the answer is that of `holds`.
+#[test]
+fn guessed_grants(rt: HostRuntime) -> Result<(), Fail> {
+    let mut grants = Grants::new(rt.alloc())?;
+    for pmu in [1, 3, 5u16] {
+        grants.grant(key(7, pmu).ok_or("a key")?)?;
+    }
+    for guess in [0, 1, 2, 3, usize::MAX] {
+        for pmu in 1..7u16 {
+            let asked = key(7, pmu).ok_or("a key")?;
+            let mut next = guess;
+            assert_eq!(rt; grants.holds_next(asked, &mut next), grants.holds(asked));
+        }
+    }
+    Ok(())
+}
+
+/// PMUs that are asked for in their order are each found at the place that was left.
+#[test]
+fn grants_in_order(rt: HostRuntime) -> Result<(), Fail> {
+    let mut grants = Grants::new(rt.alloc())?;
+    let mut next = 0;
+    for pmu in 1..9u16 {
+        grants.grant(key(7, pmu).ok_or("a key")?)?;
+    }
+    for pmu in 1..9u16 {
+        assert!(rt; grants.holds_next(key(7, pmu).ok_or("a key")?, &mut next));
+        assert_eq!(rt; next, usize::from(pmu));
+    }
+    Ok(())
+}

@@ -162,7 +162,23 @@ fn frame_3001(
     requires { IsWithinLimits definition.now }
 {
     assert!(rt; parts.len() == definition.members.as_slice().len());
-    Ok(data_frame(alloc, definition, 3001, list, parts).expect(rt, "memory"))
+    let frame = data_frame(alloc, definition, 3001, list, parts).expect(rt, "memory");
+    // Whatever size is guessed it is the same frame, and its size is the next guess.
+    for guess in [
+        0,
+        15,
+        16,
+        frame.len() as u16,
+        frame.len() as u16 + 1,
+        12_752,
+        65_535,
+    ] {
+        let mut size = guess;
+        let near = data_frame_near(alloc, definition, 3001, list, parts, &mut size);
+        assert!(rt; near.expect(rt, "memory").as_slice() == frame.as_slice());
+        assert!(rt; usize::from(size) == frame.len());
+    }
+    Ok(frame)
 }
 
 #[test]
@@ -344,8 +360,18 @@ fn counts_and_flush(rt: HostRuntime) {
         (&second[20..25], &second[308..310]),
         (b"PMU 8".as_slice(), [0, 1].as_slice())
     );
+    // Whatever place is guessed: 7 stands first, 8 behind it.
+    for guess in [0, 1, 2, usize::MAX] {
+        let mut next = guess;
+        assert!(rt; list.get_next(&seven, &mut next).is_some());
+        assert_eq!(rt; next, 1);
+        assert!(rt; list.get_next(&eight, &mut next).is_some());
+        assert_eq!(rt; next, 2);
+    }
     list.remove(&eight);
+    let mut next = 1;
     assert!(rt; list.get(&eight).is_none() && list.len() == 1);
+    assert!(rt; list.get_next(&eight, &mut next).is_none());
     let mut expected = CONFIG_REPLY;
     expected[1] = 0x22;
     expected[72] = 0x77;

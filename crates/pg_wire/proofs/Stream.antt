@@ -10,8 +10,8 @@ use Rattle.pg_wire.specs.declared.refusal.Refusal.{Refusal}
 use Rattle.pg_wire.specs.declared.deframer.Taken.{Taken}
 use Rattle.pg_wire.specs.declared.deframer.Taken.TheVariants as taken
 use Rattle.pg_wire.specs.Frame.{IsWhole, IsPartial, break_of, size_of}
-use Rattle.pg_wire.specs.Stream.{Deframing, Shows, Splits, joined, fed}
-use Rattle.pg_wire.specs.Taking.{Takes, TakesFrame, Gives}
+use Rattle.pg_wire.specs.Stream.{Deframing, ShowsStream, Splits, joined, fed}
+use Rattle.pg_wire.specs.Taking.{Takes, TakesFrame, GivesFrame}
 
 joined-more : (frames : List (List ℕ)) (frame : List ℕ) → joined (frames ++ frame ∷ []) ≡ joined frames ++ frame
 joined-more frames frame = flat_map-append (λ f. f) frames (frame ∷ []) ∙ ap (λ x. joined frames ++ x) (append-nil frame)
@@ -74,7 +74,7 @@ still_held : (d : Deframing) (rest : List ℕ) → d.broken ≡ None
 still_held d rest unbroken state = subst (λ b. MatchOption b (rest ≡ d.held) (λ refusal. (d.held ≡ []) × (break_of rest ≡ Some refusal))) unbroken state
 
 pub shows_next : (old new : Deframing) (stream : List ℕ) (frames : List (List ℕ)) (frame : List ℕ) (skipped : Option Refusal)
-    → TakesFrame old new frame skipped → Shows old stream frames → Shows new stream (frames ++ frame ∷ [])
+    → TakesFrame old new frame skipped → ShowsStream old stream frames → ShowsStream new stream (frames ++ frame ∷ [])
 shows_next old new stream frames frame skipped takes shows = record {
   each = All-push IsWhole frames frame shows.each takes.whole;
   rest = new.held;
@@ -107,7 +107,7 @@ breaks old rest refusal found state = go old.broken found state where
   go None found state = ap break_of state ∙ found
   go (Some before) found state = state.1 ∙ ap Some found
 
-pub gives : (old new : Deframing) (t : Taken) → Takes old t new → Gives old t new
+pub gives : (old new : Deframing) (t : Taken) → Takes old t new → GivesFrame old t new
 gives old new (taken.Frame frame) takes stream frames shows = (takes.skip, shows_next old new stream frames frame.now None takes shows)
 gives old new (taken.Skipped refusal) takes stream frames shows = (takes.0, takes.1.skip, shows_next old new stream frames takes.0 (Some refusal) takes.1 shows)
 gives old new taken.More takes stream frames shows =
@@ -117,7 +117,7 @@ gives old new taken.More takes stream frames shows =
       each = shows.each;
       end = λ frame more whole. no_frame_in_part old.held frame more takes.1 whole;
     } in
-    subst (λ d. Splits stream frames d.held × (break_of d.held ≡ None) × Shows d stream frames) (sym takes.2) (splits, takes.1.unbroken, shows)
+    subst (λ d. Splits stream frames d.held × (break_of d.held ≡ None) × ShowsStream d stream frames) (sym takes.2) (splits, takes.1.unbroken, shows)
 gives old new (taken.Broken refusal) takes stream frames shows =
     let broken : break_of shows.rest ≡ Some refusal = breaks old shows.rest refusal takes.1 shows.state in
     let splits : Splits stream frames shows.rest = record {
@@ -126,12 +126,12 @@ gives old new (taken.Broken refusal) takes stream frames shows =
       end = λ frame more whole. no_frame_at_break shows.rest frame more refusal broken whole;
     } in (
       (shows.rest, splits, broken),
-      subst (λ d. Shows d stream frames) (sym takes.0) (record { each = shows.each; rest = shows.rest; whole = shows.whole; state = (refl, broken) }),
+      subst (λ d. ShowsStream d stream frames) (sym takes.0) (record { each = shows.each; rest = shows.rest; whole = shows.whole; state = (refl, broken) }),
     )
 
 -- ---- a piece more
 
-pub shows_fed : (d : Deframing) (piece stream : List ℕ) (frames : List (List ℕ)) → Shows d stream frames → Shows (fed d piece) (stream ++ piece) frames
+pub shows_fed : (d : Deframing) (piece stream : List ℕ) (frames : List (List ℕ)) → ShowsStream d stream frames → ShowsStream (fed d piece) (stream ++ piece) frames
 shows_fed d piece stream frames shows = record {
   each = shows.each;
   rest = shows.rest ++ piece;

@@ -2,7 +2,7 @@
 
 ghost use Rattle.std.specs.Prelude.{◌≡◌, ℕ, ◌+◌, ◌≤◌, ◌↔◌, List, [], ◌++◌, length, drop, vec_len, vec_capacity, IfOk, IfErr, IsTrue, Option, Some, None};
 ghost use Rattle.pg_wire.specs.Frame.{IsWhole, break_of, size_of, skip_of};
-ghost use Rattle.pg_wire.specs.Stream.{fresh, fed, Shows};
+ghost use Rattle.pg_wire.specs.Stream.{fresh, fed, ShowsStream};
 ghost use Rattle.pg_wire.specs.Front.{IsFront};
 
 use crate::checksum::check;
@@ -43,7 +43,7 @@ impl Deframer {
     /// A deframer of an empty stream, with room for `CAPACITY` bytes. The one refusal is `NoMemory`.
     pub fn new(alloc: Global) -> Result<Deframer, Refusal>
         ensures state { IfOk result (λ d. d ≡ fresh) }
-        ensures shows { IfOk result (λ d. Shows d [] []) }
+        ensures shows { IfOk result (λ d. ShowsStream d [] []) }
         ensures memory { IfErr result (λ refusal. refusal ≡ Refusal.NoMemory) }
     {
         Ok(Deframer {
@@ -67,7 +67,7 @@ impl Deframer {
         requires { length self.old.held + length piece.now ≤ 65535 }
         ensures state { self.new ≡ fed self.old piece.now }
         // Whatever stream it was fed before, it is fed the piece after it.
-        ensures shows { (stream : List ℕ) (frames : List (List ℕ)) → Shows self.old stream frames → Shows self.new (stream ++ piece.now) frames }
+        ensures shows { (stream : List ℕ) (frames : List (List ℕ)) → ShowsStream self.old stream frames → ShowsStream self.new (stream ++ piece.now) frames }
     {
         if self.broken.is_some() {
             return;
@@ -122,7 +122,7 @@ impl Deframer {
     /// Starts anew, on an empty stream. It keeps its memory.
     pub fn reset(&mut self)
         ensures state { self.new ≡ fresh }
-        ensures shows { Shows self.new [] [] }
+        ensures shows { ShowsStream self.new [] [] }
     {
         self.bytes.clear();
         self.start = 0;

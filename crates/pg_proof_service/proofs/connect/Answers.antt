@@ -1,11 +1,11 @@
-use Rattle.std.proofs.Common.{◌≡◌, ◌∙◌, sym, subst, [], ◌∷◌}
+use Rattle.std.proofs.Common.{◌≡◌, ◌∙◌, inl, refl, sym, subst, [], ◌∷◌}
 use Rattle.std.proofs.lemmas.List.{append_cancel_left}
 use Rattle.pg_session.specs.Events.{connect}
 use Rattle.pg_gateway.specs.Occurrences.{asks, told}
 use Rattle.pg_gateway.specs.Posting.{Posted}
 use Rattle.pg_serve.specs.Gates.{said_at}
 use Rattle.pg_serve.specs.Onward.{own_in}
-use Rattle.pg_serve.specs.Delivery.{NoneDrains}
+use Rattle.pg_serve.specs.Delivery.{NoneDrains, ArePassed}
 use Rattle.pg_proof_service.proofs.connect.Goals as goal
 
 pub returns : goal.returns
@@ -17,4 +17,10 @@ returns g c =
     let said : own_in on.pieces ≡ post ∷ [] =
     append_cancel_left (said_at v.seen v.own) (own_in on.pieces) (post ∷ []) (sym on.said ∙ c.post.ensures.posted) in
     let none : NoneDrains u (post ∷ []) = (λ size is_drain. let other = is_drain in cc, tt) in
-    record { delivers = λ w. c.deliveries_go_on.ensures.meanwhile u v c.post.new.self [] w on (subst (NoneDrains u) (sym said) none) }
+    let passed : ArePassed u (post ∷ []) [] = (inl refl, tt) in
+    record {
+      delivers = λ w. c.deliveries_go_on.ensures.meanwhile u v c.post.new.self [] w on (subst (NoneDrains u) (sym said) none);
+      heard = λ session r sub shows.
+          c.deliveries_go_on.ensures.heard_none u session v c.post.new.self r on sub shows (subst (λ posts. ArePassed u posts []) (sym said) passed);
+      onward = on;
+    }

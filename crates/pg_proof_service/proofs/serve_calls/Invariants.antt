@@ -1,6 +1,7 @@
 use Rattle.std.proofs.Common.{◌≡◌, []}
-use Rattle.pg_serve.specs.Delivery.{Delivers}
+use Rattle.pg_serve.specs.Delivery.{Delivers, HasHeard}
 use Rattle.pg_proof_service.specs.Fed.{IsFed}
+use Rattle.pg_serve.specs.Onward.{GoesOn}
 use Rattle.pg_proof_service.proofs.serve_calls.Given as goal
 
 abbrev pub invariant-calls : goal.invariant-calls
@@ -8,4 +9,6 @@ invariant-calls g l = record {
   fed : IsFed l.session;
   sub : l.session.sub ≡ l.fn.sub;
   delivers : Delivers l.fn.sub l.fn.gate l.gate [] l.session.left (g.W.Write.contents l.fn.writer) (g.W.Write.contents l.writer);
+  heard : HasHeard l.fn.sub l.session l.fn.gate l.gate (g.R.Read.remaining l.fn.reader) (g.R.Read.remaining l.reader);
+  onward : GoesOn l.fn.gate l.gate;
 }

@@ -5,6 +5,7 @@ use Rattle.pg_align.specs.Slots.{fresh_slot}
 use Rattle.pg_align.specs.Fields.{slot_of, slots_of}
 use Rattle.pg_align.proofs.Kept.{HavePlaces-at, HavePlaces-with_part, AreFree-last, AreRising-with_part}
 use Rattle.pg_align.proofs.Arriving.{with_part_here, with_part_new}
+use Rattle.pg_align.proofs.Counting.{none_came, none_there}
 use Rattle.pg_align.proofs.slot.add_arrival.Goals as goal
 
 pub place_of-requires : goal.place_of-requires
@@ -12,13 +13,13 @@ place_of-requires c = record { rising = rw c.deref.ensures.value c.requires.risi
 
 pub add_part-requires-clause-places : goal.add_part-requires-clause-places
 add_part-requires-clause-places c slot e =
-    rw (HavePlaces-at c.args.places (slots_of c.args.slots.now.items) c.in-Ok.at slot c.requires.places e) c.requires.place
+    rw (HavePlaces-at c.args.opening.places (slots_of c.args.slots.now.items) c.in-Ok.at slot c.requires.places e) c.requires.place
 
 pub returns-in-Ok-clause-kept : goal.returns-in-Ok-clause-kept
 returns-in-Ok-clause-kept c t =
     let stands = rw c.deref.ensures.value at c.in-Ok.ensures.stands in
     let kept = c.add_part.ensures.kept t stands.here stands.found in
-    let fresh = fresh_slot c.args.slot c.args.wait c.args.places c.args.place c.args.part in
+    let fresh = fresh_slot c.args.slot c.args.opening.wait c.args.opening.places c.args.place c.args.part in
     let found = rw stands.place at stands.found in
     let here = with_part_here fresh c.args.place c.args.part (slots_of c.args.slots.now.items) stands.here found stands.same in
     (here.1 ∙ kept.0, (rw stands.place at kept.1) ∙ sym here.0)
@@ -27,7 +28,7 @@ pub returns-in-Ok-clause-twice : goal.returns-in-Ok-clause-twice
 returns-in-Ok-clause-twice c t =
     let stands = rw c.deref.ensures.value at c.in-Ok.ensures.stands in
     let twice = c.add_part.ensures.twice t in
-    let fresh = fresh_slot c.args.slot c.args.wait c.args.places c.args.place c.args.part in
+    let fresh = fresh_slot c.args.slot c.args.opening.wait c.args.opening.places c.args.place c.args.part in
     let found = rw stands.place at stands.found in
     let here = with_part_here fresh c.args.place c.args.part (slots_of c.args.slots.now.items) stands.here found stands.same in
     (rw here.1 (twice.1 stands.here stands.found), twice.0)
@@ -43,7 +44,7 @@ long_fresh slot wait places place part = length-set (replicate places None) plac
 pub returns-in-Ok-clause-places : goal.returns-in-Ok-clause-places
 returns-in-Ok-clause-places c =
     by_result c.add_part.result
-    (λ t. rw ((returns-in-Ok-clause-kept c t).1) (HavePlaces-with_part c.args.places _ c.args.place _ _ c.requires.places (long_fresh c.args.slot c.args.wait c.args.places c.args.place c.args.part)))
+    (λ t. rw ((returns-in-Ok-clause-kept c t).1) (HavePlaces-with_part c.args.opening.places _ c.args.place _ _ c.requires.places (long_fresh c.args.slot c.args.opening.wait c.args.opening.places c.args.place c.args.part)))
     (λ t. rw ((returns-in-Ok-clause-twice c t).1) c.requires.places)
 
 pub returns-in-Ok-clause-rising : goal.returns-in-Ok-clause-rising
@@ -54,15 +55,15 @@ returns-in-Ok-clause-rising c =
 
 pub open_slot-requires-clause-place : goal.open_slot-requires-clause-place
 open_slot-requires-clause-place c =
-    let free = AreFree-last c.args.places (slots_of c.pop.new.self.items) (slot_of c.in-Some.fresh) (rw (c.in-Some.ensures.items, map_push slot_of) at c.requires.free) in
+    let free = AreFree-last c.args.opening.places (slots_of c.pop.new.self.items) (slot_of c.in-Some.fresh) (rw (c.in-Some.ensures.items, map_push slot_of) at c.requires.free) in
     let long = ap length free.1 in
     let many = rw length-replicate at long in
     omega (arith, many, c.in-Some.fresh.parts.ok.0, c.requires.place)
 
 pub returns-clause-kept : goal.returns-clause-kept
 returns-clause-kept c t =
-    let free = AreFree-last c.args.places (slots_of c.pop.new.self.items) (slot_of c.in-Some.fresh) (rw (c.in-Some.ensures.items, map_push slot_of) at c.requires.free) in
-    let fresh = fresh_slot c.args.slot c.args.wait c.args.places c.args.place c.args.part in
+    let free = AreFree-last c.args.opening.places (slots_of c.pop.new.self.items) (slot_of c.in-Some.fresh) (rw (c.in-Some.ensures.items, map_push slot_of) at c.requires.free) in
+    let fresh = fresh_slot c.args.slot c.args.opening.wait c.args.opening.places c.args.place c.args.part in
     let away = rw c.deref.ensures.value at c.in-Err.ensures.away in
     let new = with_part_new fresh c.args.place c.args.part (slots_of c.args.slots.now.items) (away.1 ∙ sym (length-map c.args.slots.now.items slot_of)) in
     let opened = rw (away.0, free.1) at c.open_slot.ensures.slots in
@@ -70,7 +71,7 @@ returns-clause-kept c t =
 
 pub returns-clause-places : goal.returns-clause-places
 returns-clause-places c =
-    rw ((returns-clause-kept c refl).1) (HavePlaces-with_part c.args.places _ c.args.place _ _ c.requires.places (long_fresh c.args.slot c.args.wait c.args.places c.args.place c.args.part))
+    rw ((returns-clause-kept c refl).1) (HavePlaces-with_part c.args.opening.places _ c.args.place _ _ c.requires.places (long_fresh c.args.slot c.args.opening.wait c.args.opening.places c.args.place c.args.part))
 
 pub returns-clause-rising : goal.returns-clause-rising
 returns-clause-rising c =
@@ -78,4 +79,9 @@ returns-clause-rising c =
 
 pub returns-clause-free : goal.returns-clause-free
 returns-clause-free c =
-    (AreFree-last c.args.places (slots_of c.pop.new.self.items) (slot_of c.in-Some.fresh) (rw (c.in-Some.ensures.items, map_push slot_of) at c.requires.free)).0
+    (AreFree-last c.args.opening.places (slots_of c.pop.new.self.items) (slot_of c.in-Some.fresh) (rw (c.in-Some.ensures.items, map_push slot_of) at c.requires.free)).0
+
+pub returns-clause-counted : goal.returns-clause-counted
+returns-clause-counted c effective h m t =
+    let free = AreFree-last c.args.opening.places (slots_of c.pop.new.self.items) (slot_of c.in-Some.fresh) (rw (c.in-Some.ensures.items, map_push slot_of) at c.requires.free) in
+    c.open_slot.ensures.counted effective h (rw free.1 (m ∙ sym (none_came effective c.args.opening.places))) t (rw free.1 (none_there c.args.opening.places c.args.place))

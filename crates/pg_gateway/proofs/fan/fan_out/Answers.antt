@@ -1,22 +1,22 @@
 use Rattle.std.proofs.Common.{arith, sym, ◌∙◌, true≢false}
 use Rattle.pg_gateway.specs.Related.{Related}
-use Rattle.pg_gateway.specs.Sharing.{Seats}
-use Rattle.pg_gateway.specs.Shown.{SeatShows}
+use Rattle.pg_gateway.specs.Sharing.{SubscriberSlots}
+use Rattle.pg_gateway.specs.Shown.{SlotShows}
 use Rattle.pg_gateway.specs.Taking.{offered, Awaits, HasNone}
 use Rattle.indexmap.proofs.CallerLemmas.{index_map_len-with_value_at}
 use Rattle.pg_gateway.proofs.RelatedLaws.{Related-length}
-use Rattle.pg_gateway.proofs.FanLaws.{fan_step, fan_end, seats-at, seats-after, seats-before}
+use Rattle.pg_gateway.proofs.FanLaws.{fan_step, fan_end, slots-at, slots-after, slots-before}
 use Rattle.pg_gateway.proofs.fan.fan_out.Goals as goal
 use Rattle.pg_gateway.proofs.fan.fan_out.Goals.{then-more_kept-more, else-more_kept-more}
 
 pub take_share-more-requires-clause-awaits : goal.take_share-more-requires-clause-awaits
-take_share-more-requires-clause-awaits c = seats-at (Awaits (offered c.args.event.now c.args.places.now)) c.loop-i.subs.entries c.loop-i.i c.index_mut.result.now c.loop-i.invariant.awaits c.index_mut.ensures.value
+take_share-more-requires-clause-awaits c = slots-at (Awaits (offered c.args.event.now c.args.places.now)) c.loop-i.subs.entries c.loop-i.i c.index_mut.result.now c.loop-i.invariant.awaits c.index_mut.ensures.value
 
 pub loop-i-preserved : goal.loop-i-preserved
 loop-i-preserved c =
     let inv = c.loop-i.invariant in
-    let step = λ (ps : Seats) (h : Related SeatShows c.args.subs.now.entries ps).
-    let len = Related-length SeatShows _ ps h in
+    let step = λ (ps : SubscriberSlots) (h : Related SlotShows c.args.subs.now.entries ps).
+    let len = Related-length SlotShows _ ps h in
     fan_step (offered c.args.event.now c.args.places.now) ps c.loop-i.i c.loop-i.made c.loop-i.kept c.loop-i.lost c.take_share-more.result.0 c.take_share-more.result.1 c.loop-i.subs.entries c.index_mut.result.now c.take_share-more.new.self
     (omega (arith, c.len-i-end.ensures.len)) (inv.count ps h) inv.kept inv.all (inv.shows ps h) c.index_mut.ensures.value c.take_share-more.ensures.takes.shares c.take_share-more.ensures.takes.kept in
     record {
@@ -28,8 +28,8 @@ loop-i-preserved c =
         | else-more_kept-more w ↦ λ calm. let same = inv.all (sym w.lost-is ∙ calm) in omega arith
       ];
       room = c.take_share-more.ensures.room;
-      awaits = seats-after (Awaits (offered c.args.event.now c.args.places.now)) c.loop-i.subs.entries c.loop-i.i c.take_share-more.new.self inv.awaits;
-      none = seats-before HasNone c.loop-i.subs.entries c.loop-i.i c.take_share-more.new.self inv.none (c.take_share-more.ensures.takes.none, c.take_share-more.ensures.spared);
+      awaits = slots-after (Awaits (offered c.args.event.now c.args.places.now)) c.loop-i.subs.entries c.loop-i.i c.take_share-more.new.self inv.awaits;
+      none = slots-before HasNone c.loop-i.subs.entries c.loop-i.i c.take_share-more.new.self inv.none (c.take_share-more.ensures.takes.none, c.take_share-more.ensures.spared);
       count = λ ps h. (step ps h).0;
       shows = λ ps h. (step ps h).1;
     }
@@ -37,5 +37,5 @@ loop-i-preserved c =
 pub returns-clause-fans_out : goal.returns-clause-fans_out
 returns-clause-fans_out c = λ ps h.
     let inv = c.loop-i.invariant in
-    let len = Related-length SeatShows _ ps h in
+    let len = Related-length SlotShows _ ps h in
     fan_end (offered c.args.event.now c.args.places.now) ps c.loop-i.i c.loop-i.made c.loop-i.kept c.loop-i.subs.entries (omega (arith, c.len-i-end.ensures.len)) (inv.count ps h) (inv.shows ps h)

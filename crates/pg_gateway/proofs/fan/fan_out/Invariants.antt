@@ -1,10 +1,10 @@
 use Rattle.std.proofs.Common.{◌≡◌, ◌≤◌, ◌*◌, ◌++◌, false, take, drop, vec_capacity}
 use Rattle.indexmap.specs.IndexMap.{index_map_len}
 use Rattle.pg_gateway.specs.Related.{Related}
-use Rattle.pg_gateway.specs.Sharing.{Seats, fan_out, total}
-use Rattle.pg_gateway.specs.Shown.{SeatShows}
+use Rattle.pg_gateway.specs.Sharing.{SubscriberSlots, fan_out, total}
+use Rattle.pg_gateway.specs.Shown.{SlotShows}
 use Rattle.pg_gateway.specs.Taking.{offered, Awaits, HasNone}
-use Rattle.pg_gateway.specs.Frugal.{AllSeats}
+use Rattle.pg_gateway.specs.Frugal.{AllSlots}
 use Rattle.pg_gateway.proofs.fan.fan_out.Given as goal
 
 abbrev pub invariant-loop-i : goal.invariant-loop-i
@@ -14,8 +14,8 @@ invariant-loop-i l = record {
   kept : l.kept ≤ l.made;
   all : l.lost ≡ false → l.kept ≡ l.made;
   room : 16 ≤ vec_capacity l.held;
-  awaits : AllSeats (Awaits (offered l.event l.places)) (drop l.i l.subs.entries);
-  none : AllSeats HasNone (take l.i l.subs.entries);
-  count : (seats : Seats) → Related SeatShows l.fn.subs.entries seats → l.made ≡ total (offered l.event l.places) (take l.i seats);
-  shows : (seats : Seats) → Related SeatShows l.fn.subs.entries seats → Related SeatShows l.subs.entries (fan_out (offered l.event l.places) (take l.i seats) l.kept ++ drop l.i seats);
+  awaits : AllSlots (Awaits (offered l.event l.places)) (drop l.i l.subs.entries);
+  none : AllSlots HasNone (take l.i l.subs.entries);
+  count : (slots : SubscriberSlots) → Related SlotShows l.fn.subs.entries slots → l.made ≡ total (offered l.event l.places) (take l.i slots);
+  shows : (slots : SubscriberSlots) → Related SlotShows l.fn.subs.entries slots → Related SlotShows l.subs.entries (fan_out (offered l.event l.places) (take l.i slots) l.kept ++ drop l.i slots);
 }

@@ -1,15 +1,15 @@
 use Rattle.std.proofs.Common.{◌≡◌, take}
 use Rattle.indexmap.specs.IndexMap.{index_map_len}
 use Rattle.pg_gateway.specs.Related.{Related}
-use Rattle.pg_gateway.specs.Sharing.{Seats}
-use Rattle.pg_gateway.specs.Shown.{SeatShows}
+use Rattle.pg_gateway.specs.Sharing.{SubscriberSlots}
+use Rattle.pg_gateway.specs.Shown.{SlotShows}
 use Rattle.pg_gateway.specs.Taking.{HasNone}
-use Rattle.pg_gateway.specs.Frugal.{AllSeats}
+use Rattle.pg_gateway.specs.Frugal.{AllSlots}
 use Rattle.pg_gateway.proofs.fan.forget_all.Given as goal
 
 abbrev pub invariant-loop-i : goal.invariant-loop-i
 invariant-loop-i l = record {
   len : index_map_len l.subs ≡ index_map_len l.fn.subs;
-  none : AllSeats HasNone (take l.i l.subs.entries);
-  shows : (seats : Seats) → Related SeatShows l.fn.subs.entries seats → Related SeatShows l.subs.entries seats;
+  none : AllSlots HasNone (take l.i l.subs.entries);
+  shows : (slots : SubscriberSlots) → Related SlotShows l.fn.subs.entries slots → Related SlotShows l.subs.entries slots;
 }

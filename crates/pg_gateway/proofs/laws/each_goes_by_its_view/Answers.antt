@@ -1,4 +1,4 @@
-use Rattle.pg_gateway.specs.Shared.{opening}
+use Rattle.pg_gateway.specs.State.{opening}
 use Rattle.pg_gateway.specs.Laws.{after}
 use Rattle.pg_gateway.proofs.ViewLaws.{own-run}
 use Rattle.pg_gateway.proofs.AnswerLaws.{handed-run}

@@ -1,4 +1,4 @@
-use Rattle.pg_gateway.specs.Shared.{opening}
+use Rattle.pg_gateway.specs.State.{opening}
 use Rattle.pg_gateway.proofs.AnswerLaws.{lossless_full}
 use Rattle.pg_gateway.proofs.RunLaws.{full_history}
 use Rattle.pg_gateway.proofs.laws.nothing_lost_is_full.Goals as goal

@@ -1,6 +1,6 @@
 use Rattle.std.proofs.Common.{rules, arith, refl, sym, ◌∙◌, true≢false, w64}
 use Rattle.std.specs.Int.{trailing_zeros}
-use Rattle.pg_gateway.specs.Shown.{SeatShows}
+use Rattle.pg_gateway.specs.Shown.{SlotShows}
 use Rattle.pg_gateway.specs.Taking.{offered, Awaits, HasNone, Fits}
 use Rattle.pg_gateway.specs.Frugal.{Spares}
 use Rattle.pg_gateway.specs.Routes.{IsPassed}
@@ -25,7 +25,7 @@ marked-init c =
       laid = λ j v at unset. awaits_passed o v (none j v at unset) (c.requires.passed j v at unset);
       passed = c.requires.passed;
       passed_none = none;
-      shows = λ seats h. h;
+      shows = λ slots h. h;
     }
 
 pub index_mut-requires : goal.index_mut-requires
@@ -50,7 +50,7 @@ returns-in_err-lay-clause-needless c = λ spares.
 
 pub returns-in_err-lay-clause-shows : goal.returns-in_err-lay-clause-shows
 returns-in_err-lay-clause-shows c = λ ps h.
-    Related-kept SeatShows c.marked.subs.entries ps (trailing_zeros w64 c.marked.left) c.index_mut.result.now c.lay.new.self (c.marked.invariant.shows ps h) c.index_mut.ensures.value
+    Related-kept SlotShows c.marked.subs.entries ps (trailing_zeros w64 c.marked.left) c.index_mut.result.now c.lay.new.self (c.marked.invariant.shows ps h) c.index_mut.ensures.value
     (λ s shown. shows_kept c.index_mut.result.now c.lay.new.self s c.lay.ensures.lays.own c.lay.ensures.lays.audit shown)
 
 pub returns-in_err-lay-clause-len : goal.returns-in_err-lay-clause-len
@@ -78,6 +78,6 @@ marked-preserved c =
       laid = now_cleared (Awaits o) xs i new left (without left i) t.5 (awaits_laid o old new c.lay.ensures.lays.own fit c.in_ok-lay.ensures.lays.laid c.in_ok-lay.ensures.lays.spared) inv.laid;
       passed = still_unmarked (IsPassed o) xs i new c.args.marks marked inv.passed;
       passed_none = still_unmarked HasNone xs i new c.args.marks marked inv.passed_none;
-      shows = λ ps h. Related-kept SeatShows xs ps i old new (inv.shows ps h) c.index_mut.ensures.value
+      shows = λ ps h. Related-kept SlotShows xs ps i old new (inv.shows ps h) c.index_mut.ensures.value
           (λ s shown. shows_kept old new s c.lay.ensures.lays.own c.lay.ensures.lays.audit shown);
     }

@@ -2,10 +2,10 @@ use Rattle.std.proofs.Common.{◌≡◌, ◌≤◌, ℕ, vec_capacity}
 use Rattle.std.specs.Int.{bit_at}
 use Rattle.indexmap.specs.IndexMap.{index_map_len}
 use Rattle.pg_gateway.specs.Related.{Related}
-use Rattle.pg_gateway.specs.Sharing.{Seats}
-use Rattle.pg_gateway.specs.Shown.{SeatShows}
+use Rattle.pg_gateway.specs.Sharing.{SubscriberSlots}
+use Rattle.pg_gateway.specs.Shown.{SlotShows}
 use Rattle.pg_gateway.specs.Taking.{offered, Awaits, HasNone, Fits}
-use Rattle.pg_gateway.specs.Frugal.{AllSeats, Spares}
+use Rattle.pg_gateway.specs.Frugal.{AllSlots, Spares}
 use Rattle.pg_gateway.specs.Routes.{WhereBit, IsPassed}
 use Rattle.pg_gateway.proofs.marked.lay_marked.Given as goal
 
@@ -16,11 +16,11 @@ invariant-marked l = record {
   marked : (j : ℕ) → bit_at l.left j ≡ 1 → bit_at l.marks j ≡ 1;
   fits : WhereBit 1 l.left (Fits (offered l.event l.places)) l.subs.entries;
   none : WhereBit 1 l.left HasNone l.subs.entries;
-  spares : AllSeats (Spares (offered l.event l.places)) l.fn.subs.entries → WhereBit 1 l.left (Spares (offered l.event l.places)) l.subs.entries;
+  spares : AllSlots (Spares (offered l.event l.places)) l.fn.subs.entries → WhereBit 1 l.left (Spares (offered l.event l.places)) l.subs.entries;
   laid : WhereBit 0 l.left (Awaits (offered l.event l.places)) l.subs.entries;
   passed : WhereBit 0 l.marks (IsPassed (offered l.event l.places)) l.subs.entries;
   passed_none : WhereBit 0 l.marks HasNone l.subs.entries;
-  shows : (seats : Seats) → Related SeatShows l.fn.subs.entries seats → Related SeatShows l.subs.entries seats;
+  shows : (slots : SubscriberSlots) → Related SlotShows l.fn.subs.entries slots → Related SlotShows l.subs.entries slots;
 }
 
 abbrev pub decreases-marked : goal.decreases-marked

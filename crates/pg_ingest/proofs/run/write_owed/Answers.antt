@@ -1,7 +1,7 @@
 use Rattle.std.proofs.Common.{refl, ap, subst, ◌∙◌}
 use Rattle.pg_ingest.specs.Linking.{Linking}
 use Rattle.pg_ingest.specs.Begun.{Begins}
-use Rattle.pg_ingest.specs.Shown.{Shows}
+use Rattle.pg_ingest.specs.Shown.{ShowsLink}
 use Rattle.pg_ingest.proofs.Stepping.{Nothing, ran_nothing, on_as, on_more, ran_same}
 use Rattle.pg_ingest.proofs.Turns.{Begun, begun_none, begun_more, begun_told, ran_begun}
 use Rattle.pg_ingest.proofs.run.write_owed.Goals as goal
@@ -24,7 +24,7 @@ returns-then-not-begin-clause-whole g c = λ e. ap (λ (v : Linking). v.left) (c
 pub returns-then-not-begin-clause-none : goal.returns-then-not-begin-clause-none
 returns-then-not-begin-clause-none g c = λ e past shows.
     (subst (λ b. Begins past c.begin.new.self b) c.if-not-begin.true
-    (c.begin.ensures.begins past (subst (λ v. Shows v past) (c.begin.ensures.none c.if-not-begin.true) shows))).0
+    (c.begin.ensures.begins past (subst (λ v. ShowsLink v past) (c.begin.ensures.none c.if-not-begin.true) shows))).0
 
 pub owed-preserved : goal.owed-preserved
 owed-preserved g c = record {

@@ -6,6 +6,6 @@ use Rattle.pg_outcfg.proofs.data.add_blocks.Given as goal
 abbrev pub invariant-loop-i : goal.invariant-loop-i
 invariant-loop-i l = record {
   bytes : l.frame.items ++ joined (data_blocks l.listed (drop l.i l.members) (drop l.i l.parts)) ≡ l.fn.frame.items ++ joined (data_blocks l.listed l.members l.parts);
+  len : vec_len l.frame + length (joined (data_blocks l.listed (drop l.i l.members) (drop l.i l.parts))) ≡ vec_len l.fn.frame + length (joined (data_blocks l.listed l.members l.parts));
   room : vec_capacity l.fn.frame ≤ vec_capacity l.frame;
-  fits : vec_len l.frame + length (joined (data_blocks l.listed (drop l.i l.members) (drop l.i l.parts))) ≤ vec_capacity l.frame;
 }

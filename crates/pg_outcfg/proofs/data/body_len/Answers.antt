@@ -6,7 +6,7 @@ use Rattle.pg_outcfg.proofs.data.body_len.Goals.{in-Some, in_default}
 pub loop-i-preserved : goal.loop-i-preserved
 loop-i-preserved c =
     let within : c.loop-i.i < length c.args.parts.now = omega (arith, c.requires.parts, c.loop-i-test.true) in
-    elim c.match-get.branch [
+    elim c.match-get_next.branch [
       | in-Some w ↦
           let left = next-block c.args.listed.now c.args.members.now c.args.parts.now c.loop-i.i c.index-members-i.result w.index-parts-i.result w.deref.result.now
           c.loop-i-test.true c.index-members-i.is within w.index-parts-i.is (ap Some w.deref.ensures ∙ w.in-Some.ensures.value) in

@@ -7,8 +7,8 @@ use Rattle.pg_serve.specs.Dues.{words_due, frames_of, gave}
 use Rattle.pg_serve.proofs.feeding.commands_owed.Given as goal
 
 abbrev pub invariant-loop-frame : goal.invariant-loop-frame
-invariant-loop-frame l = (past : LinkPast) → ingest.Shows l.fn.link past
-    → (words : List Word) × (l.frames.items ≡ frames_of past.source words) × ingest.Shows l.link (gave past words)
+invariant-loop-frame l = (past : LinkPast) → ingest.ShowsLink l.fn.link past
+    → (words : List Word) × (l.frames.items ≡ frames_of past.source words) × ingest.ShowsLink l.link (gave past words)
     × (words ++ words_due (gave past words) ≡ words_due past)
 
 abbrev pub decreases-loop-frame : goal.decreases-loop-frame

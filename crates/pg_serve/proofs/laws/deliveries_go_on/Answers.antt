@@ -1,4 +1,4 @@
-use Rattle.pg_serve.proofs.Delivering.{delivers_call, hears_call, delivers_meanwhile, delivers_more}
+use Rattle.pg_serve.proofs.Delivering.{delivers_call, hears_call, delivers_meanwhile, delivers_more, hears_more, has_heard_none, has_heard_more}
 use Rattle.pg_serve.proofs.laws.deliveries_go_on.Goals as goal
 
 pub returns : goal.returns
@@ -9,4 +9,7 @@ returns c = record {
       hears_call end s s' stream given v v' r r' w w' (served stream given shows) on;
   meanwhile = delivers_meanwhile;
   joins = delivers_more;
+  heard_joins = hears_more;
+  heard_none = has_heard_none;
+  heard_more = has_heard_more;
 }

@@ -1,5 +1,5 @@
 use Rattle.std.proofs.Common.{refl, subst, ap, ◌∙◌, [], ◌∷◌}
-use Rattle.pg_session.specs.Commands.{Hearing, Shows}
+use Rattle.pg_session.specs.Commands.{Hearing, ShowsHearing}
 use Rattle.pg_session.specs.Events.{command}
 use Rattle.pg_gateway.specs.Occurrences.{asks, told}
 use Rattle.pg_gateway.specs.Posting.{Notes}
@@ -45,8 +45,8 @@ returns-in-Broken-clause-breaks g c = (broken_out _ c.in-Broken.refusal (ap (λ 
 
 pub returns-in-More-clause-given : goal.returns-in-More-clause-given
 returns-in-More-clause-given g c = λ stream given shows.
-    (c.in-More.ensures.gives stream given (subst (λ v. Shows v stream given) c.in-More.ensures.holds.0 shows)).0
+    (c.in-More.ensures.gives stream given (subst (λ v. ShowsHearing v stream given) c.in-More.ensures.holds.0 shows)).0
 
 pub returns-in-More-clause-breaks : goal.returns-in-More-clause-breaks
 returns-in-More-clause-breaks g c = λ stream given shows.
-    (c.in-More.ensures.gives stream given (subst (λ v. Shows v stream given) c.in-More.ensures.holds.0 shows)).1
+    (c.in-More.ensures.gives stream given (subst (λ v. ShowsHearing v stream given) c.in-More.ensures.holds.0 shows)).1

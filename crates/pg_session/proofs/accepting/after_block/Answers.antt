@@ -1,5 +1,5 @@
 use Rattle.std.proofs.Common.{◌≡◌, List, ◌∷◌, [], map, Some, refl, sym, ap, subst, arith}
-use Rattle.pg_data.specs.Shared.{Piece, piece_of}
+use Rattle.pg_data.specs.Pieces.{Piece, piece_of}
 use Rattle.pg_session.specs.Events.{samples_at}
 use Rattle.pg_session.specs.Streams.{place_of, with_place, placed}
 use Rattle.pg_session.specs.Wanted.{piece_of_placed}

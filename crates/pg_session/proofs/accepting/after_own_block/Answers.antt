@@ -1,6 +1,6 @@
 use Rattle.std.proofs.Common.{◌+◌, Some, None, sym, ◌∙◌, subst, arith}
 use Rattle.std.proofs.lemmas.Option.{slice_get_within}
-use Rattle.pg_data.specs.Shared.{piece_of}
+use Rattle.pg_data.specs.Pieces.{piece_of}
 use Rattle.pg_session.specs.Streams.{place_of}
 use Rattle.pg_session.specs.Ready.{GoesOn}
 use Rattle.pg_session.proofs.Going.{one_next, one_not, member_pieces}

@@ -1,6 +1,6 @@
 use Rattle.std.proofs.Common.{◌≡◌, Some, None, ap, sym, ◌∙◌}
 use Rattle.circular_buffer.specs.Buffer.{Buffer}
-use Rattle.pg_data.specs.Shared.{Piece}
+use Rattle.pg_data.specs.Pieces.{Piece}
 use Rattle.pg_session.specs.Streams.{place_of}
 use Rattle.pg_session.proofs.Arrivals.{placed_next, rest_some, rest_none, piece_first, arrived-next}
 use Rattle.pg_session.proofs.arriving.arrive_all_in.Goals as goal
@@ -12,7 +12,7 @@ loop-place-preserved-in_default c =
     let k = c.loop-place.place-index in
     let within = c.requires.places k 0 c.loop-place-test.true in
     let next = placed_next m members c.args.places.now k c.key.result c.count-count.ensures.keeps c.loop-place-test.true within c.key.ensures.source c.key.ensures.pmu in
-    let none : place_of members c.key.result ≡ None = sym c.place_in.ensures ∙ c.in_default.is in
+    let none : place_of members c.key.result ≡ None = sym c.place_next.ensures ∙ c.in_default.is in
     (rw (rest_none _ _ _ _ next none) at c.loop-place.invariant.0, c.loop-place.invariant.1)
 
 pub unreachable-requires : goal.unreachable-requires
@@ -22,7 +22,7 @@ unreachable-requires c =
     let k = c.loop-place.place-index in
     let within = c.requires.places k 0 c.loop-place-test.true in
     let next = placed_next m members c.args.places.now k c.key.result c.count-count.ensures.keeps c.loop-place-test.true within c.key.ensures.source c.key.ensures.pmu in
-    let some : place_of members c.key.result ≡ Some c.in-Some.member = sym c.place_in.ensures ∙ c.in-Some.is in
+    let some : place_of members c.key.result ≡ Some c.in-Some.member = sym c.place_next.ensures ∙ c.in-Some.is in
     let so_far = rw (rest_some _ _ _ _ _ next some) at c.loop-place.invariant.0 in
     c.in_default-pop_front.not-Some _ (c.pop_front.ensures.value ∙ piece_first so_far)
 
@@ -33,7 +33,7 @@ arrive_one-requires-clause-effective c =
     let k = c.loop-place.place-index in
     let within = c.requires.places k 0 c.loop-place-test.true in
     let next = placed_next m members c.args.places.now k c.key.result c.count-count.ensures.keeps c.loop-place-test.true within c.key.ensures.source c.key.ensures.pmu in
-    let some : place_of members c.key.result ≡ Some c.in-Some.member = sym c.place_in.ensures ∙ c.in-Some.is in
+    let some : place_of members c.key.result ≡ Some c.in-Some.member = sym c.place_next.ensures ∙ c.in-Some.is in
     let so_far = rw (rest_some _ _ _ _ _ next some) at c.loop-place.invariant.0 in
     so_far.effective.0
 
@@ -44,7 +44,7 @@ loop-place-preserved c =
     let k = c.loop-place.place-index in
     let within = c.requires.places k 0 c.loop-place-test.true in
     let next = placed_next m members c.args.places.now k c.key.result c.count-count.ensures.keeps c.loop-place-test.true within c.key.ensures.source c.key.ensures.pmu in
-    let some : place_of members c.key.result ≡ Some c.in-Some.member = sym c.place_in.ensures ∙ c.in-Some.is in
+    let some : place_of members c.key.result ≡ Some c.in-Some.member = sym c.place_next.ensures ∙ c.in-Some.is in
     let so_far = rw (rest_some _ _ _ _ _ next some) at c.loop-place.invariant.0 in
     let taken = c.pop_front.ensures.items in (
       arrived-next c.arrive_one.new.align c.arrive_one.new.output c.in-Some-pop_front.block c.pop_front.result c.pop_front.new.self.items so_far

@@ -1,6 +1,6 @@
 use Rattle.std.proofs.Common.{ap, sym, ◌∙◌, drop}
 use Rattle.circular_buffer.specs.Buffer.{Buffer}
-use Rattle.pg_data.specs.Shared.{Piece}
+use Rattle.pg_data.specs.Pieces.{Piece}
 use Rattle.pg_session.specs.Output.{one_past}
 use Rattle.pg_session.specs.Sending.{Sending}
 use Rattle.pg_session.specs.Fields.{with_stats}

@@ -23,8 +23,9 @@ invariant_of-self-2 c =
     let back = taken_back a c.take_back.new.leaving c.take_back.new.spare k c.take_back.ensures.none c.take_back.ensures.len c.take_back.ensures.free c.take_back.ensures.capacity in
     let added = c.add_arrival.ensures in
     let on : a.is_on ≡ true = rw (← c.self.view_is) at c.requires.on in
-    let many = c.len-places.ensures ∙ c.self.inside.effective.ok.0 in
-    kept_arrival a c.take_back.new.leaving c.add_arrival.new.slots c.take_back.new.spare c.add_arrival.new.spare k back on added.count added.capacity.0 added.capacity.1 (rw many at added.places) added.rising (rw many at added.free)
+    let many = c.len.ensures ∙ c.self.inside.effective.ok.0 in
+    let counted = added.counted a.effective.items k.counted k.wanted (rw (← c.self.view_is) at c.requires.effective) in
+    kept_arrival a c.take_back.new.leaving c.add_arrival.new.slots c.take_back.new.spare c.add_arrival.new.spare k back on added.count added.capacity.0 added.capacity.1 (rw many at added.places) added.rising counted (rw many at added.free)
 
 pub add_arrival-requires : goal.add_arrival-requires
 add_arrival-requires c =
@@ -33,7 +34,7 @@ add_arrival-requires c =
     let back = taken_back a c.take_back.new.leaving c.take_back.new.spare k c.take_back.ensures.none c.take_back.ensures.len c.take_back.ensures.free c.take_back.ensures.capacity in
     let few : others_than c.args.slot (slots_of a.slots.items) ≤ a.window = rw (← c.self.view_is) at c.requires.room in
     let inside : c.args.place < length a.effective.items = rw (← c.self.view_is) at (effective_within c.args.self.now.effective c.args.place c.requires.effective) in
-    let many = c.len-places.ensures ∙ c.self.inside.effective.ok.0 in
+    let many = c.len.ensures ∙ c.self.inside.effective.ok.0 in
     record {
       room = omega (arith, few, k.slots_room);
       spare = omega (arith, few, k.all_slots, back.len);
@@ -56,7 +57,7 @@ by_result false f g = g refl
 pub returns-clause-room : goal.returns-clause-room
 returns-clause-room c =
     let a = c.self.inside in
-    let fresh = fresh_slot c.args.slot a.wait c.len-places.result c.args.place c.args.block in
+    let fresh = fresh_slot c.args.slot a.wait c.len.result c.args.place c.args.block in
     by_result c.add_arrival.result
     (λ t. rw (← c.self.view_is, (c.add_arrival.ensures.kept t).1) (others-with_part fresh c.args.place c.args.block (slots_of a.slots.items)))
     (λ t. rw (← c.self.view_is, (c.add_arrival.ensures.twice t).1) refl)

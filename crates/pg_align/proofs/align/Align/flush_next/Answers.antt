@@ -14,4 +14,4 @@ invariant_of-self-2 c =
     let k = c.self.invariant in
     let back = taken_back a c.take_back.new.leaving c.take_back.new.spare k c.take_back.ensures.none c.take_back.ensures.len c.take_back.ensures.free c.take_back.ensures.capacity in
     let least = c.take_least-first in
-    kept_least a c.take_back.new.leaving _ least.new.slots c.take_back.new.spare least.result k back least.ensures.slots least.ensures.len least.ensures.capacity
+    kept_least a c.take_back.new.leaving _ least.new.slots c.take_back.new.spare least.result k back least.ensures.whole least.ensures.slots least.ensures.len least.ensures.capacity

@@ -3,7 +3,7 @@ use Rattle.pg_session.specs.Events.{Announcing, announced_at}
 use Rattle.pg_gateway.specs.Sharing.{announces}
 use Rattle.pg_gateway.specs.Judging.{all_announced, memory_counted, registered_of}
 use Rattle.pg_gateway.specs.Taking.{Fits, FansOut}
-use Rattle.pg_gateway.specs.Frugal.{AllSeats}
+use Rattle.pg_gateway.specs.Frugal.{AllSlots}
 use Rattle.pg_gateway.proofs.Places.{announced-some}
 use Rattle.pg_gateway.proofs.Fitting.{all_fit_announced}
 use Rattle.pg_gateway.proofs.AnnounceLaws.{announced_refused, announced_memory, announced_goes, registered_shown, none_announced}
@@ -11,7 +11,7 @@ use Rattle.pg_gateway.proofs.kernel.Kernel.announce.Goals as goal
 
 pub copy_announced-requires-clause-fits : goal.copy_announced-requires-clause-fits
 copy_announced-requires-clause-fits c =
-    subst (λ o. AllSeats (Fits o) c.self.inside.subs.entries) (sym (c.requires.event c.deref.result.now))
+    subst (λ o. AllSlots (Fits o) c.self.inside.subs.entries) (sym (c.requires.event c.deref.result.now))
     (all_fit_announced (announced_at c.args.config.now c.deref.result.now) c.self.inside.subs.entries)
 
 pub returns-then-not-has_registered-clause-goes : goal.returns-then-not-has_registered-clause-goes

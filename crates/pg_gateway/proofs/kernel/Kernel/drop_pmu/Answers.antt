@@ -1,15 +1,15 @@
 use Rattle.std.proofs.Common.{sym, ap, subst, ◌∙◌}
 use Rattle.pg_registry.specs.Registered.{has_key}
 use Rattle.pg_gateway.specs.Taking.{Awaits, HasNone, FansOut}
-use Rattle.pg_gateway.specs.Frugal.{AllSeats}
+use Rattle.pg_gateway.specs.Frugal.{AllSlots}
 use Rattle.pg_gateway.specs.Sharing.{revokes}
-use Rattle.pg_gateway.proofs.AllLaws.{seats-map, awaits_revoke, dropped_none, dropped_goes}
+use Rattle.pg_gateway.proofs.AllLaws.{slots-map, awaits_revoke, dropped_none, dropped_goes}
 use Rattle.pg_gateway.proofs.kernel.Kernel.drop_pmu.Goals as goal
 
 pub fan_out-made-requires-clause-awaits : goal.fan_out-made-requires-clause-awaits
 fan_out-made-requires-clause-awaits c =
-    subst (λ o. AllSeats (Awaits o) c.self.inside.subs.entries) (sym c.requires.event)
-    (seats-map HasNone (Awaits (revokes c.args.key.now)) (awaits_revoke c.args.key.now) c.self.inside.subs.entries c.self.invariant.1)
+    subst (λ o. AllSlots (Awaits o) c.self.inside.subs.entries) (sym c.requires.event)
+    (slots-map HasNone (Awaits (revokes c.args.key.now)) (awaits_revoke c.args.key.now) c.self.inside.subs.entries c.self.invariant.1)
 
 pub returns-then-not-has-clause-goes : goal.returns-then-not-has-clause-goes
 returns-then-not-has-clause-goes c = λ S h.

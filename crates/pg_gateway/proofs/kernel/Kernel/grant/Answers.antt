@@ -6,8 +6,8 @@ use Rattle.pg_registry.specs.Registered.{has_key, config_in}
 use Rattle.pg_session.specs.Events as event
 use Rattle.pg_session.specs.Private.{told}
 use Rattle.pg_session.specs.Ready.{NeedsNone}
-use Rattle.pg_gateway.specs.Shared.{seat_of, granting, grant_refusal}
-use Rattle.pg_gateway.specs.Shown.{SeatShows, SeatValue}
+use Rattle.pg_gateway.specs.State.{slot_of, granting, grant_refusal}
+use Rattle.pg_gateway.specs.Shown.{SlotShows, SlotValue}
 use Rattle.pg_gateway.specs.Taking.{GrantsAt}
 use Rattle.pg_gateway.proofs.RelatedLaws.{lookup-is_some}
 use Rattle.pg_gateway.proofs.GrantLaws.{told_inside, keyed_at, granted_goes, granted_nobody, granted_unregistered}
@@ -18,7 +18,7 @@ returns-then-not-contains_key c = record {
   goes = λ S h.
       let shown = rw (← c.self.view_is) at h in
       let none = ap (λ pmus. has_key pmus c.args.key.now) (sym shown.pmus) ∙ sym c.has.ensures.value ∙ c.if-not-has.true in
-      let same = lookup-is_some SeatShows (nat_eq c.args.sub) _ _ shown.subs in
+      let same = lookup-is_some SlotShows (nat_eq c.args.sub) _ _ shown.subs in
       let nobody : is_some (lookup (nat_eq c.args.sub) S.subs) ≡ false = grind (arith, same) in
       granted_nobody c.args.sub c.args.key.now S _ h none nobody;
   frugal = λ S h none needs is. cc;
@@ -30,7 +30,7 @@ returns-then-not-has c = record {
   goes = λ S h.
       let shown = rw (← c.self.view_is) at h in
       let none = ap (λ pmus. has_key pmus c.args.key.now) (sym shown.pmus) ∙ sym c.has.ensures.value ∙ c.if-not-has.true in
-      let same = lookup-is_some SeatShows (nat_eq c.args.sub) _ _ shown.subs in
+      let same = lookup-is_some SlotShows (nat_eq c.args.sub) _ _ shown.subs in
       let there : is_some (lookup (nat_eq c.args.sub) S.subs) ≡ true = grind (arith, same) in
       granted_unregistered c.args.sub c.args.key.now S _ _ shown none there (c.note_at.ensures.notes S.subs shown.subs);
   frugal = λ S h none needs is. cc;
@@ -58,9 +58,9 @@ returns c = record {
       let there = ap (λ pmus. has_key pmus c.args.key.now) (sym shown.pmus) ∙ sym c.has.ensures.value ∙ c.if-not-has.false in
       let held = c.config_of-config.ensures.value in
       let kept = ap (λ pmus. config_in pmus c.args.key.now) shown.pmus in
-      let first = sym (ap (λ b. grant_refusal (seat_of c.args.sub S.subs) b (granting S c.args.key.now)) there) ∙ none in
-      let unrefused = subst (λ o. grant_refusal (seat_of c.args.sub S.subs) true (event.grant c.args.key.now o) ≡ None) (sym (held ∙ kept)) first in
-      let needless = subst (λ o. IfSome (lookup (nat_eq c.args.sub) c.self.inside.subs.entries) (λ (v : SeatValue). NeedsNone v.subscriber (event.grant c.args.key.now o))) (sym held) wants in
+      let first = sym (ap (λ b. grant_refusal (slot_of c.args.sub S.subs) b (granting S c.args.key.now)) there) ∙ none in
+      let unrefused = subst (λ o. grant_refusal (slot_of c.args.sub S.subs) true (event.grant c.args.key.now o) ≡ None) (sym (held ∙ kept)) first in
+      let needless = subst (λ o. IfSome (lookup (nat_eq c.args.sub) c.self.inside.subs.entries) (λ (v : SlotValue). NeedsNone v.subscriber (event.grant c.args.key.now o))) (sym held) wants in
       c.grant_at.ensures.frugal S.subs shown.subs unrefused needless (told_inside _ _ (sym c.reply_of.ensures.told ∙ is));
   plain = c.reply_of.ensures.plain c.grant_at.ensures.plain;
 }

@@ -1,5 +1,5 @@
 use Rattle.std.proofs.Common.{nat_eq, ◌∙◌}
-use Rattle.pg_gateway.specs.Shown.{SeatShows}
+use Rattle.pg_gateway.specs.Shown.{SlotShows}
 use Rattle.pg_gateway.proofs.RelatedLaws.{lookup-is_some}
 use Rattle.pg_gateway.proofs.kernel.Kernel.has_sub.Goals as goal
 
@@ -7,5 +7,5 @@ pub returns : goal.returns
 returns c = record {
   value = λ S h.
       let shown = rw (← c.self.view_is) at h in
-      c.contains_key.ensures ∙ lookup-is_some SeatShows (nat_eq c.args.sub) _ _ shown.subs;
+      c.contains_key.ensures ∙ lookup-is_some SlotShows (nat_eq c.args.sub) _ _ shown.subs;
 }

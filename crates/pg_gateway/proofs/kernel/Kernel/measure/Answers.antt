@@ -8,7 +8,7 @@ use Rattle.pg_gateway.specs.Placing.{placed_counted, placed_refusal, placed_memo
 use Rattle.pg_gateway.specs.Taking.{Fits, FansOut, measured}
 use Rattle.pg_gateway.specs.Routes.{WhereBit, IsPassed}
 use Rattle.pg_gateway.proofs.RouteKept.{masks_length, keys_within, marks_within, measured_passes}
-use Rattle.pg_gateway.specs.Frugal.{AllSeats}
+use Rattle.pg_gateway.specs.Frugal.{AllSlots}
 use Rattle.pg_gateway.proofs.Places.{samples-some}
 use Rattle.pg_gateway.proofs.Counted.{placed_within, counted_placed, memory_placed, refusal_placed}
 use Rattle.pg_gateway.proofs.Fitting.{all_fit_measured}
@@ -58,7 +58,7 @@ lay_copies_marked-requires-clause-fits c =
     let S = reached.state in
     let shown = rw (← c.self.view_is) at reached.shows in
     let taken = taken_shown m S _ c.judge_shared-some.new.taken.items shown c.judge_shared-some.ensures.taken in
-    subst (λ o. AllSeats (Fits o) c.self.inside.subs.entries)
+    subst (λ o. AllSlots (Fits o) c.self.inside.subs.entries)
     (sym (c.requires.event c.deref-3.result.now ∙ ap (λ l. measures m.soc m.quality m.frac l) (ap (samples_at m) c.deref-3.ensures.value ∙ taken)))
     (all_fit_measured S.pmus S.last_tick m.soc m.quality m.frac (samples_in m) c.self.inside.subs.entries S.subs shown.subs reached.consistent.agree)
 

@@ -27,7 +27,7 @@ invariant_of-self-in-Broken c =
 
 pub returns-in-Frame-clause-gives : goal.returns-in-Frame-clause-gives
 returns-in-Frame-clause-gives c past shown =
-    let gives : taking.Gives c.self.inside.deframer c.next.result c.next.follows.lender-at-none = c.next.follows.holds-at-none.1 in
+    let gives : taking.GivesFrame c.self.inside.deframer c.next.result c.next.follows.lender-at-none = c.next.follows.holds-at-none.1 in
     let shows = rw (← c.self.view_is) at shown in
     let given = rw c.in-Frame.is at gives in
     event_given c.take.new.self past c.take.result (item_told c.tell-told.result) c.take.ensures.event
@@ -36,7 +36,7 @@ returns-in-Frame-clause-gives c past shown =
 
 pub returns-in-Skipped-clause-gives : goal.returns-in-Skipped-clause-gives
 returns-in-Skipped-clause-gives c past shown =
-    let gives : taking.Gives c.self.inside.deframer c.next.result c.next.follows.lender-at-none = c.next.follows.holds-at-none.1 in
+    let gives : taking.GivesFrame c.self.inside.deframer c.next.result c.next.follows.lender-at-none = c.next.follows.holds-at-none.1 in
     let shows = rw (← c.self.view_is) at shown in
     let given = rw c.in-Skipped.is at gives in
     let skipped = given past.stream shows.frames shows.bytes in
@@ -46,7 +46,7 @@ returns-in-Skipped-clause-gives c past shown =
 
 pub returns-in-More-clause-gives : goal.returns-in-More-clause-gives
 returns-in-More-clause-gives c past shown =
-    let gives : taking.Gives c.self.inside.deframer c.next.result c.next.follows.lender-at-none = c.next.follows.holds-at-none.1 in
+    let gives : taking.GivesFrame c.self.inside.deframer c.next.result c.next.follows.lender-at-none = c.next.follows.holds-at-none.1 in
     let shows = rw (← c.self.view_is) at shown in
     let given = rw c.in-More.is at gives in
     let last = given past.stream shows.frames shows.bytes in
@@ -54,7 +54,7 @@ returns-in-More-clause-gives c past shown =
 
 pub returns-in-Broken-clause-gives : goal.returns-in-Broken-clause-gives
 returns-in-Broken-clause-gives c past shown =
-    let gives : taking.Gives c.self.inside.deframer c.next.result c.next.follows.lender-at-none = c.next.follows.holds-at-none.1 in
+    let gives : taking.GivesFrame c.self.inside.deframer c.next.result c.next.follows.lender-at-none = c.next.follows.holds-at-none.1 in
     let shows = rw (← c.self.view_is) at shown in
     let given = rw c.in-Broken.is at gives in
     let last = given past.stream shows.frames shows.bytes in

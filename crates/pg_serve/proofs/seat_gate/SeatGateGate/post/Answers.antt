@@ -1,5 +1,5 @@
 use Rattle.std.proofs.Common.{rules, ◌≡◌, subst}
-use Rattle.pg_serve.specs.Sharing.{Posted}
+use Rattle.pg_serve.specs.Sharing.{PostedCall}
 use Rattle.pg_serve.proofs.Gating.{said_more, goes_on_posted}
 use Rattle.pg_serve.proofs.seat_gate.SeatGateGate.post.Goals as goal
 
@@ -8,12 +8,12 @@ returns-clause-posted g c =
     let v = c.args.self.now in
     let got = c.post-seat.result in
     let same : c.in-Some.seat ≡ v = search rules in
-    said_more v got.0 c.args.event got.1 (subst (λ x. Posted x c.args.event got.1 got.0) same c.post-seat.ensures.posted)
+    said_more v got.0 c.args.event got.1 (subst (λ x. PostedCall x c.args.event got.1 got.0) same c.post-seat.ensures.posted)
 
 pub returns-clause-goes_on : goal.returns-clause-goes_on
 returns-clause-goes_on g c =
     let v = c.args.self.now in
     let got = c.post-seat.result in
     let same : c.in-Some.seat ≡ v = search rules in
-    goes_on_posted v got.0 c.args.event got.1 (subst (λ x. Posted x c.args.event got.1 got.0) same c.post-seat.ensures.posted)
+    goes_on_posted v got.0 c.args.event got.1 (subst (λ x. PostedCall x c.args.event got.1 got.0) same c.post-seat.ensures.posted)
     (subst (λ x. got.0.table ≡ x.table) same c.post-seat.ensures.seat)

@@ -9,7 +9,7 @@ use Rattle.pg_session.proofs.session.Session.next_command.Goals as goal
 
 pub returns-in-Frame-clause-gives : goal.returns-in-Frame-clause-gives
 returns-in-Frame-clause-gives c stream given h =
-    let gives : taking.Gives c.self.inside.deframer c.next.result c.next.follows.lender-at-none = c.next.follows.holds-at-none.1 in
+    let gives : taking.GivesFrame c.self.inside.deframer c.next.result c.next.follows.lender-at-none = c.next.follows.holds-at-none.1 in
     let shows = rw (← c.self.view_is) at h in
     rw c.count.ensures.answer
     (frame_given _ c.count.new.self c.in-Frame.frame c.read_command-read.result
@@ -20,7 +20,7 @@ returns-in-Frame-clause-gives c stream given h =
 
 pub returns-in-Skipped-clause-gives : goal.returns-in-Skipped-clause-gives
 returns-in-Skipped-clause-gives c stream given h =
-    let gives : taking.Gives c.self.inside.deframer c.next.result c.next.follows.lender-at-none = c.next.follows.holds-at-none.1 in
+    let gives : taking.GivesFrame c.self.inside.deframer c.next.result c.next.follows.lender-at-none = c.next.follows.holds-at-none.1 in
     let shows = rw (← c.self.view_is) at h in
     rw c.count-in-Skipped.ensures.answer
     (skipped_given _ c.count-in-Skipped.new.self c.in-Skipped.refusal
@@ -30,13 +30,13 @@ returns-in-Skipped-clause-gives c stream given h =
 
 pub returns-in-More-clause-gives : goal.returns-in-More-clause-gives
 returns-in-More-clause-gives c stream given h =
-    let gives : taking.Gives c.self.inside.deframer c.next.result c.next.follows.lender-at-none = c.next.follows.holds-at-none.1 in
+    let gives : taking.GivesFrame c.self.inside.deframer c.next.result c.next.follows.lender-at-none = c.next.follows.holds-at-none.1 in
     let shows = rw (← c.self.view_is) at h in
     more_given _ _ (rw c.in-More.is at gives) refl stream given shows
 
 pub returns-in-Broken-clause-gives : goal.returns-in-Broken-clause-gives
 returns-in-Broken-clause-gives c stream given h =
-    let gives : taking.Gives c.self.inside.deframer c.next.result c.next.follows.lender-at-none = c.next.follows.holds-at-none.1 in
+    let gives : taking.GivesFrame c.self.inside.deframer c.next.result c.next.follows.lender-at-none = c.next.follows.holds-at-none.1 in
     let shows = rw (← c.self.view_is) at h in
     broken_given _ _ c.in-Broken.refusal (rw c.in-Broken.is at gives) refl stream given shows
 

@@ -1,6 +1,6 @@
-use Rattle.std.proofs.Common.{◌≡◌, [], length, map, Ok, Err, true, ap, sym, ◌∙◌, subst, arith}
+use Rattle.std.proofs.Common.{◌≡◌, [], length, map, Ok, Err, true, refl, ap, sym, ◌∙◌, subst, arith}
 use Rattle.pg_data.specs.Measurements.{Measurement, IsMeasurement}
-use Rattle.pg_data.specs.Shared.{Piece}
+use Rattle.pg_data.specs.Pieces.{Piece}
 use Rattle.pg_stream.specs.Slots.{slot_at}
 use Rattle.pg_align.specs.Slots.{Aligned, all_leaving}
 use Rattle.pg_align.proofs.Arriving.{others_at_most}
@@ -14,7 +14,7 @@ use Rattle.pg_session.specs.Fields.{with_stats, turn_stats}
 use Rattle.pg_session.proofs.Sending.{sends-none}
 use Rattle.pg_session.proofs.Simulating.{stream_of, leaving-effective}
 use Rattle.pg_session.proofs.Members.{timed-left, window-left}
-use Rattle.pg_session.proofs.Measuring.{effective-placed, arrivals-keep, measure_is}
+use Rattle.pg_session.proofs.Measuring.{effective-placed, arrivals-keep, placed_few, measure_is}
 use Rattle.pg_session.proofs.stream.Stream.measure.Goals as goal
 
 pub arrive_all_in-requires-clause-effective : goal.arrive_all_in-requires-clause-effective
@@ -58,8 +58,7 @@ leave_all-requires-clause-bounded c =
       c.self.invariant.few,
       c.self.invariant.window,
       c.self.invariant.limits.numbers.window.1,
-      c.count_placed-count.ensures.few,
-      c.count_placed-count.ensures.count,
+      placed_few def.members m places,
       c.requires.few,
       c.requires.bounded,
     )
@@ -92,8 +91,8 @@ returns-in-Ok-clause-stream c =
     let on : c.self.inside.align.is_on ≡ true = sym c.is_on.ensures.shown ∙ c.if-not-is_on.false in
     let exact : c.slot_of.result ≡ slot_at def.rate c.base.result m.soc m.frac =
     subst (λ (x : Measurement). c.slot_of.result ≡ slot_at def.rate c.base.result x.soc x.frac) c.frame.view_is c.slot_of.ensures.exact in
-    let turn = measure_is c.args.listed.now m places s c.count_placed-count.result c.base.result (Ok c.in-Ok.slot) is c.requires.places on
-    c.count_placed-count.ensures.count (omega (arith, c.if-count-eq0.false)) c.base.ensures.value (sym c.in-Ok.is ∙ exact) in
+    let turn = measure_is c.args.listed.now m places s (length blocks) c.base.result (Ok c.in-Ok.slot) is c.requires.places on
+    refl (c.has_placed.ensures.some c.if-not-has_placed.false) c.base.ensures.value (sym c.in-Ok.is ∙ exact) in
     let after = c.leave_all.ensures.slots ∙ ap (λ (a : Aligned Piece). (all_leaving a).after) c.arrive_all_in.ensures.slots in
     let made : stream_of def c.leave_all.new.align c.self.inside.changes ≡ (arrival_turn by_slots c.args.listed.now s blocks (Ok c.in-Ok.slot)).stream =
     ap (λ (a : Aligned Piece). stream_of def a c.self.inside.changes) after in
@@ -112,8 +111,8 @@ returns-in-Ok-clause-sends c =
     let on : c.self.inside.align.is_on ≡ true = sym c.is_on.ensures.shown ∙ c.if-not-is_on.false in
     let exact : c.slot_of.result ≡ slot_at def.rate c.base.result m.soc m.frac =
     subst (λ (x : Measurement). c.slot_of.result ≡ slot_at def.rate c.base.result x.soc x.frac) c.frame.view_is c.slot_of.ensures.exact in
-    let turn = measure_is c.args.listed.now m places s c.count_placed-count.result c.base.result (Ok c.in-Ok.slot) is c.requires.places on
-    c.count_placed-count.ensures.count (omega (arith, c.if-count-eq0.false)) c.base.ensures.value (sym c.in-Ok.is ∙ exact) in
+    let turn = measure_is c.args.listed.now m places s (length blocks) c.base.result (Ok c.in-Ok.slot) is c.requires.places on
+    refl (c.has_placed.ensures.some c.if-not-has_placed.false) c.base.ensures.value (sym c.in-Ok.is ∙ exact) in
     let listed = c.args.listed.now in
     let out = c.args.output.now in
     let new = c.leave_all.new.output in
@@ -144,8 +143,7 @@ returns-in-Ok-clause-bounded c =
       c.self.invariant.few,
       c.self.invariant.window,
       c.self.invariant.limits.numbers.window.1,
-      c.count_placed-count.ensures.few,
-      c.count_placed-count.ensures.count,
+      placed_few def.members m places,
       c.requires.few,
       c.leave_all.ensures.few,
     )
@@ -161,8 +159,8 @@ returns-in-Err-clause-stream c =
     let on : c.self.inside.align.is_on ≡ true = sym c.is_on.ensures.shown ∙ c.if-not-is_on.false in
     let exact : c.slot_of.result ≡ slot_at def.rate c.base.result m.soc m.frac =
     subst (λ (x : Measurement). c.slot_of.result ≡ slot_at def.rate c.base.result x.soc x.frac) c.frame.view_is c.slot_of.ensures.exact in
-    let turn = measure_is c.args.listed.now m places s c.count_placed-count.result c.base.result (Err c.in-Err.field-0) is c.requires.places on
-    c.count_placed-count.ensures.count (omega (arith, c.if-count-eq0.false)) c.base.ensures.value (sym c.in-Err.is ∙ exact) in
+    let turn = measure_is c.args.listed.now m places s (length blocks) c.base.result (Err c.in-Err.field-0) is c.requires.places on
+    refl (c.has_placed.ensures.some c.if-not-has_placed.false) c.base.ensures.value (sym c.in-Err.is ∙ exact) in
     subst (λ (v : StreamOf (Aligned Piece)). v ≡ (measure_turn by_slots c.args.listed.now m.soc m.quality m.frac (samples_at m places) v).stream) c.self.view_is
     (sym (ap (λ (t : Turn (Aligned Piece)). t.stream) turn))
 
@@ -177,8 +175,8 @@ returns-in-Err-clause-sends c =
     let on : c.self.inside.align.is_on ≡ true = sym c.is_on.ensures.shown ∙ c.if-not-is_on.false in
     let exact : c.slot_of.result ≡ slot_at def.rate c.base.result m.soc m.frac =
     subst (λ (x : Measurement). c.slot_of.result ≡ slot_at def.rate c.base.result x.soc x.frac) c.frame.view_is c.slot_of.ensures.exact in
-    let turn = measure_is c.args.listed.now m places s c.count_placed-count.result c.base.result (Err c.in-Err.field-0) is c.requires.places on
-    c.count_placed-count.ensures.count (omega (arith, c.if-count-eq0.false)) c.base.ensures.value (sym c.in-Err.is ∙ exact) in
+    let turn = measure_is c.args.listed.now m places s (length blocks) c.base.result (Err c.in-Err.field-0) is c.requires.places on
+    refl (c.has_placed.ensures.some c.if-not-has_placed.false) c.base.ensures.value (sym c.in-Err.is ∙ exact) in
     let listed = c.args.listed.now in
     let out = c.args.output.now in
     let new = c.pass_all.new.output in

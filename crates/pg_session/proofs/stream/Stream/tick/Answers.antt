@@ -1,5 +1,5 @@
 use Rattle.std.proofs.Common.{ap, ◌∙◌, length}
-use Rattle.pg_data.specs.Shared.{Piece}
+use Rattle.pg_data.specs.Pieces.{Piece}
 use Rattle.pg_align.specs.Slots.{Aligned, with_tick}
 use Rattle.pg_align.proofs.Leaving.{all_leaving-few}
 use Rattle.pg_session.proofs.Simulating.{leaving-effective}

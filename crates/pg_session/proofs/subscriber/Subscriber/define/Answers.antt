@@ -1,5 +1,5 @@
 use Rattle.std.proofs.Common.{refl, sym, subst, arith}
-use Rattle.pg_data.specs.Shared.{Piece}
+use Rattle.pg_data.specs.Pieces.{Piece}
 use Rattle.pg_align.specs.Slots.{Aligned}
 use Rattle.pg_session.specs.Streams.{StreamOf}
 use Rattle.pg_session.specs.Fields.{AreFitted}

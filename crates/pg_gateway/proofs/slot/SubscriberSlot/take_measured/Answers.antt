@@ -1,0 +1,39 @@
+use Rattle.std.proofs.Common.{sym, ap, subst, ◌∙◌}
+use Rattle.pg_audit.specs.Noting as audit
+use Rattle.std.specs.Arc.{arc_value}
+use Rattle.pg_session.specs.Events.{measure, samples_at}
+use Rattle.pg_session.specs.Private.{told}
+use Rattle.pg_gateway.specs.Sharing.{share}
+use Rattle.pg_gateway.specs.Taking.{measured}
+use Rattle.pg_gateway.proofs.Taking.{measured_none, measured_share, offer_none, offer_some, fit_at, laid_at}
+use Rattle.std.proofs.lemmas.List.{append-nil}
+use Rattle.pg_gateway.proofs.slot.SubscriberSlot.take_measured.Goals as goal
+
+pub returns-then-not-hold_blocks-clause-takes : goal.returns-then-not-hold_blocks-clause-takes
+returns-then-not-hold_blocks-clause-takes c =
+    let none = measured_none (arc_value c.args.frame.now) c.args.places.now c.hold_blocks.new.held.items c.self.inside.subscriber.own.grants c.hold_blocks.ensures.held (c.hold_blocks.ensures.none c.if-not-hold_blocks.true) in
+    offer_none (measured (arc_value c.args.frame.now) c.args.places.now) c.args.lost c.args.self.now (ap (λ v. share (measured (arc_value c.args.frame.now) c.args.places.now) v.subscriber.own.grants) (sym c.self.view_is) ∙ none) c.requires.awaits
+
+pub take-requires-clause-accepts : goal.take-requires-clause-accepts
+take-requires-clause-accepts c =
+    let full = (c.hold_blocks.ensures.some c.if-not-hold_blocks.false) in
+    let some = measured_share (arc_value c.args.frame.now) c.args.places.now c.hold_blocks.new.held.items c.self.inside.subscriber.own.grants c.hold_blocks.ensures.held c.hold_blocks.ensures.rising full in
+    let awaits = rw (← c.self.view_is) at c.requires.awaits in
+    record {
+      placed = rw c.deref.ensures.value (record { some = full; rising = c.hold_blocks.ensures.rising });
+      own = rw c.deref.ensures.value (fit_at c.self.inside.subscriber _ _ some awaits.fit);
+    }
+
+pub take-requires-clause-ready : goal.take-requires-clause-ready
+take-requires-clause-ready c =
+    let full = (c.hold_blocks.ensures.some c.if-not-hold_blocks.false) in
+    let some = measured_share (arc_value c.args.frame.now) c.args.places.now c.hold_blocks.new.held.items c.self.inside.subscriber.own.grants c.hold_blocks.ensures.held c.hold_blocks.ensures.rising full in
+    let awaits = rw (← c.self.view_is) at c.requires.awaits in
+    rw c.deref.ensures.value (laid_at c.self.inside.subscriber _ _ some awaits.laid)
+
+pub returns-clause-takes : goal.returns-clause-takes
+returns-clause-takes c =
+    let some = measured_share (arc_value c.args.frame.now) c.args.places.now c.hold_blocks.new.held.items c.self.inside.subscriber.own.grants c.hold_blocks.ensures.held c.hold_blocks.ensures.rising (c.hold_blocks.ensures.some c.if-not-hold_blocks.false) in
+    let takes = rw c.deref.ensures.value at c.take.ensures.takes in
+    rw (← c.self.view_is) (offer_some (measured (arc_value c.args.frame.now) c.args.places.now) c.args.lost _ _ (measure (arc_value c.args.frame.now).soc (arc_value c.args.frame.now).quality (arc_value c.args.frame.now).frac (samples_at (arc_value c.args.frame.now) c.hold_blocks.new.held.items)) (told c.take.result) c.counts.result some takes
+    (λ s h. subst (λ l. audit.ShowsAudit c.self.inside.audit l) (sym (append-nil s.noted)) h.audit) c.counts.ensures.counts (c.counts.ensures.few c.take.ensures.few) c.take.ensures.none)

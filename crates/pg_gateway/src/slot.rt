@@ -1,0 +1,405 @@
+//! One subscriber with its audit.
+
+ghost use Rattle.std.specs.Prelude.{◌≡◌, ◌<◌, ◌≤◌, true, false, length, filter, vec_capacity, slice_get, IfOk, IfErr, Some, None, option_map, IfSome};
+ghost use Rattle.std.specs.Arc.{arc_value};
+ghost use Rattle.pg_audit.specs.Noting.{newest_at};
+ghost use Rattle.pg_config.specs.Parts.{block_id};
+ghost use Rattle.pg_session.specs.Events.{grant};
+ghost use Rattle.pg_session.specs.Ready.{IsPlain as PlainReply};
+ghost use Rattle.pg_entitle.specs.Grants.{has_key};
+ghost use Rattle.pg_session.specs.Events.{happening, drain, announced_at};
+ghost use Rattle.pg_session.specs.Private.{told};
+ghost use Rattle.pg_session.specs.Steps.{MakesFew};
+ghost use Rattle.pg_session.specs.Standing.{standing_of};
+ghost use Rattle.pg_session.specs.Ready.{ReturnsBuffer, AreRising};
+ghost use Rattle.pg_gateway.specs.Sharing.{SubscriberSlot as SlotState, announces, revokes};
+ghost use Rattle.pg_gateway.specs.State.{added, with_note, noted_as};
+ghost use Rattle.pg_gateway.specs.Shown.{SlotShows};
+ghost use Rattle.pg_gateway.specs.Taking.{Asks, AsksNothing, HasNone, offered, measured, part_passes, IsRising, Fits, LaysShare, Awaits, TakesOffer, TakesGrant, counts_of};
+
+use crate::asking::code;
+use crate::event::Event;
+use pg_audit::{Audit, Entry, Stats, What};
+use pg_config::{PmuConfig, SourceConfig};
+use pg_data::DataFrame;
+use pg_ring::{RingBytes, RingSize};
+use pg_session::{PrivateEvent, PrivateReply, Standing, Subscriber};
+use pg_wire::{PmuKey, Refusal};
+use std::alloc::Global;
+use std::marker::Model;
+use std::sync::Arc;
+
+/// A subscriber, and the audit of what was asked of it.
+#[derive(Drop)]
+pub(crate) struct SubscriberSlot {
+    pub(crate) subscriber: Subscriber,
+    audit: Audit,
+    // Copies were laid for an event that does not concern it, so that it need not be looked at again.
+    spared: bool,
+}
+
+impl Model for SubscriberSlot {
+    ghost use Rattle.pg_gateway.specs.Shown.{SlotValue};
+
+    ghost Value = { SlotValue };
+
+    ghost view = { λ s. record { subscriber = s.subscriber; audit = s.audit; spared = s.spared } };
+}
+
+impl SubscriberSlot {
+    /// A subscriber that was just added, with nothing noted. The one refusal is `NoMemory`.
+    pub(crate) fn new(
+        alloc: Global,
+        ring: RingSize,
+        bytes: RingBytes,
+        last: Option<u32>,
+    ) -> Result<SubscriberSlot, Refusal>
+        ensures shows { IfOk result (λ s. SlotShows s (added ring bytes last)) }
+        ensures none { IfOk result (λ s. HasNone s) }
+        ensures memory { IfErr result (λ refusal. refusal ≡ Refusal.NoMemory) }
+    {
+        Ok(SubscriberSlot {
+            subscriber: Subscriber::new(alloc, ring, bytes, last)?,
+            audit: Audit::new(alloc)?,
+            spared: false,
+        })
+    }
+
+    /// Notes what was asked, and why it was refused.
+    pub(crate) fn note(&mut self, what: What, code: Option<Refusal>)
+        ensures shows { (s : SlotState) → SlotShows self.old s → SlotShows self.new (with_note (what, code) s) }
+        ensures subscriber { self.new.subscriber ≡ self.old.subscriber }
+        ensures spared { self.new.spared ≡ self.old.spared }
+    {
+        self.audit.note(what, code);
+    }
+
+    /// Takes an event for it alone, which is noted.
+    pub(crate) fn ask(&mut self, what: What, event: PrivateEvent<'_>) -> PrivateReply
+        requires own { AsksNothing event }
+        requires noted { noted_as (happening event) ≡ Some what }
+        requires none { HasNone self.old }
+        ensures takes { (s : SlotState) → SlotShows self.old s
+            → Asks s (happening event.entry) (told result) (Some what) self.new }
+        ensures plain { PlainReply result }
+        ensures none { HasNone self.new }
+    {
+        let reply = self.subscriber.take(event, false);
+        self.audit.note(what, code(&reply));
+        reply
+    }
+
+    /// Takes a grant of a PMU, with what that has announced. The copy that it needs is made before anything changes.
+    pub(crate) fn grant(&mut self, key: &PmuKey, config: Option<&Arc<PmuConfig>>) -> PrivateReply
+        requires none { HasNone self.old }
+        requires keyed { IfSome (option_map (λ c. arc_value c.now) config) (λ c. block_id c.block ≡ key.now.pmu) }
+        ensures takes { TakesGrant (grant key.now (option_map (λ c. arc_value c.now) config.entry)) None self.old (told result) self.new }
+        ensures plain { PlainReply result }
+    {
+        let event = PrivateEvent::Grant(*key, config);
+        match self.subscriber.copies(&event) {
+            Err(refusal) => return PrivateReply::Refused(refusal),
+            Ok(_) => {}
+        }
+        self.subscriber.take(event, false)
+    }
+
+    /// The same, which is noted.
+    pub(crate) fn grant_noted(
+        &mut self,
+        key: &PmuKey,
+        config: Option<&Arc<PmuConfig>>,
+    ) -> PrivateReply
+        requires none { HasNone self.old }
+        requires keyed { IfSome (option_map (λ c. arc_value c.now) config) (λ c. block_id c.block ≡ key.now.pmu) }
+        ensures takes { TakesGrant (grant key.now (option_map (λ c. arc_value c.now) config.entry)) (Some What.Grant) self.old (told result) self.new }
+        ensures plain { PlainReply result }
+    {
+        let reply = self.grant(key, config);
+        self.audit.note(What::Grant, code(&reply));
+        reply
+    }
+
+    /// Hands out its bytes.
+    pub(crate) fn drain(&mut self, buf: Vec<u8>) -> PrivateReply
+        requires none { HasNone self.old }
+        ensures takes { (s : SlotState) → SlotShows self.old s → Asks s (drain (length buf.items)) (told result) None self.new }
+        ensures buffer { ReturnsBuffer buf.items result }
+        ensures none { HasNone self.new }
+    {
+        self.subscriber.take(PrivateEvent::Drain(buf), false)
+    }
+
+    /// Its counters.
+    pub(crate) fn stats(&self) -> &Stats
+        ensures { result.now ≡ self.now.subscriber.own.output.stats }
+    {
+        self.subscriber.stats()
+    }
+
+    /// How it stands, with the stream at this place.
+    pub(crate) fn standing(&self, place: u8) -> Standing
+        ensures { (s : SlotState) → SlotShows self.now s → result ≡ standing_of s.own place }
+    {
+        self.subscriber.standing(usize::from(place))
+    }
+
+    /// What was noted of it: 0 the newest.
+    pub(crate) fn noted(&self, index: u8) -> Option<Entry>
+        ensures { (s : SlotState) → SlotShows self.now s → result ≡ newest_at s.noted index }
+    {
+        self.audit.last(usize::from(index))
+    }
+
+    /// Lays the copies that its share of an event for all needs. Nothing else changes. The one refusal is `NoMemory`.
+    pub(crate) fn lay(
+        &mut self,
+        event: &Event,
+        places: &[usize],
+        held: &mut Vec<usize>,
+    ) -> Result<(), Refusal>
+        requires rising { IsRising event.now places.now }
+        requires room { 16 ≤ vec_capacity held.old }
+        requires none { HasNone self.old }
+        requires fit { Fits (offered event.now places.now) self.old }
+        ensures lays { LaysShare (offered event.now places.now) self.old result self.new }
+        ensures room { 16 ≤ vec_capacity held.new }
+    {
+        match event {
+            Event::Announce(config) => {
+                let config = announced(config);
+                self.lay_announced(config, places, held)
+            }
+            Event::Measure(frame) => self.lay_measured(frame, places, held),
+            _ => Ok(()),
+        }
+    }
+
+    /// Lays the copies of what granted PMUs announced.
+    fn lay_announced(
+        &mut self,
+        config: &SourceConfig,
+        places: &[usize],
+        held: &mut Vec<usize>,
+    ) -> Result<(), Refusal>
+        requires rising { AreRising 0 (length config.now.parts) places.now }
+        requires room { 16 ≤ vec_capacity held.old }
+        requires none { HasNone self.old }
+        requires fit { Fits (announces (announced_at config.now places.now)) self.old }
+        ensures lays { LaysShare (announces (announced_at config.now places.now)) self.old result self.new }
+        ensures room { 16 ≤ vec_capacity held.new }
+    {
+        if !hold(&self.subscriber, config, places, held) {
+            self.spared = true;
+            return Ok(());
+        }
+        self.subscriber
+            .copies(&PrivateEvent::Announce(config, held))?;
+        Ok(())
+    }
+
+    /// Lays the copies of granted PMUs' blocks that its streams ask for.
+    fn lay_measured(
+        &mut self,
+        frame: &Arc<DataFrame>,
+        places: &[usize],
+        held: &mut Vec<usize>,
+    ) -> Result<(), Refusal>
+        requires rising { AreRising 0 (length (arc_value frame.now).config.parts) places.now }
+        requires room { 16 ≤ vec_capacity held.old }
+        requires none { HasNone self.old }
+        requires fit { Fits (measured (arc_value frame.now) places.now) self.old }
+        ensures lays { LaysShare (measured (arc_value frame.now) places.now) self.old result self.new }
+        ensures room { 16 ≤ vec_capacity held.new }
+    {
+        if !hold_blocks(&self.subscriber, frame, places, held) {
+            self.spared = true;
+            return Ok(());
+        }
+        self.subscriber.copies(&PrivateEvent::Measure(frame, held))?;
+        Ok(())
+    }
+
+    /// Gives up the copies that lie ready. Nothing else changes.
+    pub(crate) fn forget(&mut self)
+        ensures none { HasNone self.new }
+        ensures own { self.new.subscriber.own ≡ self.old.subscriber.own }
+        ensures audit { self.new.audit ≡ self.old.audit }
+    {
+        self.subscriber.forget();
+        self.spared = false;
+    }
+
+    /// Takes its share of an event for all, if it has one: with `lost` all data frames that it makes are lost. It answers the
+    /// frames made, and those of them that are kept.
+    pub(crate) fn take_share(
+        &mut self,
+        event: &Event,
+        places: &[usize],
+        held: &mut Vec<usize>,
+        lost: bool,
+    ) -> (u64, u64)
+        requires rising { IsRising event.now places.now }
+        requires room { 16 ≤ vec_capacity held.old }
+        requires awaits { Awaits (offered event.now places.now) self.old }
+        ensures takes { TakesOffer (offered event.now places.now) lost self.old result self.new }
+        ensures spared { self.new.spared ≡ false }
+        ensures room { 16 ≤ vec_capacity held.new }
+    {
+        if self.spared {
+            self.spared = false;
+            return (0, 0);
+        }
+        match event {
+            Event::DropPmu(key) => self.take_revoked(key, lost),
+            Event::Announce(config) => {
+                let config = announced(config);
+                self.take_announced(config, places, held, lost)
+            }
+            Event::Measure(frame) => self.take_measured(frame, places, held, lost),
+            Event::Tick(soc) => counts(self.subscriber.take(PrivateEvent::Tick(*soc), lost)),
+            _ => (0, 0),
+        }
+    }
+
+    /// A PMU is dropped, and so revoked where it is granted.
+    fn take_revoked(&mut self, key: &PmuKey, lost: bool) -> (u64, u64)
+        requires awaits { Awaits (revokes key.now) self.old }
+        ensures takes { TakesOffer (revokes key.now) lost self.old result self.new }
+        ensures spared { self.new.spared ≡ self.old.spared }
+    {
+        if !self.subscriber.holds(*key) {
+            return (0, 0);
+        }
+        self.audit.note(What::Revoke, None);
+        counts(self.subscriber.take(PrivateEvent::Revoke(*key), lost))
+    }
+
+    /// Registered PMUs announced.
+    fn take_announced(
+        &mut self,
+        config: &SourceConfig,
+        places: &[usize],
+        held: &mut Vec<usize>,
+        lost: bool,
+    ) -> (u64, u64)
+        requires rising { AreRising 0 (length config.now.parts) places.now }
+        requires room { 16 ≤ vec_capacity held.old }
+        requires awaits { Awaits (announces (announced_at config.now places.now)) self.old }
+        ensures takes { TakesOffer (announces (announced_at config.now places.now)) lost self.old result self.new }
+        ensures spared { self.new.spared ≡ self.old.spared }
+        ensures room { 16 ≤ vec_capacity held.new }
+    {
+        if !hold(&self.subscriber, config, places, held) {
+            return (0, 0);
+        }
+        counts(
+            self.subscriber
+                .take(PrivateEvent::Announce(config, held), lost),
+        )
+    }
+
+    /// Blocks of a frame were taken.
+    fn take_measured(
+        &mut self,
+        frame: &Arc<DataFrame>,
+        places: &[usize],
+        held: &mut Vec<usize>,
+        lost: bool,
+    ) -> (u64, u64)
+        requires rising { AreRising 0 (length (arc_value frame.now).config.parts) places.now }
+        requires room { 16 ≤ vec_capacity held.old }
+        requires awaits { Awaits (measured (arc_value frame.now) places.now) self.old }
+        ensures takes { TakesOffer (measured (arc_value frame.now) places.now) lost self.old result self.new }
+        ensures spared { self.new.spared ≡ self.old.spared }
+        ensures room { 16 ≤ vec_capacity held.new }
+    {
+        if !hold_blocks(&self.subscriber, frame, places, held) {
+            return (0, 0);
+        }
+        counts(
+            self.subscriber
+                .take(PrivateEvent::Measure(frame, held), lost),
+        )
+    }
+}
+
+/// What a reply counts: the frames made, and those kept.
+fn counts(reply: PrivateReply) -> (u64, u64)
+    ensures counts { result ≡ counts_of (told reply) }
+    ensures few { MakesFew (told reply) → (result.0 ≤ 640) × (result.1 ≤ result.0) }
+{
+    match reply {
+        PrivateReply::Done { made, kept } => (made, kept),
+        _ => (0, 0),
+    }
+}
+
+/// Whether the PMU at a place is granted to the subscriber, where it is guessed to stand at `next`.
+fn is_held(subscriber: &Subscriber, config: &SourceConfig, place: usize, next: &mut usize) -> bool
+    requires place { place < length config.now.parts }
+    ensures { result ≡ part_passes (has_key subscriber.now.own.grants) config.now (slice_get config.now.parts place) }
+{
+    subscriber.holds_next(config.key(place), next)
+}
+
+/// Of a source's PMUs at these places, those that the subscriber is granted. It answers whether there are any.
+fn hold(
+    subscriber: &Subscriber,
+    config: &SourceConfig,
+    places: &[usize],
+    held: &mut Vec<usize>,
+) -> bool
+    requires rising { AreRising 0 (length config.now.parts) places.now }
+    requires room { 16 ≤ vec_capacity held.old }
+    ensures some { result ≡ true → 0 < length held.new.items }
+    ensures none { result ≡ false → length held.new.items ≡ 0 }
+    ensures rising { AreRising 0 (length config.now.parts) held.new.items }
+    ensures held { held.new.items
+        ≡ filter (λ i. part_passes (has_key subscriber.now.own.grants) config.now (slice_get config.now.parts i)) places.now }
+    ensures room { 16 ≤ vec_capacity held.new }
+{
+    let _count = config.count();
+    held.clear();
+    let mut next = 0;
+    for place in places {
+        if is_held(subscriber, config, *place, &mut next) {
+            held.push_reserved(*place);
+        }
+    }
+    !held.is_empty()
+}
+
+/// The configuration by which a frame was read.
+fn source_of(frame: &DataFrame) -> &SourceConfig
+    ensures { result.now ≡ frame.now.config }
+{
+    &frame.config
+}
+
+/// Of a frame's blocks at these places, those of PMUs that the subscriber is granted. It answers whether there are any.
+fn hold_blocks(
+    subscriber: &Subscriber,
+    frame: &Arc<DataFrame>,
+    places: &[usize],
+    held: &mut Vec<usize>,
+) -> bool
+    requires rising { AreRising 0 (length (arc_value frame.now).config.parts) places.now }
+    requires room { 16 ≤ vec_capacity held.old }
+    ensures some { result ≡ true → 0 < length held.new.items }
+    ensures none { result ≡ false → length held.new.items ≡ 0 }
+    ensures rising { AreRising 0 (length (arc_value frame.now).config.parts) held.new.items }
+    ensures held { held.new.items
+        ≡ filter (λ i. part_passes (has_key subscriber.now.own.grants) (arc_value frame.now).config (slice_get (arc_value frame.now).config.parts i)) places.now }
+    ensures room { 16 ≤ vec_capacity held.new }
+{
+    let config = source_of(frame);
+    hold(subscriber, config, places, held)
+}
+
+/// The configuration that is announced.
+pub(crate) fn announced(config: &Arc<SourceConfig>) -> &SourceConfig
+    ensures { result.now ≡ arc_value config.now }
+{
+    config
+}

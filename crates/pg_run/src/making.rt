@@ -1,0 +1,378 @@
+//! The workers of the service, as they are made.
+
+ghost use Rattle.std.specs.Prelude.{◌≡◌, IfOk};
+
+use crate::clerk::Counter;
+use crate::opening::{Openings, opened};
+use crate::operator::{Desk, Operator, Told};
+use crate::reloading::InForce;
+use crate::serving::{Plan, Waits};
+use crate::workers::{Worker, share_ports, share_sources, told_as};
+use pg_operator::Setup;
+use pg_serve::{Named, Seat, Shared, SharedGate};
+use pg_service::{
+    Detail, Dial, Entry, Finder, Journal, Logger, Neighbours, Notice, Port, PortWorker,
+    SourceWorker, Ticker, Waiting, Whom,
+};
+use pg_window::Window;
+use pg_wire::Refusal;
+use std::alloc::Global;
+use std::io::StdinLock;
+use std::net::{Net, TcpListener, TcpStream};
+use std::rt::Clock;
+use std::sync::{Mutex, Wait};
+use std::time::{Duration, Instant};
+
+/// Where the setup stands by which the service runs.
+#[derive(Clone, Copy)]
+pub(crate) struct Place<'a> {
+    pub(crate) files: &'a HostRuntime,
+    pub(crate) file: &'a str,
+    pub(crate) setup: &'a Mutex<Setup>,
+}
+
+impl<'a> Place<'a> {
+    /// For who answers lines.
+    pub(crate) fn in_force<R: Net + Clock>(self, rt: &'a R) -> InForce<'a, R> {
+        InForce::new(rt, self.files, self.file, self.setup)
+    }
+}
+
+/// What a worker is made with.
+#[derive(Drop)]
+pub(crate) struct Makings<'a, R> {
+    pub(crate) rt: &'a R,
+    pub(crate) alloc: Global,
+    pub(crate) shared: &'a Shared,
+    pub(crate) told: Told<'a>,
+    pub(crate) place: Place<'a>,
+    pub(crate) now: Instant,
+}
+
+impl<'a, R: Wait> Makings<'a, R> {
+    /// A gate for a worker, with a seat that is split from this one.
+    pub(crate) fn gate<N: Named>(&self, seat: Seat) -> (Seat, SharedGate<'a, R, N>)
+        requires shared { self.now.shared.now ≡ N.table }
+        requires seat { seat.table ≡ N.table }
+        ensures seat { result.0 ≡ seat }
+    {
+        let (seat, own) = self.shared.split(seat);
+        (seat, SharedGate::new(self.rt, self.shared, own))
+    }
+}
+
+/// All workers. The one that waits for lines is the last, so that where a thread can't be started it is not there to wait for.
+pub(crate) fn make_workers<
+    'a,
+    R: Input<Reader = StdinLock<'static>>
+        + Print
+        + Eprint
+        + Clock
+        + Net<Listener = TcpListener, Stream = TcpStream>
+        + Wait,
+    N: Named,
+>(
+    makings: &Makings<'a, R>,
+    seat: Seat,
+    plan: Plan,
+    waits: Waits,
+    desk: Desk<'a, R>,
+) -> Result<(Seat, Vec<Worker<'a, R, N>>), Refusal>
+    requires shared { makings.now.shared.now ≡ N.table }
+    requires seat { seat.table ≡ N.table }
+    ensures seat { IfOk result (λ made. made.0 ≡ seat) }
+{
+    let mut workers = Vec::new(makings.alloc);
+    let seat = add_callers(makings, seat, waits.sources, plan.dials, &mut workers)?;
+    let seat = add_servers(makings, seat, waits.ports, plan.ports, &mut workers)?;
+    add_finder(makings, waits.names, &mut workers)?;
+    let seat = add_window(makings, seat, waits.window, plan.openings, &mut workers)?;
+    let seat = add_ticker(makings, seat, plan.tick, &mut workers)?;
+    add_logger(makings, &mut workers)?;
+    let seat = add_operator(makings, seat, desk, &mut workers)?;
+    Ok((seat, workers))
+}
+
+/// Adds the workers that call sources, one for each of these waits. Each source is given to one of them, in turn.
+fn add_callers<
+    'a,
+    R: Input<Reader = StdinLock<'static>>
+        + Print
+        + Eprint
+        + Clock
+        + Net<Listener = TcpListener, Stream = TcpStream>
+        + Wait,
+    N: Named,
+>(
+    makings: &Makings<'a, R>,
+    seat: Seat,
+    waits: Vec<Waiting>,
+    dials: Vec<Dial>,
+    workers: &mut Vec<Worker<'a, R, N>>,
+) -> Result<Seat, Refusal>
+    requires shared { makings.now.shared.now ≡ N.table }
+    requires seat { seat.table ≡ N.table }
+    ensures seat { IfOk result (λ rest. rest ≡ seat) }
+{
+    let (seat, mut callers) = callers::<R, N>(makings, seat, waits)?;
+    share_sources(&mut callers, dials)?;
+    for worker in callers {
+        workers.push(Worker::Sources(worker))?;
+    }
+    Ok(seat)
+}
+
+/// A worker that calls sources for each of these waits, with its mailbox and a seat that is split from this one.
+fn callers<'a, R: Wait + Net + Clock, N: Named>(
+    makings: &Makings<'a, R>,
+    seat: Seat,
+    waits: Vec<Waiting>,
+) -> Result<(Seat, Vec<SourceWorker<'a, R, N>>), Refusal>
+    requires shared { makings.now.shared.now ≡ N.table }
+    requires seat { seat.table ≡ N.table }
+    ensures seat { IfOk result (λ made. made.0 ≡ seat) }
+{
+    let Makings { rt, told, now, .. } = makings;
+    let mut rest = seat;
+    let mut made = Vec::new(makings.alloc);
+    let mut number = 0;
+    'workers: for waiting in waits {
+        let Some(mailbox) = told.sources.get(number) else {
+            break;
+        };
+        let (next, gate) = makings.gate::<N>(rest);
+        rest = next;
+        made.push(SourceWorker::new(
+            *rt,
+            makings.alloc,
+            gate,
+            waiting,
+            number,
+            mailbox,
+            told.neighbours,
+            *now,
+        ))?;
+        number += 1;
+    }
+    Ok((rest, made))
+}
+
+/// Adds the workers that serve subscribers, one for each of these waits. Each port is given to one of them, in turn, and told to the log.
+fn add_servers<
+    'a,
+    R: Input<Reader = StdinLock<'static>>
+        + Print
+        + Eprint
+        + Clock
+        + Net<Listener = TcpListener, Stream = TcpStream>
+        + Wait,
+    N: Named,
+>(
+    makings: &Makings<'a, R>,
+    seat: Seat,
+    waits: Vec<Waiting>,
+    ports: Vec<Port>,
+    workers: &mut Vec<Worker<'a, R, N>>,
+) -> Result<Seat, Refusal>
+    requires shared { makings.now.shared.now ≡ N.table }
+    requires seat { seat.table ≡ N.table }
+    ensures seat { IfOk result (λ rest. rest ≡ seat) }
+{
+    let (seat, mut servers) = servers::<R, N>(makings, seat, waits)?;
+    tell_ports(makings.rt, makings.told.neighbours.journal, &ports);
+    share_ports(&mut servers, ports)?;
+    for worker in servers {
+        workers.push(Worker::Subscribers(worker))?;
+    }
+    Ok(seat)
+}
+
+/// A worker that serves subscribers for each of these waits, with its mailbox and a seat that is split from this one.
+fn servers<'a, R: Wait + Net + Clock, N: Named>(
+    makings: &Makings<'a, R>,
+    seat: Seat,
+    waits: Vec<Waiting>,
+) -> Result<(Seat, Vec<PortWorker<'a, R, N>>), Refusal>
+    requires shared { makings.now.shared.now ≡ N.table }
+    requires seat { seat.table ≡ N.table }
+    ensures seat { IfOk result (λ made. made.0 ≡ seat) }
+{
+    let Neighbours {
+        ports,
+        journal,
+        board,
+        ..
+    } = makings.told.neighbours;
+    let mut rest = seat;
+    let mut made = Vec::new(makings.alloc);
+    let mut number = 0;
+    'workers: for waiting in waits {
+        let Some(mailbox) = ports.get(number) else {
+            break;
+        };
+        let (next, gate) = makings.gate::<N>(rest);
+        rest = next;
+        made.push(PortWorker::new(
+            makings.rt,
+            makings.alloc,
+            gate,
+            waiting,
+            mailbox,
+            journal,
+            board,
+            makings.now,
+        ))?;
+        number += 1;
+    }
+    Ok((rest, made))
+}
+
+/// Tells the log where each subscriber may connect.
+fn tell_ports<R: Wait>(rt: &R, journal: &Journal, ports: &[Port]) {
+    for port in ports {
+        if let Ok(address) = port.address() {
+            let whom = Whom::Subscriber(port.sub());
+            journal.tell(rt, Entry::new(Notice::Listening, whom, Detail::At(address)));
+        }
+    }
+}
+
+/// Adds the worker that looks up names.
+fn add_finder<
+    'a,
+    R: Input<Reader = StdinLock<'static>>
+        + Print
+        + Eprint
+        + Clock
+        + Net<Listener = TcpListener, Stream = TcpStream>
+        + Wait,
+    N: Named,
+>(
+    makings: &Makings<'a, R>,
+    waiting: Waiting,
+    workers: &mut Vec<Worker<'a, R, N>>,
+) -> Result<(), Refusal> {
+    let Told {
+        sources,
+        neighbours,
+        ..
+    } = makings.told;
+    let Neighbours {
+        finder,
+        journal,
+        ..
+    } = neighbours;
+    let names = Finder::new(makings.rt, makings.alloc, waiting, finder, sources, journal);
+    workers.push(Worker::Names(names))?;
+    Ok(())
+}
+
+/// Adds the worker that serves the control socket and the page, if there is one of them.
+fn add_window<
+    'a,
+    R: Input<Reader = StdinLock<'static>>
+        + Print
+        + Eprint
+        + Clock
+        + Net<Listener = TcpListener, Stream = TcpStream>
+        + Wait,
+    N: Named,
+>(
+    makings: &Makings<'a, R>,
+    seat: Seat,
+    waiting: Option<Waiting>,
+    openings: Openings,
+    workers: &mut Vec<Worker<'a, R, N>>,
+) -> Result<Seat, Refusal>
+    requires shared { makings.now.shared.now ≡ N.table }
+    requires seat { seat.table ≡ N.table }
+    ensures seat { IfOk result (λ rest. rest ≡ seat) }
+{
+    let told = makings.told;
+    let (Some(waiting), Some(mailbox)) = (waiting, told.window) else {
+        return Ok(seat);
+    };
+    let (seat, gate) = makings.gate::<N>(seat);
+    let Makings { rt, alloc, .. } = makings;
+    let clerk = Counter::new(*rt, *alloc, gate, told, makings.place.in_force(*rt));
+    let journal = told.neighbours.journal;
+    let made = Window::new(*rt, *alloc, waiting, mailbox, journal, clerk, makings.now);
+    match opened(*rt, made, openings, journal) {
+        Ok(window) => workers.push(Worker::Window(window))?,
+        Err(error) => return Err(told_as(error)),
+    }
+    Ok(seat)
+}
+
+/// Adds the worker that posts ticks.
+fn add_ticker<
+    'a,
+    R: Input<Reader = StdinLock<'static>>
+        + Print
+        + Eprint
+        + Clock
+        + Net<Listener = TcpListener, Stream = TcpStream>
+        + Wait,
+    N: Named,
+>(
+    makings: &Makings<'a, R>,
+    seat: Seat,
+    tick: Duration,
+    workers: &mut Vec<Worker<'a, R, N>>,
+) -> Result<Seat, Refusal>
+    requires shared { makings.now.shared.now ≡ N.table }
+    requires seat { seat.table ≡ N.table }
+    ensures seat { IfOk result (λ rest. rest ≡ seat) }
+{
+    let (seat, gate) = makings.gate::<N>(seat);
+    let ticks = Ticker::new(makings.rt, gate, tick, makings.told.neighbours);
+    workers.push(Worker::Ticks(ticks))?;
+    Ok(seat)
+}
+
+/// Adds the worker that writes the log.
+fn add_logger<
+    'a,
+    R: Input<Reader = StdinLock<'static>>
+        + Print
+        + Eprint
+        + Clock
+        + Net<Listener = TcpListener, Stream = TcpStream>
+        + Wait,
+    N: Named,
+>(makings: &Makings<'a, R>, workers: &mut Vec<Worker<'a, R, N>>) -> Result<(), Refusal> {
+    let journal = makings.told.neighbours.journal;
+    match Logger::new(makings.rt, makings.alloc, journal, makings.now) {
+        Ok(log) => workers.push(Worker::Log(log))?,
+        Err(error) => return Err(told_as(error)),
+    }
+    Ok(())
+}
+
+/// Adds the worker that answers an operator's lines.
+fn add_operator<
+    'a,
+    R: Input<Reader = StdinLock<'static>>
+        + Print
+        + Eprint
+        + Clock
+        + Net<Listener = TcpListener, Stream = TcpStream>
+        + Wait,
+    N: Named,
+>(
+    makings: &Makings<'a, R>,
+    seat: Seat,
+    desk: Desk<'a, R>,
+    workers: &mut Vec<Worker<'a, R, N>>,
+) -> Result<Seat, Refusal>
+    requires shared { makings.now.shared.now ≡ N.table }
+    requires seat { seat.table ≡ N.table }
+    ensures seat { IfOk result (λ rest. rest ≡ seat) }
+{
+    let (seat, gate) = makings.gate::<N>(seat);
+    let Makings { rt, told, .. } = makings;
+    let in_force = makings.place.in_force(*rt);
+    let operator = Operator::new(*rt, makings.alloc, gate, desk, *told, in_force);
+    workers.push(Worker::Lines(operator))?;
+    Ok(seat)
+}

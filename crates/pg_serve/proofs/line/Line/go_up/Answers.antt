@@ -1,5 +1,0 @@
-use Rattle.pg_serve.proofs.Lines.{goes_up}
-use Rattle.pg_serve.proofs.line.Line.go_up.Goals as goal
-
-pub returns : goal.returns
-returns c = record { goes = λ line shows. goes_up line _ _ _ (c.reset.ensures.shows line.link shows.shows) c.in_ok-commands_owed.ensures.given }

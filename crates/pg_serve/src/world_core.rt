@@ -1,0 +1,278 @@
+//! One input after another.
+
+ghost use Rattle.std.specs.Prelude.{◌≡◌, ℕ, [], ◌∷◌, is_some, false, None, IfOk};
+ghost use Rattle.pg_session.specs.Events as events;
+ghost use Rattle.pg_gateway.specs.Occurrences.{occurrence, asks, add_pmu, drop_pmu, told};
+ghost use Rattle.pg_gateway.specs.State.{SharedMachine, slot_of, refusal};
+ghost use Rattle.pg_gateway.specs.Shown.{GatewayShows};
+ghost use Rattle.pg_serve.specs.Moments.{Moment, has_source, new_source_link, is_done, absence};
+ghost use Rattle.pg_serve.specs.Inputs.{fact, link_up, pmu_bytes, sub_bytes, names, noted, edited, outcome};
+ghost use Rattle.pg_serve.specs.Shown.{MomentShows, SourceLinkShows, SessionShows};
+ghost use Rattle.pg_serve.specs.Taking.{held, Takes, TakesInput, Spares, Ends};
+
+use crate::edits::event_of;
+use crate::feeding::{commands_owed, feed_link, feed_session, note, post};
+use crate::input::{Input, Note, Output};
+use crate::source_link::SourceLink;
+use indexmap::IndexMap;
+use pg_gateway::{Edit, Event, Gateway, Reply};
+use pg_session::Session;
+use pg_wire::{PmuId, PmuKey, Refusal, SubId};
+use std::alloc::{AllocError, Global};
+
+/// The gateway, a line for each source that has a registered PMU, and a session for each connected subscriber.
+#[derive(Drop)]
+pub(crate) struct Core {
+    pub(crate) alloc: Global,
+    pub(crate) gateway: Gateway,
+    pub(crate) lines: IndexMap<PmuId, SourceLink>,
+    pub(crate) sessions: IndexMap<SubId, Session>,
+}
+
+/// An answer of one note.
+fn output(alloc: Global, what: Note) -> Result<Output, AllocError>
+    ensures outcome { IfOk result (λ o. outcome o ≡ record { notes = noted what ∷ []; to_pmu = [] }) }
+{
+    let mut notes = Vec::with_capacity(alloc, 1)?;
+    note(&mut notes, what)?;
+    Ok(Output {
+        notes,
+        to_pmu: Vec::new(alloc),
+    })
+}
+
+impl Core {
+    /// Takes one input.
+    pub(crate) fn take(&mut self, input: &Input) -> Result<Output, AllocError>
+        ensures takes { IfOk result (λ o. TakesInput (held self.old) (fact input.now) (outcome o) (held self.new)) }
+    {
+        match input {
+            Input::LinkUp(source) => self.link_up(*source),
+            Input::PmuBytes(source, bytes) => self.take_source(*source, bytes.as_slice()),
+            Input::SubBytes(sub, bytes) => self.take_subscriber(*sub, bytes.as_slice()),
+            Input::Connect(sub) => self.connect(*sub),
+            Input::Hangup(sub) => self.end_session(Event::Hangup(*sub), *sub),
+            Input::Drain(sub, size) => self.drain(*sub, *size),
+            Input::Tick(soc) => self.answer(Event::Tick(*soc)),
+            Input::Edit(edit) => self.edit(edit),
+        }
+    }
+
+    /// Posts an event that concerns no link and no session.
+    fn answer(&mut self, event: Event) -> Result<Output, AllocError>
+        requires spares { Spares (occurrence event) }
+        ensures takes { IfOk result (λ o. TakesInput (held self.old) (names (occurrence event)) (outcome o) (held self.new)) }
+    {
+        let reply = self.gateway.step(event);
+        Ok(output(self.alloc, Note::Replied(reply))?)
+    }
+
+    /// A source's connection is up.
+    fn link_up(&mut self, source: PmuId) -> Result<Output, AllocError>
+        ensures takes { IfOk result (λ o. TakesInput (held self.old) (link_up source) (outcome o) (held self.new)) }
+    {
+        match self.lines.get_mut(&source) {
+            None => Ok(output(
+                self.alloc,
+                Note::Replied(Reply::Refused(Refusal::NoSuchPmu)),
+            )?),
+            Some(line) => {
+                let to_pmu = line.go_up(self.alloc)?;
+                Ok(Output {
+                    notes: Vec::new(self.alloc),
+                    to_pmu,
+                })
+            }
+        }
+    }
+
+    /// Bytes of a source came.
+    fn take_source(&mut self, source: PmuId, bytes: &[u8]) -> Result<Output, AllocError>
+        ensures takes { IfOk result (λ o. TakesInput (held self.old) (pmu_bytes source bytes.now) (outcome o) (held self.new)) }
+    {
+        match self.lines.get_mut(&source) {
+            None => Ok(output(
+                self.alloc,
+                Note::Replied(Reply::Refused(Refusal::NoSuchPmu)),
+            )?),
+            Some(line) => Ok(line.take(self.alloc, &mut self.gateway, bytes)?),
+        }
+    }
+
+    /// Bytes of a subscriber came. Where they break it is hung up.
+    fn take_subscriber(&mut self, sub: SubId, bytes: &[u8]) -> Result<Output, AllocError>
+        ensures takes { IfOk result (λ o. TakesInput (held self.old) (sub_bytes sub bytes.now) (outcome o) (held self.new)) }
+    {
+        let mut notes = Vec::with_capacity(self.alloc, 1)?;
+        let broken = match self.sessions.get_mut(&sub) {
+            None => {
+                let refusal = absence(&self.gateway, sub);
+                return Ok(output(self.alloc, Note::Replied(Reply::Refused(refusal)))?);
+            }
+            Some(session) => feed_session(&mut self.gateway, session, sub, bytes, &mut notes)?,
+        };
+        if let Some(refusal) = broken {
+            note(&mut notes, Note::Closed(refusal))?;
+            post(&mut self.gateway, Event::Hangup(sub), &mut notes)?;
+            self.sessions.shift_remove(&sub);
+            return Ok(Output {
+                notes,
+                to_pmu: Vec::new(self.alloc),
+            });
+        }
+        Ok(Output {
+            notes,
+            to_pmu: Vec::new(self.alloc),
+        })
+    }
+
+    /// A subscriber connects. Its session is made first, so that want of memory changes nothing.
+    fn connect(&mut self, sub: SubId) -> Result<Output, AllocError>
+        ensures takes { IfOk result (λ o. TakesInput (held self.old) (names (asks sub events.connect)) (outcome o) (held self.new)) }
+    {
+        if !self.gateway.has_sub(sub) {
+            let reply = self.gateway.step(Event::Connect(sub));
+            return Ok(output(self.alloc, Note::Replied(reply))?);
+        }
+        if self.gateway.is_connected(sub) {
+            let reply = self.gateway.step(Event::Connect(sub));
+            return Ok(output(self.alloc, Note::Replied(reply))?);
+        }
+        match Session::new(self.alloc, sub) {
+            Ok(session) => Ok(self.add_session(sub, session)?),
+            Err(_) => Ok(output(self.alloc, Note::Replied(Reply::Refused(Refusal::NoMemory)))?),
+        }
+    }
+
+    /// A subscriber connects, with this session.
+    fn add_session(&mut self, sub: SubId, session: Session) -> Result<Output, AllocError>
+        requires new { SessionShows session [] }
+        ensures takes { IfOk result (λ o. (m : Moment) → refusal m.shared (asks sub events.connect) ≡ None
+            → MomentShows (held self.old) m
+            → Takes m (names (asks sub events.connect)) (outcome o) (held self.new)) }
+    {
+        match self.sessions.reserve(1) {
+            Ok(()) => {}
+            Err(_) => return Ok(output(
+                self.alloc,
+                Note::Replied(Reply::Refused(Refusal::NoMemory)),
+            )?),
+        }
+        let reply = self.gateway.step(Event::Connect(sub));
+        if is_done(&reply) {
+            let _ = self.sessions.insert(sub, session);
+            return Ok(output(self.alloc, Note::Replied(reply))?);
+        }
+        Ok(output(self.alloc, Note::Replied(reply))?)
+    }
+
+    /// A subscriber is hung up or dropped: its session ends, where that is done.
+    fn end_session(&mut self, event: Event, sub: SubId) -> Result<Output, AllocError>
+        requires ends { Ends sub (occurrence event) }
+        ensures takes { IfOk result (λ o. TakesInput (held self.old) (names (occurrence event)) (outcome o) (held self.new)) }
+    {
+        let reply = self.gateway.step(event);
+        if is_done(&reply) {
+            self.sessions.shift_remove(&sub);
+            return Ok(output(self.alloc, Note::Replied(reply))?);
+        }
+        Ok(output(self.alloc, Note::Replied(reply))?)
+    }
+
+    /// What waits for a subscriber is handed out into a new buffer.
+    fn drain(&mut self, sub: SubId, size: u16) -> Result<Output, AllocError>
+        ensures takes { IfOk result (λ o. TakesInput (held self.old) (names (asks sub (events.drain size))) (outcome o) (held self.new)) }
+    {
+        let buffer = vec![in self.alloc; 0; usize::from(size)]?;
+        self.answer(Event::Drain(sub, buffer))
+    }
+
+    /// What an operator asks for.
+    fn edit(&mut self, edit: &Edit) -> Result<Output, AllocError>
+        ensures takes { IfOk result (λ o. TakesInput (held self.old) (names (edited edit.now)) (outcome o) (held self.new)) }
+    {
+        match edit {
+            Edit::AddPmu(key) => self.add_pmu(*key),
+            Edit::DropPmu(key) => self.drop_pmu(*key),
+            Edit::DropSub(sub) => self.end_session(Event::DropSub(*sub), *sub),
+            _ => {
+                let event = event_of(self.alloc, edit)?;
+                self.answer(event)
+            }
+        }
+    }
+
+    /// A PMU is registered. The link of a new source is made first, so that want of memory changes nothing.
+    fn add_pmu(&mut self, key: PmuKey) -> Result<Output, AllocError>
+        ensures takes { IfOk result (λ o. TakesInput (held self.old) (names (add_pmu key)) (outcome o) (held self.new)) }
+    {
+        if self.gateway.has_source(key.source) {
+            let reply = self.gateway.step(Event::AddPmu(key));
+            return Ok(output(self.alloc, Note::Replied(reply))?);
+        }
+        if self.gateway.is_full() {
+            let reply = self.gateway.step(Event::AddPmu(key));
+            return Ok(output(self.alloc, Note::Replied(reply))?);
+        }
+        match SourceLink::new(self.alloc, key.source) {
+            Ok(line) => Ok(self.add_line(key, line)?),
+            Err(_) => Ok(output(self.alloc, Note::Replied(Reply::Refused(Refusal::NoMemory)))?),
+        }
+    }
+
+    /// A PMU of a new source is registered, with this line.
+    fn add_line(&mut self, key: PmuKey, line: SourceLink) -> Result<Output, AllocError>
+        requires new { SourceLinkShows line (new_source_link key.source) }
+        ensures takes { IfOk result (λ o. (m : Moment) → has_source m.shared key.source ≡ false
+            → refusal m.shared (add_pmu key) ≡ None
+            → MomentShows (held self.old) m
+            → Takes m (names (add_pmu key)) (outcome o) (held self.new)) }
+    {
+        match self.lines.reserve(1) {
+            Ok(()) => {}
+            Err(_) => return Ok(output(
+                self.alloc,
+                Note::Replied(Reply::Refused(Refusal::NoMemory)),
+            )?),
+        }
+        let reply = self.gateway.step(Event::AddPmu(key));
+        if is_done(&reply) {
+            let _ = self.lines.insert(key.source, line);
+            return Ok(output(self.alloc, Note::Replied(reply))?);
+        }
+        Ok(output(self.alloc, Note::Replied(reply))?)
+    }
+
+    /// A PMU is dropped, and with a source's last one its link.
+    fn drop_pmu(&mut self, key: PmuKey) -> Result<Output, AllocError>
+        ensures takes { IfOk result (λ o. TakesInput (held self.old) (names (drop_pmu key)) (outcome o) (held self.new)) }
+    {
+        let reply = self.gateway.step(Event::DropPmu(key));
+        if !self.gateway.has_source(key.source) {
+            self.lines.shift_remove(&key.source);
+            return Ok(output(self.alloc, Note::Replied(reply))?);
+        }
+        Ok(output(self.alloc, Note::Replied(reply))?)
+    }
+}
+
+/// Whether a reply tells that the event is done.
+fn is_done(reply: &Reply) -> bool
+    ensures value { result ≡ is_done (told reply.now) }
+{
+    match reply {
+        Reply::Done { .. } => true,
+        _ => false,
+    }
+}
+
+/// Why a subscriber has no session: it is not there, or not connected.
+pub(crate) fn absence(gateway: &Gateway, sub: SubId) -> Refusal
+    ensures value { (S : SharedMachine) → GatewayShows gateway.now S → result ≡ absence (is_some (slot_of sub S.subs)) }
+{
+    if gateway.has_sub(sub) {
+        Refusal::NotConnected
+    } else {
+        Refusal::NoSuchSub
+    }
+}
