@@ -2,11 +2,13 @@
 """Measures the running service: starts the program with sources and subscribers of its own, and prints each figure beside its
 bound.
 
-    python3 bench/service.py PROGRAM [CASE..]      CASE: direct latency idle flood reader throughput address name descriptors; none: all of them
+    python3 bench/service.py PROGRAM [CASE..]      CASE: direct latency idle flood hostile reader throughput address name descriptors; none: all
+                                                   of them
 
 A latency is from the moment before the last source's frame of a slot is written to the moment at which the kernel has the
-subscriber's frame at its socket; behind it the same up to the end of the read, so with the readers' Python, which takes those that
-came at once one after another. PROGRAM is `pdcgw` as `rt run` left it in crates/pdcgw/out. Nothing beside Python's standard library is needed (and `strace` or
+subscriber's frame at its socket, by the kernel's own stamp; bounds are of this one, so that it does not count when this script is
+scheduled. Behind it stands the same up to the end of the read, so with the readers' Python, which takes those that came at once one
+after another. PROGRAM is `pdcgw` as `rt run` left it in crates/pdcgw/out. Nothing beside Python's standard library is needed (and `strace` or
 `perf` for system calls, where one of them is there). The status is 1 where a figure is past its bound.
 """
 import binascii
@@ -19,11 +21,13 @@ import struct
 import subprocess
 import sys
 import tempfile
+import threading
 import time
 
 BASE = 1_000_000
 FIRST_SOURCE_PORT = 20_100
 FIRST_PORT = 20_300
+PAGE_PORT = 20_099
 SO_TIMESTAMPNS = 35
 P50_P99 = "p50, p99 ms at the socket; read"
 
@@ -63,9 +67,9 @@ def frames_in(buffer):
     return found
 
 
-def setup_text(tick_ms, sources, subscribers, ingest=1, serve=1):
-    """sources: {source: pmus}; subscribers: list of (id, ring, [streams]), a stream (id, rate, members)."""
-    lines = [f"tick_ms = {tick_ms}", f"ingest = {ingest}", f"serve = {serve}"]
+def setup_text(tick_ms, sources, subscribers, ingest=1, serve=1, more=()):
+    """sources: {source: pmus}; subscribers: list of (id, ring, [streams]), a stream (id, rate, members); more: lines for the file itself."""
+    lines = [f"tick_ms = {tick_ms}", f"ingest = {ingest}", f"serve = {serve}", *more]
     for at, (source, pmus) in enumerate(sources.items()):
         for place, pmu in enumerate(pmus):
             lines += ["[[pmu]]", f"id = {pmu}", f"source = {source}"]
@@ -225,11 +229,11 @@ def spawn(work, *args):
     return child, told
 
 
-def measure(program, sources, subscribers, rate, seconds, phasors=1, tick_ms=10, beside=None, ingest=1, serve=1):
+def measure(program, sources, subscribers, rate, seconds, phasors=1, tick_ms=10, beside=None, ingest=1, serve=1, more=()):
     """Sent and got frames of a run."""
     source, of_sources = spawn(run_sources, sources, rate, seconds, phasors)
     of_sources.get()
-    gateway = Gateway(program, setup_text(tick_ms, sources, subscribers, ingest, serve))
+    gateway = Gateway(program, setup_text(tick_ms, sources, subscribers, ingest, serve, more))
     of_sources.get()
     time.sleep(0.3)
     reader, of_readers = spawn(run_subscribers, subscribers, seconds + 3)
@@ -319,8 +323,8 @@ def case_direct(_program):
 
 
 def case_latency(program):
-    for count, members, tick_ms, serve in ((1, 1, 10, 1), (1, 1, 100, 1), (1, 1, 1000, 1), (16, 16, 10, 1), (16, 16, 10, 2),
-                                           (64, 1, 10, 1), (64, 1, 1000, 1)):
+    for count, members, tick_ms, serve in ((1, 1, 10, 1), (1, 1, 100, 1), (1, 1, 1000, 1), (16, 16, 10, 1), (16, 16, 100, 1),
+                                           (16, 16, 10, 2), (64, 1, 10, 1), (64, 1, 1000, 1)):
         sources = {100 + at: [100 + at] for at in range(count)}
         keys = [(s, s) for s in sources]
         subscribers = []
@@ -399,17 +403,89 @@ def case_flood(program):
         gateway.quit()
         found, read, missing = latencies(sent, got, [(1, 1000, [(100, 100)])])
         tell(f"flood of {kind}, neighbour at 60/s: {P50_P99}", told_of(found, read, missing), "p99 < 20, 0 lost",
-             percentile(read, 0.99) < 20 and missing == 0)
+             percentile(found, 0.99) < 20 and missing == 0)
+
+
+def again_and_again(client, rest):
+    """What a client does, and once it is over the same again."""
+    while True:
+        try:
+            client()
+        except OSError:
+            pass
+        time.sleep(rest)
+
+
+def endless_line(path):
+    """A control line that has no end."""
+    with socket.socket(socket.AF_UNIX) as peer:
+        peer.connect(path)
+        while True:
+            peer.sendall(b"x" * 16_384)
+
+
+def deaf_client(path):
+    """A control client that asks and never reads."""
+    with socket.socket(socket.AF_UNIX) as peer:
+        peer.connect(path)
+        while True:
+            peer.sendall(b"status\n" * 100)
+
+
+def slow_client(port):
+    """An HTTP client that sends a byte a second."""
+    with socket.create_connection(("127.0.0.1", port)) as peer:
+        for byte in b"GET /metrics HTTP/1.1\r\nHost: here\r\n" * 100:
+            peer.sendall(bytes([byte]))
+            time.sleep(1)
+
+
+def long_head(port):
+    """A request head of a megabyte."""
+    with socket.create_connection(("127.0.0.1", port)) as peer:
+        peer.sendall(b"GET / HTTP/1.1\r\nX: " + b"a" * 1_000_000)
+
+
+def misuse(path, port):
+    """All of them at once, in the time that others leave: they would not be on this machine."""
+    os.nice(19)
+    clients = [(lambda: slow_client(port), 0.1)] * 100
+    clients += [(lambda: endless_line(path), 0.01), (lambda: deaf_client(path), 0.01), (lambda: long_head(port), 0.2)]
+    threads = [threading.Thread(target=again_and_again, args=client, daemon=True) for client in clients]
+    for it in threads:
+        it.start()
+    threads[0].join()
+
+
+def case_hostile(program):
+    """A quiet stream, without and beside those who misuse the control socket and the page."""
+    subscribers = [(1, 64, [(1000, 60, [(100, 100)])])]
+    with tempfile.TemporaryDirectory() as folder:
+        path = f"{folder}/control"
+        more = [f'control = "{path}"', f'status = "127.0.0.1:{PAGE_PORT}"']
+
+        def beside(_gateway):
+            child = multiprocessing.Process(target=misuse, args=(path, PAGE_PORT), daemon=True)
+            child.start()
+            time.sleep(1)
+            return [child]
+
+        for name, others in (("nobody", None), ("those who misuse control socket and page", beside)):
+            sent, got, status = measure(program, {100: [100]}, subscribers, 60, 8, beside=others, more=more)
+            found, read, missing = latencies(sent, got, [(1, 1000, [(100, 100)])])
+            is_met = others is None or (percentile(found, 0.99) < 20 and missing == 0 and status == 0)
+            tell(f"{name} beside a stream at 60/s: {P50_P99}", told_of(found, read, missing),
+                 "p99 < 20, 0 lost" if others else "(no bound)", is_met)
 
 
 def case_reader(program):
-    # 16 PMUs of 27 phasors: 16 + 2 + 16 * 114 bytes are 1,842; a stream has all of them.
+    # 16 PMUs of 27 phasors: 16 + 16 * (6 + 4 * 27) bytes are 1,840; a stream has all of them.
     sources = {100: list(range(100, 116))}
     members = [(100, pmu) for pmu in sources[100]]
     subscribers = [(1, 64, [(1000 + at, 120, members) for at in range(8)])]
-    sent, got, _ = measure(program, sources, subscribers, 120, 8, phasors=26)
+    sent, got, _ = measure(program, sources, subscribers, 120, 8, phasors=27)
     found, read, missing = latencies(sent, got, [(1, 1000 + at, [(100, 100)]) for at in range(8)])
-    tell(f"8 streams of some 1,800 bytes at 120/s, healthy reader: {P50_P99}", told_of(found, read, missing), "0 lost", missing == 0)
+    tell(f"8 streams of 1,840 bytes at 120/s, healthy reader: {P50_P99}", told_of(found, read, missing), "0 lost", missing == 0)
 
 
 def system_calls(process, seconds):
@@ -548,7 +624,7 @@ def case_descriptors(program):
     gateway.quit()
 
 
-CASES = {"direct": case_direct, "address": case_address, "name": case_name, "descriptors": case_descriptors, "latency": case_latency, "idle": case_idle, "flood": case_flood, "reader": case_reader, "throughput": case_throughput}
+CASES = {"direct": case_direct, "address": case_address, "name": case_name, "descriptors": case_descriptors, "latency": case_latency, "idle": case_idle, "flood": case_flood, "hostile": case_hostile, "reader": case_reader, "throughput": case_throughput}
 
 
 def main():

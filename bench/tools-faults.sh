@@ -1,7 +1,7 @@
 #!/bin/sh
 # Has `pdcgw watch` look at `pdcgw simulate` over loopback, once for each fault that a source can be told to have, and at what is
 # typed wrong, and says whether watch tells of it what it has to. It takes the program that `rt run` leaves in crates/pdcgw/out,
-# or the one that PDCGW names. Its ports are 24721 to 24728. Status 1 where something is not as it has to be.
+# or the one that PDCGW names. Its ports are 24721 to 24730. Status 1 where something is not as it has to be.
 set -eu
 bench=$(cd "$(dirname "$0")" && pwd)
 program=${PDCGW:-"$bench/../crates/pdcgw/out/pdcgw"}
@@ -36,14 +36,15 @@ keep() {
 }
 
 port=24720
-# NAME OPTION..: watches a source with these options for twelve seconds, beside the others.
+seconds=12
+# NAME OPTION..: watches a source with these options for so many seconds, beside the others.
 watched() {
     name=$1
     shift
     port=$((port + 1))
     "$program" simulate --listen "127.0.0.1:$port" "$@" > "$scratch/$name.source" 2>&1 &
     started="$started $!"
-    (sleep 1 && keep "$name" "$program" watch "127.0.0.1:$port" --stream 7 --plain --seconds 12) &
+    (sleep 1 && keep "$name" "$program" watch "127.0.0.1:$port" --stream 7 --plain --seconds "$seconds") &
     watchers="$watchers $!"
 }
 
@@ -51,11 +52,15 @@ watchers=
 watched right
 watched drop --fault drop=10
 watched wrong-check --fault wrong-check=10
+# Of ten seconds with frames and five without, each of these has some without behind some with.
+seconds=20
 watched silence --fault silence=5
+seconds=12
 watched late --fault late=300
 watched clock --fault clock=-3000
 watched no-config --fault no-config
 watched sixteen --pmus 16 --phasors 6
+watched nothing --fault drop=100
 for watcher in $watchers; do wait "$watcher"; done
 tells right 0 '^3[0-9][0-9] frames, 0 missing, 0 fillers, 0 troubles'
 tells drop 0 '^[0-9]+ frames, [1-9][0-9]* missing, 0 fillers, 0 troubles'
@@ -65,6 +70,9 @@ tells silence 0 ' 0 frames, [0-9]+ so far'
 tells late 0 ', 3[0-9][0-9] ms behind'
 tells clock 0 ', 3[0-9][0-9][0-9] ms behind'
 tells no-config 1 'no configuration came'
+tells no-config 1 'no data frame came'
+tells nothing 1 'no data frame came'
+tells nothing 1 '^0 frames, 0 missing, 0 fillers, 1 troubles'
 tells sixteen 0 '^[1-9][0-9]* frames, .* 0 fillers, 0 troubles'
 
 # Values as lines, behind a heading; the bytes as they came.
@@ -75,8 +83,8 @@ lines=$(grep -c '^20..-..-..T..:..:...*Z,' "$scratch/csv.said" || :)
 [ "$lines" = 60 ] || { echo "WRONG: csv has $lines lines"; failed=$((failed + 1)); }
 [ "$(wc -c < "$scratch/csv.raw")" -ge $((60 * 38)) ] || { echo "WRONG: --raw has too few bytes"; failed=$((failed + 1)); }
 
-keep nobody "$program" watch 127.0.0.1:24729 --stream 7 --seconds 1
-tells nobody 1 '127\.0\.0\.1:24729 can.t be reached: '
+keep nobody "$program" watch 127.0.0.1:24730 --stream 7 --seconds 1
+tells nobody 1 '127\.0\.0\.1:24730 can.t be reached: '
 keep taken "$program" simulate --listen 127.0.0.1:24721
 tells taken 1 '127\.0\.0\.1:24721 can.t be bound: '
 keep other-stream "$program" watch 127.0.0.1:24721 --stream 8 --plain --seconds 7

@@ -2,12 +2,14 @@
 # Has tshark (Debian's package, with text2pcap) read what `pdcgw simulate` sends, and what the gateway sends of it, and prints
 # for each how many frames it read, how many have a bad CHK, and how many packets are malformed. The bytes are those that
 # `pdcgw watch --raw` kept, cut into packets of 1,400 bytes. It takes the program that `rt run` leaves in crates/pdcgw/out, or
-# the one that PDCGW names. FRAMES of each are watched, 600 where not given. Its ports are 24712, 24713 and 24800.
+# the one that PDCGW names. FRAMES of each are watched, 600 where not given. Its ports are 24712, 24713 and 24800. Status 1 where
+# tshark reads fewer frames than were watched, or one of them is bad or malformed, or `watch` finds something wrong.
 set -eu
 bench=$(cd "$(dirname "$0")" && pwd)
 program=${PDCGW:-"$bench/../crates/pdcgw/out/pdcgw"}
 frames=${FRAMES:-600}
 scratch=$(mktemp -d)
+failed=0
 started=
 cleanup() {
     for process in $started; do kill "$process" 2> "$scratch/killed" || :; done
@@ -24,12 +26,22 @@ told_by_tshark() {
     tshark -r "$scratch/$1.pcap" -d "$read_as" -T fields -e synphasor.checksum.status 2> "$scratch/tshark" \
         | tr ',' '\n' | grep -v '^$' > "$scratch/$1.checks"
     malformed=$(tshark -r "$scratch/$1.pcap" -d "$read_as" -Y _ws.malformed 2> "$scratch/tshark" | wc -l)
-    echo "$1: $(wc -l < "$scratch/$1.checks") frames, $(grep -vc '^1$' "$scratch/$1.checks" || :) bad, $malformed malformed"
+    read=$(wc -l < "$scratch/$1.checks")
+    bad=$(grep -vc '^1$' "$scratch/$1.checks" || :)
+    echo "$1: $read frames, $bad bad, $malformed malformed"
+    if [ "$read" -lt "$frames" ] || [ "$bad" != 0 ] || [ "$malformed" != 0 ]; then
+        echo "WRONG: $1: $frames frames or more have to be read, none of them bad or malformed"
+        failed=1
+    fi
 }
 
 # NAME PORT STREAM: watches, and has tshark read it.
 watched() {
-    "$program" watch "127.0.0.1:$2" --stream "$3" --plain --frames "$frames" --raw "$scratch/$1.raw" > "$scratch/$1.lines"
+    if ! "$program" watch "127.0.0.1:$2" --stream "$3" --plain --frames "$frames" --raw "$scratch/$1.raw" > "$scratch/$1.lines"; then
+        echo "WRONG: $1: watch ended with a status that is not 0"
+        failed=1
+    fi
+    [ -s "$scratch/$1.raw" ] || { echo "WRONG: $1: no byte came"; exit 1; }
     tail -n 1 "$scratch/$1.lines"
     told_by_tshark "$1" "$2"
 }
@@ -73,3 +85,4 @@ SETUP
 started="$started $!"
 sleep 2
 watched gateway 24800 101
+[ "$failed" = 0 ]

@@ -1,14 +1,16 @@
 //! The word `ctl`: lines for a gateway that runs.
 
+use crate::setup::unfit;
 use crate::{Outcome, help};
 use clap::{Arg, ArgAction, ArgMatches, Command};
-use pg_check::Trouble;
 use pg_service::system_words;
+use pg_status::Answered;
 use pg_window::ask;
 use pg_wire::Refusal;
+use pg_words::{not_answered, not_reached};
 use std::alloc::{AllocError, Global};
 use std::io;
-use std::io::{BufWriter, ErrorKind};
+use std::io::BufWriter;
 
 /// The words of `ctl`.
 pub fn words<'a>(alloc: Global) -> Result<Command<'a>, AllocError> {
@@ -52,31 +54,27 @@ pub fn run<R: Print + Alloc<A = Global>>(
         return Outcome::Failed(Refusal::NoMemory);
     };
     match ask(files, alloc, path, &lines, &mut out) {
-        Ok(true) => Outcome::Done,
-        Ok(false) => Outcome::Troubled,
-        Err(error) => Outcome::Unfit(not_reached(alloc, path, error.kind())),
+        Ok(answered) => outcome_of(alloc, path, &lines, answered),
+        Err(error) => {
+            let kind = error.kind();
+            let told = not_reached(alloc, path, kind, system_words(kind));
+            Outcome::Unfit(unfit(alloc, Refusal::ReadFault, told))
+        }
     }
 }
 
-/// The gateway could not be asked there.
-fn not_reached(alloc: Global, path: &str, kind: ErrorKind) -> Trouble {
-    let why = match kind {
-        ErrorKind::NotFound => {
-            "there is no such file; a gateway that runs has it where its setup names it as control"
+/// What the answers come to. A line that was refused has told its number by its answer.
+fn outcome_of(alloc: Global, path: &str, lines: &[&str], answered: Answered) -> Outcome {
+    let told = not_answered(alloc, path, lines, answered);
+    match answered {
+        Answered::All => Outcome::Done,
+        Answered::Refused => match told {
+            Ok(told) => Outcome::Troubled(told),
+            Err(_) => Outcome::Failed(Refusal::NoMemory),
+        },
+        Answered::Busy => Outcome::Unfit(unfit(alloc, Refusal::Busy, told)),
+        Answered::Ended(_) | Answered::Silent(_) => {
+            Outcome::Unfit(unfit(alloc, Refusal::ReadFault, told))
         }
-        ErrorKind::ConnectionRefused => "nobody listens there; the gateway does not run",
-        ErrorKind::PermissionDenied => "not permitted; it is for the user that the gateway runs as",
-        ErrorKind::BrokenPipe => "the answers can't be written, or the gateway hung up",
-        kind => system_words(kind),
-    };
-    match format!(in alloc; "{path}: {why}\n") {
-        Ok(told) => Trouble {
-            refusal: Refusal::ReadFault,
-            told,
-        },
-        Err(_) => Trouble {
-            refusal: Refusal::NoMemory,
-            told: String::new(alloc),
-        },
     }
 }

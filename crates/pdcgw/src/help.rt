@@ -5,9 +5,10 @@ pub const PROGRAM: &str = "\
 Exit status:
   0  done
   1  a fault, told on standard error as `pdcgw: N NAME`: 1 NoMemory; 39 ReadFault, standard input or a setup file can't be
-     read, a port, the page or the control socket can't be bound, or `ctl` finds no gateway; 40 WriteFault, standard output
-     can't be written; 37 BadSetup, and any other by which an edit of a setup is refused. What is wrong with a setup is told
-     before it, a line for each fault. What ends `simulate`, `watch` or `demo` is told as `pdcgw:` and what is wrong
+     read, a port, the page or the control socket can't be bound, or `ctl` has no gateway or no answer of it; 34 Busy, as many
+     clients of the control socket are connected as may be; 40 WriteFault, standard output can't be written; 37 BadSetup, and any
+     other by which an edit of a setup is refused. What is wrong is told before it, of a setup a line for each fault. What ends
+     `simulate`, `watch` or `demo` is told as `pdcgw:` and what is wrong
   2  other words than those above
 
 `pdcgw replay --help` tells the lines of a script and the answers to them, `pdcgw run --help` the keys of a setup file.";
@@ -90,6 +91,8 @@ Besides these lines there are:
                            fault changes nothing, and its faults are the answer
   dial S A.B.C.D:PORT      calls source S at this address from now on; one of its PMUs has to be registered
   undial S                 calls it no longer
+  addpmu P                 of a source that is connected calls it anew, so that it announces P; its other PMUs have no frames until
+                           it has
   listen U PORT [A.B.C.D]  opens a port for subscriber U, on this address or on all, and closes the one that it had
   unlisten U               closes its port, and hangs up who is connected
   disconnect U             hangs up who is connected
@@ -149,7 +152,10 @@ Sends each LINE to the gateway that runs with this control socket, in their orde
     pdcgw ctl --control /run/pdcgw/control status
     pdcgw ctl --control /run/pdcgw/control 'addpmu 9' 'grant 1 9'
 
-Exit status: 0 where no line was refused; 1 where one was, or the gateway can't be reached; 2 for other words than these.";
+Each line is sent once the one before it was answered. `quit` is answered by the end of the connection.
+
+Exit status: 0 where each line was answered and none was refused; 1 where one was refused, or the connection ended before an answer
+or gave none within 60 seconds, or the gateway can't be reached, which is told; 2 for other words than these.";
 
 /// Of `simulate`.
 pub const SIMULATE: &str = "\
@@ -173,10 +179,13 @@ Connects, asks for CFG-2 and the header, starts the stream, and shows what comes
 renewed ten times a second, else a line a second. With --csv what was counted is told on standard error at the end. It stops the
 stream before it ends; Ctrl-C closes the connection.
 
+What is not answered for three seconds is asked again. Where no PMU of the stream is granted and announced yet, it tells so, and asks
+for the configuration again each second.
+
 It checks each frame: CHK, the length by the configuration, the IDCODE, and that stamps rise. What is wrong is told and counted.
 Slots of which no frame came are counted as missing; fillers are blocks of a gateway for what has not come.
 
-Exit status: 0 where nothing was wrong; 1 where something was, or the address can't be reached, or output can't be written;
+Exit status: 0 where nothing was wrong; 1 where something was, or no data frame came at all, or the address can't be reached, or output can't be written;
 2 for other words than these.";
 
 /// Of `demo`.

@@ -12,6 +12,7 @@ use pg_check::Trouble;
 use pg_replay::{Fault, replay};
 use pg_tools::Misword;
 use pg_wire::Refusal;
+use pg_words::{Signed, say};
 use std::alloc::{AllocError, Global};
 use std::io::{BufWriter, IsTerminal, StdinLock};
 use std::net::{Net, TcpListener, TcpStream};
@@ -86,8 +87,8 @@ enum Outcome {
     Misused(clap::Error),
     /// The value of an option is none that it takes.
     Misworded(Misword),
-    /// Something was wrong with what `watch` saw, or a line of `ctl` was refused, and that has been told.
-    Troubled,
+    /// Something was wrong with what `watch` saw, which has been told, or a line of `ctl` was refused, of which this is told.
+    Troubled(String),
     /// A tool has ended by this.
     Fallen(pg_tools::Fault),
     /// A demo has ended by this.
@@ -194,25 +195,25 @@ fn told(printed: io::Result<()>) -> ExitCode {
     }
 }
 
+/// Tells by which refusal the program ends: what is known of it, or else what it means, and then its number and name.
+fn ended_by<R: Eprint>(rt: &R, told: &str, refusal: Refusal) -> ExitCode {
+    if told.is_empty() {
+        let _ = eprintln!(rt; "pdcgw: {}", say(refusal));
+    } else {
+        let _ = eprint!(rt; "{told}");
+    }
+    let _ = eprintln!(rt; "{}", Signed(refusal));
+    ExitCode::from(1)
+}
+
 fn main(rt: HostRuntime) -> ExitCode {
     let is_terminal = rt.stdout().is_terminal();
     match outcome_of(&rt, &rt, is_terminal) {
         Outcome::Done => ExitCode::SUCCESS,
         Outcome::Checked(report) => told(print!(rt; "{}", report.as_str())),
         Outcome::Asked(text) => told(print!(rt; "{text}")),
-        Outcome::Failed(refusal) => {
-            let _ = eprintln!(rt; "pdcgw: {} {}", refusal.number(), refusal.name());
-            ExitCode::from(1)
-        }
-        Outcome::Unfit(trouble) => {
-            let _ = eprint!(rt; "{}", trouble.told.as_str());
-            let _ = eprintln!(rt;
-                "pdcgw: {} {}",
-                trouble.refusal.number(),
-                trouble.refusal.name()
-            );
-            ExitCode::from(1)
-        }
+        Outcome::Failed(refusal) => ended_by(&rt, "", refusal),
+        Outcome::Unfit(trouble) => ended_by(&rt, trouble.told.as_str(), trouble.refusal),
         Outcome::Misused(error) => {
             let _ = eprint!(rt; "{error}");
             ExitCode::from(2)
@@ -221,7 +222,10 @@ fn main(rt: HostRuntime) -> ExitCode {
             let _ = eprintln!(rt; "pdcgw: {misword}; `pdcgw help` tells the words");
             ExitCode::from(2)
         }
-        Outcome::Troubled => ExitCode::from(1),
+        Outcome::Troubled(told) => {
+            let _ = eprint!(rt; "{told}");
+            ExitCode::from(1)
+        }
         Outcome::Fallen(fault) => {
             let _ = eprintln!(rt; "pdcgw: {fault}");
             ExitCode::from(1)

@@ -5,9 +5,9 @@ use pg_operator::{BoundBy, line_of_key};
 use pg_run::Failure;
 use pg_service::system_words;
 use pg_wire::Refusal;
+use pg_words::{Bound, not_bound, not_read};
 use std::alloc::{AllocError, Global};
 use std::fs;
-use std::net::SocketAddr;
 use std::rt::Files;
 
 /// What would run by a setup file, or why it can't. Nothing is bound or called.
@@ -15,22 +15,23 @@ pub fn check<R: Files + Alloc<A = Global>>(rt: &R, file: &str) -> Result<String,
     let alloc = rt.alloc();
     let bytes = match fs::read(rt, file) {
         Ok(bytes) => bytes,
-        Err(_) => return Err(trouble(alloc, Refusal::ReadFault, file, "can't be read")),
+        Err(error) => {
+            let told = not_read(alloc, file, system_words(error.kind()));
+            return Err(unfit(alloc, Refusal::ReadFault, told));
+        }
     };
     match str::from_utf8(bytes.as_slice()) {
         Ok(text) => check_setup(alloc, file, text),
-        Err(_) => Err(trouble(
-            alloc,
-            Refusal::BadSetup,
-            file,
-            "is no text; a setup file is TOML in UTF-8",
-        )),
+        Err(_) => {
+            let told = format!(in alloc; "{file}: is no text; a setup file is TOML in UTF-8\n");
+            Err(unfit(alloc, Refusal::BadSetup, told))
+        }
     }
 }
 
-/// A refusal of the whole file.
-fn trouble(alloc: Global, refusal: Refusal, file: &str, why: &str) -> Trouble {
-    match format!(in alloc; "{file}: {why}\n") {
+/// By this refusal nothing runs, for what is told of it.
+pub fn unfit(alloc: Global, refusal: Refusal, told: Result<String, AllocError>) -> Trouble {
+    match told {
         Ok(told) => Trouble { refusal, told },
         Err(_) => Trouble {
             refusal: Refusal::NoMemory,
@@ -52,15 +53,18 @@ pub fn why<R: Files + Alloc<A = Global>>(rt: &R, file: &str, failure: &Failure) 
         Failure::NotBound { by, address, kind } => {
             let line = line_in(rt, file, *by);
             let why = system_words(*kind);
-            told_at(alloc, file, line, by, address.as_ref(), why)
+            not_bound(alloc, file, line, bound(*by), *address, why)
         }
     };
-    match told {
-        Ok(told) => Trouble { refusal, told },
-        Err(_) => Trouble {
-            refusal: Refusal::NoMemory,
-            told: String::new(alloc),
-        },
+    unfit(alloc, refusal, told)
+}
+
+/// Which key of the setup it is.
+fn bound(by: BoundBy) -> Bound {
+    match by {
+        BoundBy::Port(sub) => Bound::Port(sub.get()),
+        BoundBy::Status => Bound::Status,
+        BoundBy::Control => Bound::Control,
     }
 }
 
@@ -70,36 +74,5 @@ fn line_in<R: Files + Alloc<A = Global>>(rt: &R, file: &str, by: BoundBy) -> Opt
     match str::from_utf8(bytes.as_slice()) {
         Ok(text) => line_of_key(rt.alloc(), text, by),
         Err(_) => None,
-    }
-}
-
-/// What can't be bound, in the words of the setup.
-fn place(alloc: Global, by: &BoundBy, address: Option<&SocketAddr>) -> Result<String, AllocError> {
-    match (by, address) {
-        (BoundBy::Port(sub), Some(address)) => {
-            let (number, port) = (sub.get(), address.port());
-            format!(in alloc; "subscriber {number}: port {port}")
-        }
-        (BoundBy::Port(sub), None) => format!(in alloc; "subscriber {}", sub.get()),
-        (BoundBy::Status, Some(address)) => format!(in alloc; "status: {address}"),
-        (BoundBy::Status, None) => String::from_str(alloc, "status"),
-        (BoundBy::Control, _) => String::from_str(alloc, "control"),
-    }
-}
-
-/// A line of a fault.
-fn told_at(
-    alloc: Global,
-    file: &str,
-    line: Option<usize>,
-    by: &BoundBy,
-    address: Option<&SocketAddr>,
-    why: &str,
-) -> Result<String, AllocError> {
-    let what = place(alloc, by, address)?;
-    let what = what.as_str();
-    match line {
-        Some(line) => format!(in alloc; "{file}:{line}: {what}: {why}\n"),
-        None => format!(in alloc; "{file}: {what}: {why}\n"),
     }
 }

@@ -175,7 +175,7 @@ where
     match read {
         Ok(watched) => match pg_tools::watch(rt, &watched) {
             Ok(true) => Outcome::Done,
-            Ok(false) => Outcome::Troubled,
+            Ok(false) => Outcome::Troubled(String::new(rt.alloc())),
             Err(fault) => Outcome::Fallen(fault),
         },
         Err(misword) => Outcome::Misworded(misword),
@@ -234,10 +234,10 @@ where
 }
 
 /// Tells what a demo came to: on standard output where it is good, else on standard error.
-fn told<R: Print + Eprint>(rt: &R, verdict: Verdict) -> Outcome {
+fn told<R: Print + Eprint + Alloc<A = Global>>(rt: &R, verdict: Verdict) -> Outcome {
     if !verdict.is_good() {
         let _ = eprintln!(rt; "pdcgw: {verdict}");
-        return Outcome::Troubled;
+        return Outcome::Troubled(String::new(rt.alloc()));
     }
     if let Verdict::Ended = verdict {
         return Outcome::Done;

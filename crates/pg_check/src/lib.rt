@@ -5,4 +5,3 @@ mod checking;
 mod report;
 
 pub use checking::{Trouble, check_setup};
-pub use report::{edit_name, reason};

@@ -16,7 +16,7 @@ fn key_text(alloc: Global, key: &PmuKey) -> Result<String, AllocError> {
 /// # Errors
 ///
 /// `AllocError` where there is no memory for it.
-pub fn edit_name(alloc: Global, edit: &Edit) -> Result<String, AllocError> {
+pub(crate) fn edit_name(alloc: Global, edit: &Edit) -> Result<String, AllocError> {
     match edit {
         Edit::AddPmu(key) | Edit::DropPmu(key) | Edit::PmuStats(key) => {
             let key = key_text(alloc, key)?;
@@ -40,7 +40,7 @@ pub fn edit_name(alloc: Global, edit: &Edit) -> Result<String, AllocError> {
 }
 
 /// Why a setup's edit is refused, and what would be right, for a person.
-pub fn reason(refusal: Refusal) -> &'static str {
+pub(crate) fn reason(refusal: Refusal) -> &'static str {
     match refusal {
         Refusal::PmuExists => "a table before it has this source and number; each PMU has one",
         Refusal::PmusFull => "there are 256 PMUs already, and no more may be",

@@ -36,6 +36,8 @@ pub(crate) struct SubscriberSlot {
     audit: Audit,
     // Copies were laid for an event that does not concern it, so that it need not be looked at again.
     spared: bool,
+    // Where among its grants the first PMU of the next frame is guessed: behind the last one of the frame before.
+    guess: usize,
 }
 
 impl Model for SubscriberSlot {
@@ -62,6 +64,7 @@ impl SubscriberSlot {
             subscriber: Subscriber::new(alloc, ring, bytes, last)?,
             audit: Audit::new(alloc)?,
             spared: false,
+            guess: 0,
         })
     }
 
@@ -189,7 +192,7 @@ impl SubscriberSlot {
         ensures lays { LaysShare (announces (announced_at config.now places.now)) self.old result self.new }
         ensures room { 16 ≤ vec_capacity held.new }
     {
-        if !hold(&self.subscriber, config, places, held) {
+        if !hold(&self.subscriber, config, places, &mut 0, held) {
             self.spared = true;
             return Ok(());
         }
@@ -212,7 +215,8 @@ impl SubscriberSlot {
         ensures lays { LaysShare (measured (arc_value frame.now) places.now) self.old result self.new }
         ensures room { 16 ≤ vec_capacity held.new }
     {
-        if !hold_blocks(&self.subscriber, frame, places, held) {
+        let mut guess = self.guess;
+        if !hold_blocks(&self.subscriber, frame, places, &mut guess, held) {
             self.spared = true;
             return Ok(());
         }
@@ -290,7 +294,7 @@ impl SubscriberSlot {
         ensures spared { self.new.spared ≡ self.old.spared }
         ensures room { 16 ≤ vec_capacity held.new }
     {
-        if !hold(&self.subscriber, config, places, held) {
+        if !hold(&self.subscriber, config, places, &mut 0, held) {
             return (0, 0);
         }
         counts(
@@ -314,7 +318,7 @@ impl SubscriberSlot {
         ensures spared { self.new.spared ≡ self.old.spared }
         ensures room { 16 ≤ vec_capacity held.new }
     {
-        if !hold_blocks(&self.subscriber, frame, places, held) {
+        if !hold_blocks(&self.subscriber, frame, places, &mut self.guess, held) {
             return (0, 0);
         }
         counts(
@@ -343,11 +347,13 @@ fn is_held(subscriber: &Subscriber, config: &SourceConfig, place: usize, next: &
     subscriber.holds_next(config.key(place), next)
 }
 
-/// Of a source's PMUs at these places, those that the subscriber is granted. It answers whether there are any.
+/// Of a source's PMUs at these places, those that the subscriber is granted. It answers whether there are any. The first is guessed
+/// to stand at `guess` among the grants, which is then where the next frame's first is guessed: behind the last, or at the front.
 fn hold(
     subscriber: &Subscriber,
     config: &SourceConfig,
     places: &[usize],
+    guess: &mut usize,
     held: &mut Vec<usize>,
 ) -> bool
     requires rising { AreRising 0 (length config.now.parts) places.now }
@@ -361,12 +367,17 @@ fn hold(
 {
     let _count = config.count();
     held.clear();
-    let mut next = 0;
+    let mut next = *guess;
     for place in places {
         if is_held(subscriber, config, *place, &mut next) {
             held.push_reserved(*place);
         }
     }
+    *guess = if next < subscriber.grant_count() {
+        next
+    } else {
+        0
+    };
     !held.is_empty()
 }
 
@@ -382,6 +393,7 @@ fn hold_blocks(
     subscriber: &Subscriber,
     frame: &Arc<DataFrame>,
     places: &[usize],
+    guess: &mut usize,
     held: &mut Vec<usize>,
 ) -> bool
     requires rising { AreRising 0 (length (arc_value frame.now).config.parts) places.now }
@@ -394,7 +406,7 @@ fn hold_blocks(
     ensures room { 16 ≤ vec_capacity held.new }
 {
     let config = source_of(frame);
-    hold(subscriber, config, places, held)
+    hold(subscriber, config, places, guess, held)
 }
 
 /// The configuration that is announced.

@@ -7,6 +7,7 @@ ghost use Rattle.pg_serve.specs.Inputs.{facts, outcomes};
 ghost use Rattle.pg_serve.specs.Shown.{queue_shown};
 ghost use Rattle.pg_serve.specs.Full.{HasAnswered, OutcomesLossless, Headline, handed_over};
 ghost use Rattle.pg_serve.specs.Others.{without_others, adds_in};
+ghost use Rattle.pg_serve.specs.Framed.{SameButUngranted};
 ghost use Rattle.pg_serve.specs.Beside.{SeeAlike, ServesAlike, StandsBeside};
 
 use pg_ring::OutQueue;
@@ -51,7 +52,7 @@ pub struct Pair {
 /// Runs two lists of inputs, each in a world of its own, and no output tells a loss or want of memory. Where they differ only in
 /// inputs that name other subscribers, and neither adds subscribers more than 64 times, the subscriber's queue shows the same in
 /// both worlds, and both handed it the same. So it is too where their data frames differ in blocks alone that the subscriber is
-/// not granted. The one refusal is `NoMemory`.
+/// not granted, also where that is said of the frames' bytes, all other inputs being the same. The one refusal is `NoMemory`.
 pub fn compare(alloc: Global, sub: SubId, mine: &[Input], other: &[Input]) -> Result<Pair, Refusal>
     ensures mine { IfOk result (λ pair. HasAnswered pair.mine.world (facts mine.now) (outcomes pair.mine.outputs.items)) }
     ensures other { IfOk result (λ pair. HasAnswered pair.other.world (facts other.now) (outcomes pair.other.outputs.items)) }
@@ -69,6 +70,11 @@ pub fn compare(alloc: Global, sub: SubId, mine: &[Input], other: &[Input]) -> Re
     ensures shared { IfOk result (λ pair. OutcomesLossless (outcomes pair.mine.outputs.items)
         → OutcomesLossless (outcomes pair.other.outputs.items)
         → SeeAlike sub (facts mine.now) (facts other.now)
+        → ServesAlike sub pair.mine.world (facts mine.now) (outcomes pair.mine.outputs.items)
+        pair.other.world (facts other.now) (outcomes pair.other.outputs.items)) }
+    ensures bytes { IfOk result (λ pair. OutcomesLossless (outcomes pair.mine.outputs.items)
+        → OutcomesLossless (outcomes pair.other.outputs.items)
+        → adds_in (facts mine.now) ≤ 64 → SameButUngranted sub (facts mine.now) (facts other.now)
         → ServesAlike sub pair.mine.world (facts mine.now) (outcomes pair.mine.outputs.items)
         pair.other.world (facts other.now) (outcomes pair.other.outputs.items)) }
     ensures memory { IfErr result (λ refusal. refusal ≡ Refusal.NoMemory) }

@@ -1,5 +1,5 @@
 -- Seats of a split and of a join.
-use Rattle.std.proofs.Common.{◌≡◌, ◌⊎◌, ⊎_elim, inl, inr, sym, ap, subst, ◌∙◌, ℕ, List, [], ◌++◌, append-nil, Option}
+use Rattle.std.proofs.Common.{◌≡◌, ◌⊎◌, ⊎_elim, inl, inr, refl, sym, ap, subst, ◌∙◌, ℕ, List, [], ◌∷◌, ◌++◌, length, append-nil, Option}
 use Rattle.std.specs.Prelude.{Result, Ok, Err, IfOk}
 use Rattle.pg_session.specs.Commands.{Hearing}
 use mathlib.Core.List.{IsPrefix}
@@ -9,7 +9,9 @@ use Rattle.pg_gateway.specs.Histories.{Legal}
 use Rattle.pg_serve.specs.Both.{DeliversIn, IsServed}
 use Rattle.pg_serve.specs.Delivery.{Delivers, HasHeard}
 use Rattle.pg_serve.specs.Sharing.{Call, history_of}
+use Rattle.pg_serve.specs.Gates.{said_at}
 use Rattle.pg_serve.specs.Onward.{GoesOn, calls_in}
+use Rattle.pg_proof_service.specs.Since.{going_on}
 use Rattle.pg_proof_service.specs.Threads.{Seat, beside}
 
 module _ {A : Type 0} where
@@ -41,6 +43,33 @@ is_beside v w table seen own =
     ap (λ t. record { table = t; seen = w.seen; own = w.own }) table
     ∙ ap (λ s. record { table = v.table; seen = s; own = w.own }) seen
     ∙ ap (λ o. record { table = v.table; seen = v.seen; own = o }) own
+
+-- a seat behind a call of its own
+pub gone_on : (v w : Seat) (between : List Call) (call : Call) → w.table ≡ v.table → w.seen ≡ (v.seen ++ between) ++ call ∷ []
+    → w.own ≡ v.own ++ length (v.seen ++ between) ∷ [] → w ≡ going_on v between call
+gone_on v w between call table seen own =
+    ap (λ t. record { table = t; seen = w.seen; own = w.own }) table
+    ∙ ap (λ s. record { table = v.table; seen = s; own = w.own }) seen
+    ∙ ap (λ o. record { table = v.table; seen = (v.seen ++ between) ++ call ∷ []; own = o }) own
+
+-- a seat that made no call goes on
+abbrev pub staying : (v : Seat) → GoesOn v v
+staying v = record {
+  table = refl;
+  pieces = [];
+  seen = sym (append-nil v.seen);
+  own = sym (append-nil v.own);
+  said = sym (append-nil (said_at v.seen v.own));
+  answered = tt;
+  legal = inl refl;
+}
+
+-- a legal history goes on as one
+pub still_legal : (v w : Seat) → GoesOn v w → Legal opening (history_of v.seen) → Legal opening (history_of w.seen)
+still_legal v w on before =
+    ⊎_elim (λ none. subst (λ calls. Legal opening (history_of calls))
+    (sym (on.seen ∙ ap (λ pieces. v.seen ++ calls_in pieces) none ∙ append-nil v.seen)) before)
+    (λ legal. legal) on.legal
 
 legal_went : (v w x : Seat) → GoesOn v w → x.seen ≡ w.seen → (x.seen ≡ v.seen) ⊎ Legal opening (history_of x.seen)
 legal_went v w x on same =

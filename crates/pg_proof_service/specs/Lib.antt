@@ -1,2 +1,3 @@
 pub mod Fed
+pub mod Since
 pub mod Threads

@@ -2,13 +2,16 @@
 //! gateway of its view hands out, and what a source's socket gives is posted, whatever other sources, subscribers and threads do.
 #![tactic(auto)]
 
-ghost use Rattle.std.specs.Prelude.{◌≡◌, ℕ, List, [], Option, IfOk, IfErr};
+ghost use Rattle.std.specs.Prelude.{◌≡◌, ℕ, List, [], Option, Some, IfOk, IfErr};
 ghost use Rattle.pg_session.specs.Commands.{Hearing, Item, ShowsHearing};
 ghost use Rattle.pg_serve.specs.Both.{DeliverAlike, IsServed};
 ghost use Rattle.pg_serve.specs.Delivery.{Delivers, Hears, HasHeard};
+ghost use Rattle.pg_serve.specs.Gates.{said_at};
 ghost use Rattle.pg_serve.specs.Onward.{GoesOn};
+ghost use Rattle.pg_serve.specs.Serving.{Served as ServedSo};
 ghost use Rattle.pg_serve.specs.Telling.{Tells, HasTold};
 ghost use Rattle.pg_proof_service.specs.Fed.{IsFed};
+ghost use Rattle.pg_proof_service.specs.Since.{Connects, SinceConnect, ViewsDecide};
 ghost use Rattle.pg_proof_service.specs.Threads.{TwoThreads};
 
 use pg_gateway::{Event, Gate};
@@ -35,6 +38,9 @@ pub fn serve_at<R: Read, W: Write, T: Wait, N: Named>(
     requires fed { IsFed session.old }
     ensures fed { IsFed session.new }
     ensures sub { session.new.sub ≡ session.old.sub }
+    // All that the loop promises, over what stands at the seat's own places.
+    ensures served { ServedSo result session.old session.new (R.remaining reader.old) (R.remaining reader.new)
+        (W.contents writer.old) (W.contents writer.new) (Some (said_at gate.old.seen gate.old.own)) (Some (said_at gate.new.seen gate.new.own)) }
     // The commands of the bytes that were read are posted, each once and in order.
     ensures hears { (stream : List ℕ) (given : List Item) → ShowsHearing session.old stream given
         → Hears stream given session.old session.new gate.old gate.new (R.remaining reader.old) (R.remaining reader.new) }
@@ -50,6 +56,7 @@ pub fn serve_at<R: Read, W: Write, T: Wait, N: Named>(
 fn connect<T: Wait, N: Named>(sub: SubId, gate: &mut SharedGate<'_, T, N>)
     ensures delivers { (w : Option (List ℕ)) → Delivers sub gate.old gate.new [] [] w w }
     ensures heard { (v : Hearing) (r : Option (List ℕ)) → v.sub ≡ sub → ShowsHearing v [] [] → HasHeard sub v gate.old gate.new r r }
+    ensures connects { Connects sub gate.old gate.new }
     ensures onward { GoesOn gate.old gate.new }
 {
     deliveries_go_on();
@@ -73,8 +80,10 @@ pub fn serve_calls<R: Read, W: Write, T: Wait, N: Named>(
         (W.contents writer.old) (W.contents writer.new)) }
     ensures heard { IfOk result (λ session. HasHeard sub session gate.old gate.new
         (R.remaining reader.old) (R.remaining reader.new)) }
+    // What the seat had seen begins one legal history; and from the Connect in it on this is what was given and what was heard.
+    ensures since { IfOk result (λ session. SinceConnect sub session gate.old gate.new
+        (R.remaining reader.old) (R.remaining reader.new) (W.contents writer.old) (W.contents writer.new)) }
     ensures memory { IfErr result (λ refusal. refusal ≡ Refusal.NoMemory) }
-    // What the seat had seen begins the history, which is a legal one.
     ensures onward { GoesOn gate.old gate.new }
 {
     let mut session = Session::new(alloc, sub)?;
@@ -155,6 +164,10 @@ pub fn compare_services<R: Read, W: Write, T: Wait, N: Named, M: Named>(
 ) -> Result<(Session, Session), Refusal>
     ensures alike { IfOk result (λ both. DeliverAlike sub gate.old gate.new other_gate.old other_gate.new both.0.left both.1.left
         (W.contents one.old.writer) (W.contents one.new.writer) (W.contents other.old.writer) (W.contents other.new.writer)) }
+    // So it is where its views of the two histories are equal: those up to its Connects, and those of the whole.
+    ensures views { IfOk result (λ both. ViewsDecide sub both.0 both.1 gate.old gate.new other_gate.old other_gate.new
+        (R.remaining one.old.reader) (R.remaining one.new.reader) (W.contents one.old.writer) (W.contents one.new.writer)
+        (R.remaining other.old.reader) (R.remaining other.new.reader) (W.contents other.old.writer) (W.contents other.new.writer)) }
     ensures memory { IfErr result (λ refusal. refusal ≡ Refusal.NoMemory) }
 {
     deliveries_agree();

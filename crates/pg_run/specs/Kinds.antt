@@ -1,14 +1,16 @@
--- Which workers have a seat at the gateway.
-use Rattle.std.specs.Prelude.{Bool, true, false}
+-- Which seat a worker gives back at its end.
+use Rattle.std.specs.Prelude.{◌≡◌, Option, Some, None, is_some, true}
+use Rattle.pg_run.specs.Joining.{Place}
 use Rattle.pg_run.specs.declared.workers.Worker.{Worker}
 use Rattle.pg_run.specs.declared.workers.Worker.TheVariants as worker
 
--- all but the one that looks up names and the one that writes the log
-abbrev pub has_seat : {R N : Type 0} → Worker R N → Bool
-has_seat (worker.Sources it) = true
-has_seat (worker.Subscribers it) = true
-has_seat (worker.Names it) = false
-has_seat (worker.Ticks it) = true
-has_seat (worker.Lines it) = true
-has_seat (worker.Window it) = true
-has_seat (worker.Log it) = false
+-- Its own. Who looks up names and who writes the log have none; of who serves the control socket and the page it is known that it
+-- gives one.
+abbrev pub Gives : {R N : Type 0} → Worker R N → Option Place → Type 0
+Gives (worker.Sources it) seat = seat ≡ Some it
+Gives (worker.Subscribers it) seat = seat ≡ Some it
+Gives (worker.Names it) seat = seat ≡ None
+Gives (worker.Ticks it) seat = seat ≡ Some it
+Gives (worker.Lines it) seat = seat ≡ Some it
+Gives (worker.Window it) seat = is_some seat ≡ true
+Gives (worker.Log it) seat = seat ≡ None

@@ -115,7 +115,10 @@ fn add_callers<
     ensures seat { IfOk result (λ rest. rest ≡ seat) }
 {
     let (seat, mut callers) = callers::<R, N>(makings, seat, waits)?;
-    share_sources(&mut callers, dials)?;
+    let mut registered = makings.told.registered.lock(makings.rt);
+    let shared = share_sources(&mut registered.callers, &mut callers, dials);
+    drop(registered);
+    shared?;
     for worker in callers {
         workers.push(Worker::Sources(worker))?;
     }
@@ -180,7 +183,10 @@ fn add_servers<
 {
     let (seat, mut servers) = servers::<R, N>(makings, seat, waits)?;
     tell_ports(makings.rt, makings.told.neighbours.journal, &ports);
-    share_ports(&mut servers, ports)?;
+    let mut registered = makings.told.registered.lock(makings.rt);
+    let shared = share_ports(&mut registered.servers, &mut servers, ports);
+    drop(registered);
+    shared?;
     for worker in servers {
         workers.push(Worker::Subscribers(worker))?;
     }

@@ -21,6 +21,7 @@ use pg_status::print_status;
 use pg_wire::{PmuId, Refusal, SubId};
 use std::alloc::Global;
 use std::io::{BufRead, BufReader, BufWriter, ErrorKind, Printer, Read, StdinLock, Write};
+use std::marker::Model;
 use std::net::{Net, TcpStream};
 use std::rt::Clock;
 use std::sync::atomic::{AtomicBool, Ordering};
@@ -97,11 +98,18 @@ impl Told<'_> {
         }
     }
 
-    /// The source is called from now on, by the worker of its number.
+    /// The source is called from now on, by its worker.
     pub(crate) fn dial<R: Wait>(&self, rt: &R, dial: Dial) {
-        let place = usize::from(dial.source.get()) % self.sources.len().max(1);
-        if let Some(mailbox) = self.sources.get(place) {
-            mailbox.send(rt, self.neighbours.journal, SourceOrder::Dial(dial));
+        let mut registered = self.registered.lock(rt);
+        let place = registered
+            .callers
+            .worker_of(dial.source.get(), self.sources.len());
+        drop(registered);
+        match mailbox_at(self.sources, place) {
+            Some(mailbox) => {
+                mailbox.send(rt, self.neighbours.journal, SourceOrder::Dial(dial));
+            }
+            None => self.note(Notice::MailFault),
         }
     }
 
@@ -112,17 +120,23 @@ impl Told<'_> {
         }
     }
 
-    /// The subscriber's port is served from now on, by the worker of its number.
+    /// The subscriber's port is served from now on, by its worker.
     pub(crate) fn open<R: Wait>(&self, rt: &R, rules: PortRules, listener: PortListener) {
         let sub = rules.sub;
-        let place = usize::from(sub.get()) % self.neighbours.ports.len().max(1);
-        if let Some(mailbox) = self.neighbours.ports.get(place) {
-            let order = PortOrder::Open {
-                sub,
-                rules: door_rules(rules),
-                listener,
-            };
-            mailbox.send(rt, self.neighbours.journal, order);
+        let Neighbours { ports, journal, .. } = self.neighbours;
+        let mut registered = self.registered.lock(rt);
+        let place = registered.servers.worker_of(sub.get(), ports.len());
+        drop(registered);
+        match mailbox_at(ports, place) {
+            Some(mailbox) => {
+                let order = PortOrder::Open {
+                    sub,
+                    rules: door_rules(rules),
+                    listener,
+                };
+                mailbox.send(rt, journal, order);
+            }
+            None => self.note(Notice::MailFault),
         }
     }
 
@@ -131,6 +145,14 @@ impl Told<'_> {
         for mailbox in self.neighbours.ports {
             mailbox.send(rt, self.neighbours.journal, PortOrder::HangUp(sub));
         }
+    }
+}
+
+/// The mailbox at this place, if there was memory to find it.
+fn mailbox_at<O: Drop>(boxes: &[Mailbox<O>], place: Result<usize, Refusal>) -> Option<&Mailbox<O>> {
+    match place {
+        Ok(place) => boxes.get(place),
+        Err(_) => None,
     }
 }
 
@@ -438,6 +460,18 @@ pub struct Operator<
     in_force: InForce<'a, R>,
 }
 
+impl<'a, R: Wait + Input<Reader = StdinLock<'static>> + Print + Net + Clock, N: Named> Model
+    for Operator<'a, R, N> {
+    ghost use Rattle.pg_gateway.specs.declared.event.Event.{Event};
+    ghost use Rattle.pg_gateway.specs.declared.event.Reply.{Reply};
+    ghost use Rattle.pg_turn.specs.Known.{Known};
+
+    ghost Value = { Known Event Reply };
+
+    // It is seen as the seat of its gate.
+    ghost view = { λ w. w.gate.gate };
+}
+
 impl<'a, R: Wait + Input<Reader = StdinLock<'static>> + Print + Net + Clock, N: Named> Operator<
     'a,
     R,
@@ -451,7 +485,9 @@ impl<'a, R: Wait + Input<Reader = StdinLock<'static>> + Print + Net + Clock, N: 
         desk: Desk<'a, R>,
         told: Told<'a>,
         in_force: InForce<'a, R>,
-    ) -> Operator<'a, R, N> {
+    ) -> Operator<'a, R, N>
+        ensures seat { result ≡ gate.entry }
+    {
         let answers = match desk {
             Desk::Standard(reader, out) => {
                 Answers::Standard(Talk::new(alloc, reader, out, told))
@@ -467,7 +503,10 @@ impl<'a, R: Wait + Input<Reader = StdinLock<'static>> + Print + Net + Clock, N: 
     }
 
     /// Its gate.
-    pub fn into_gate(self) -> SharedGate<'a, R, N> {
+    pub fn into_gate(self) -> SharedGate<'a, R, N>
+        // With its own seat.
+        ensures seat { result ≡ self.entry }
+    {
         let Operator { gate, .. } = self;
         gate.into_inner()
     }

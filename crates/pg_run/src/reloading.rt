@@ -1,18 +1,18 @@
 //! The line `reload`: the setup file is read again, and what changed is done.
 
 use crate::operator::{Console, Told};
-use crate::running::dial_by;
+use crate::running::{dial_by, rules_of};
 use crate::workers::told_as;
 use log::LevelFilter;
 use mio::net::TcpListener as PortListener;
-use pg_check::{check_setup, edit_name, reason};
+use pg_check::check_setup;
 use pg_gateway::{Gate, Reply};
 use pg_operator::{LogLevel, Setup, SourceRules, read_setup};
 use pg_reload::{Call, Changes, Order, Port, Restart, changes_between};
 use pg_replay::{Fault, print_refusal};
-use pg_service::{Detail, Entry, Notice, Watched, Whom, system_words};
+use pg_service::{Asked, Detail, Entry, Journal, Notice, Watched, Whom, system_words};
 use pg_wire::{PmuId, Refusal, SubId};
-use std::alloc::{AllocError, Global};
+use std::alloc::Global;
 use std::io::{ErrorKind, Read, Write};
 use std::net::{Net, SocketAddr};
 use std::rt::Clock;
@@ -106,13 +106,13 @@ impl<R: Net + Clock> InForce<'_, R> {
             orders,
             restarts,
         } = changes;
+        let told = console.told;
         let mut report = Report::new(console.alloc);
         for edit in edits {
-            let name = edit_name(console.alloc, &edit);
+            let asked = Asked::of(&edit);
             let reply = console.post_edit(rt, gate, edit);
-            report.edited(name, &reply);
+            report.edited(rt, told.neighbours.journal, asked, &reply);
         }
-        let told = console.told;
         for order in orders {
             self.obey(rt, told, order, &mut report);
         }
@@ -144,16 +144,22 @@ impl Report {
         }
     }
 
-    /// An edit was answered so. Where it was refused, that is told: whom it concerns, and why.
-    fn edited(&mut self, name: Result<String, AllocError>, reply: &Reply) {
-        let Reply::Refused(refusal) = reply else {
+    /// An edit that asks for this was answered so. Where it was refused, that is told, here and to the log: whom it concerns, what was
+    /// asked for, and why.
+    fn edited<Q: Wait>(
+        &mut self,
+        rt: &Q,
+        journal: &Journal,
+        asked: Option<(Whom, Asked)>,
+        reply: &Reply,
+    ) {
+        let (Reply::Refused(refusal), Some((whom, asked))) = (reply, asked) else {
             self.edits = self.edits.saturating_add(1);
             return;
         };
-        let written = match name {
-            Ok(name) => writeln!(self.lines, "{}: {}", name.as_str(), reason(*refusal)),
-            Err(_) => Err(io::Error::from(ErrorKind::OutOfMemory)),
-        };
+        let entry = Entry::new(Notice::NotDone, whom, Detail::Edit(asked, *refusal));
+        let written = writeln!(self.lines, "{entry}");
+        journal.tell(rt, entry);
         self.refused(written, *refusal);
     }
 
@@ -163,8 +169,20 @@ impl Report {
         self.is_whole = self.is_whole && written.is_ok() && printed.is_ok();
     }
 
-    /// A port can't be bound.
-    fn not_bound(&mut self, sub: SubId, address: SocketAddr, error: io::Error) {
+    /// A port can't be bound: that is told, here and to the log.
+    fn not_bound<Q: Wait>(
+        &mut self,
+        rt: &Q,
+        journal: &Journal,
+        sub: SubId,
+        address: SocketAddr,
+        error: io::Error,
+    ) {
+        let detail = Detail::System(error.kind());
+        journal.tell(
+            rt,
+            Entry::new(Notice::NotBound, Whom::Subscriber(sub), detail),
+        );
         let (number, why) = (sub.get(), system_words(error.kind()));
         let written = writeln!(self.lines, "subscriber {number}: port {address}: {why}");
         self.refused(written, told_as(error));
@@ -208,7 +226,8 @@ impl<R: Net + Clock> InForce<'_, R> {
                 match self.bind(address) {
                     Ok(listener) => told.open(rt, rules, listener),
                     Err(error) => {
-                        report.not_bound(rules.sub, address, error);
+                        let journal = told.neighbours.journal;
+                        report.not_bound(rt, journal, rules.sub, address, error);
                         return;
                     }
                 }
@@ -281,8 +300,8 @@ impl<R: Net + Clock> InForce<'_, R> {
     /// How a source is watched, by the setup; by its defaults, where it does not name it.
     pub(crate) fn rules_of<Q: Wait>(&self, rt: &Q, source: PmuId) -> SourceRules {
         let setup = self.setup.lock(rt);
-        match setup.sources.iter().find(|it| it.source == source) {
-            Some(rules) => *rules,
+        match rules_of(&setup.sources, source) {
+            Some(rules) => rules,
             None => SourceRules {
                 source,
                 silence: SILENCE,

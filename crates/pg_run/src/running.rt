@@ -1,6 +1,6 @@
 //! `pdcgw run`: the gateway, served over sockets.
 
-ghost use Rattle.std.specs.Prelude.{◌≡◌, IfOk, map, option_map};
+ghost use Rattle.std.specs.Prelude.{◌≡◌, IfOk, IfSome, map, option_map};
 ghost use Rattle.std.specs.Duration.{as_nanos};
 ghost use Rattle.pg_run.specs.Limits.{limit_of};
 
@@ -284,18 +284,19 @@ fn ports_of<R: Net>(rt: &R, alloc: Global, plans: Vec<PortPlan>) -> Result<Vec<P
     Ok(bound)
 }
 
-/// How a source is watched, by the setup.
-fn rules_of(sources: &[SourceRules], source: PmuId) -> (Option<Duration>, Option<ClockGuard>) {
-    match sources.iter().find(|it| it.source == source) {
-        Some(rules) => {
-            let guard = match rules.clock_ms {
-                Some(limit) => Some(ClockGuard { limit }),
-                None => None,
-            };
-            (limit_of(rules.silence), guard)
-        }
-        None => (None, None),
-    }
+/// How this source is watched, by the setup.
+pub(crate) fn rules_of(sources: &[SourceRules], source: PmuId) -> Option<SourceRules>
+    ensures own { IfSome result (λ rules. rules.source ≡ source) }
+{
+    let rules = sources.iter().find(|it| it.source == source)?;
+    Some(*rules)
+}
+
+/// The rules of this subscriber's port, by the setup.
+pub(crate) fn door_of(doors: &[PortRules], sub: SubId) -> Option<&PortRules>
+    ensures own { IfSome result (λ rules. rules.now.sub ≡ sub) }
+{
+    doors.iter().find(|it| it.sub == sub)
 }
 
 /// The sources that are called, in their order, each at its address and by its rules.
@@ -314,7 +315,10 @@ fn dials_of(
 }
 
 /// A source that is called at this address, as the setup writes it, and by these rules.
-pub(crate) fn dial_by(source: PmuId, address: String, rules: &SourceRules) -> Dial {
+pub(crate) fn dial_by(source: PmuId, address: String, rules: &SourceRules) -> Dial
+    ensures source { result.source ≡ source }
+    ensures silence { option_map as_nanos result.silence ≡ limit_of rules.now.silence }
+{
     let address = match address.as_str().parse::<SocketAddrV4>() {
         Ok(address) => Address::Known(SocketAddr::V4(address)),
         Err(_) => Address::Name(address),
@@ -323,7 +327,10 @@ pub(crate) fn dial_by(source: PmuId, address: String, rules: &SourceRules) -> Di
 }
 
 /// A source that is called at this address and by these rules.
-pub(crate) fn dial_to(source: PmuId, address: Address, rules: &SourceRules) -> Dial {
+pub(crate) fn dial_to(source: PmuId, address: Address, rules: &SourceRules) -> Dial
+    ensures source { result.source ≡ source }
+    ensures silence { option_map as_nanos result.silence ≡ limit_of rules.now.silence }
+{
     let guard = match rules.clock_ms {
         Some(limit) => Some(ClockGuard { limit }),
         None => None,
@@ -345,11 +352,13 @@ fn dial_of(alloc: Global, link: &(PmuId, String), sources: &[SourceRules]) -> Re
         Ok(address) => Address::Known(SocketAddr::V4(address)),
         Err(_) => Address::Name(String::from_str(alloc, address.as_str())?),
     };
-    let (silence, guard) = rules_of(sources, *source);
-    Ok(Dial {
-        source: *source,
-        address,
-        silence,
-        guard,
-    })
+    match rules_of(sources, *source) {
+        Some(rules) => Ok(dial_to(*source, address, &rules)),
+        None => Ok(Dial {
+            source: *source,
+            address,
+            silence: None,
+            guard: None,
+        }),
+    }
 }

@@ -1,5 +1,7 @@
 //! What the service shows of itself.
 
+ghost use Rattle.std.specs.Prelude.{◌≡◌, IfSome};
+
 use crate::operator::Told;
 use pg_audit::{PmuStats, Stats};
 use pg_gateway::{Event, Gate, Reply};
@@ -44,10 +46,17 @@ pub(crate) fn seen_by<R: Wait + Clock, G: Gate>(
     }
     snapshot.sources.sort_unstable_by_key(|it| it.source.get());
     for sub in subs {
-        let port = ports.iter().find(|it| it.sub == sub);
+        let port = port_of(&ports, sub);
         subscriber_into(alloc, gate, sub, port, &mut snapshot)?;
     }
     Ok((snapshot, ages))
+}
+
+/// What is told of this subscriber's port, if it has one.
+fn port_of(ports: &[PortReport], sub: SubId) -> Option<&PortReport>
+    ensures own { IfSome result (λ port. port.now.sub ≡ sub) }
+{
+    ports.iter().find(|it| it.sub == sub)
 }
 
 /// The sources of registered PMUs, each once, and the subscribers in the order of their numbers.

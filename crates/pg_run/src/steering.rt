@@ -2,7 +2,7 @@
 
 use crate::operator::{Console, Steering};
 use crate::reloading::{InForce, write_all};
-use crate::running::dial_to;
+use crate::running::{dial_to, door_of};
 use crate::workers::told_as;
 use pg_gateway::{Event, Gate, Reply};
 use pg_limits::Allow;
@@ -50,7 +50,7 @@ impl<R: Net + Clock> InForce<'_, R> {
         address: Ipv4Addr,
     ) -> Result<PortRules, Refusal> {
         let setup = self.setup.lock(rt);
-        let Some(door) = setup.doors.iter().find(|it| it.sub == sub) else {
+        let Some(door) = door_of(&setup.doors, sub) else {
             return Ok(PortRules {
                 sub,
                 address,

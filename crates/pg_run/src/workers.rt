@@ -1,15 +1,17 @@
 //! The workers of the running program.
 
-ghost use Rattle.std.specs.Prelude.{◌≡◌, ◌≢◌, is_some};
+ghost use Rattle.std.specs.Prelude.{◌≡◌, ◌≢◌};
 ghost use Rattle.std.specs.IoError.{error_kind};
-ghost use Rattle.pg_run.specs.Kinds.{has_seat};
+ghost use Rattle.pg_run.specs.Kinds.{Gives};
 
 use crate::clerk::Counter;
 use crate::operator::Operator;
 use crate::reloading::InForce;
 use crate::sharing::Seated;
 use pg_serve::{Named, Seat, Work};
-use pg_service::{Dial, Finder, Logger, Mailbox, Port, PortWorker, SourceWorker, Ticker, Waiting};
+use pg_service::{
+    Dial, Finder, Logger, Mailbox, Port, PortWorker, Rota, SourceWorker, Ticker, Waiting,
+};
 use pg_window::Window;
 use pg_wire::Refusal;
 use std::alloc::Global;
@@ -73,19 +75,19 @@ impl<
 > Seated for Worker<'_, R, N> {
     ghost table = { N.table };
 
-    // Just who looks up names and who writes the log have none.
-    ghost gives = { λ worker seat. is_some seat ≡ has_seat worker };
+    // Its own, or none.
+    ghost gives = { Gives };
 
     fn into_seat(self) -> Option<Seat> {
-        let gate = match self {
-            Worker::Sources(worker) => worker.into_gate(),
-            Worker::Subscribers(worker) => worker.into_gate(),
-            Worker::Names(_) | Worker::Log(_) => return None,
-            Worker::Ticks(worker) => worker.into_gate(),
-            Worker::Lines(worker) => worker.into_gate(),
-            Worker::Window(worker) => worker.into_clerk().into_gate(),
-        };
-        Some(gate.into_seat())
+        match self {
+            Worker::Sources(worker) => Some(worker.into_gate().into_seat()),
+            Worker::Subscribers(worker) => Some(worker.into_gate().into_seat()),
+            Worker::Names(_) => None,
+            Worker::Ticks(worker) => Some(worker.into_gate().into_seat()),
+            Worker::Lines(worker) => Some(worker.into_gate().into_seat()),
+            Worker::Window(worker) => Some(worker.into_clerk().into_gate().into_seat()),
+            Worker::Log(_) => None,
+        }
     }
 }
 
@@ -129,28 +131,32 @@ pub fn mailboxes<R: Net, O: Drop>(
     Ok((waits, boxes))
 }
 
-/// Gives each source to one of the workers, in turn.
+/// Gives each source to its worker.
 pub fn share_sources<R: Wait + Net + Clock, N: Named>(
+    callers: &mut Rota,
     workers: &mut Vec<SourceWorker<'_, R, N>>,
     dials: Vec<Dial>,
 ) -> Result<(), Refusal> {
-    let count = workers.len().max(1);
-    for (place, dial) in dials.into_iter().enumerate() {
-        if let Some(worker) = workers.get_mut(place % count) {
+    let count = workers.len();
+    for dial in dials {
+        let place = callers.worker_of(dial.source.get(), count)?;
+        if let Some(worker) = workers.get_mut(place) {
             worker.dial(dial)?;
         }
     }
     Ok(())
 }
 
-/// Gives each port to one of the workers, in turn.
+/// Gives each port to its worker.
 pub fn share_ports<R: Wait + Net + Clock, N: Named>(
+    servers: &mut Rota,
     workers: &mut Vec<PortWorker<'_, R, N>>,
     ports: Vec<Port>,
 ) -> Result<(), Refusal> {
-    let count = workers.len().max(1);
-    for (place, port) in ports.into_iter().enumerate() {
-        if let Some(worker) = workers.get_mut(place % count) {
+    let count = workers.len();
+    for port in ports {
+        let place = servers.worker_of(port.sub().get(), count)?;
+        if let Some(worker) = workers.get_mut(place) {
             match worker.open(port) {
                 Ok(()) => {}
                 Err(error) => return Err(told_as(error)),

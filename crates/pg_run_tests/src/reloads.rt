@@ -91,7 +91,8 @@ fn setup(alloc: Global, places: &Places, nine: SocketAddr, others: &str) -> io::
     let seven = pmu(alloc, 7, places.seven)?;
     let nine = pmu(alloc, 9, nine)?;
     let first = neighbour_table(alloc, places.first)?;
-    Ok(format!(in alloc; "{seven}{nine}{first}{others}")?)
+    let workers = "ingest = 2\nserve = 2\n";
+    Ok(format!(in alloc; "{workers}{seven}{nine}{first}{others}")?)
 }
 
 impl<P: Net<Listener = TcpListener, Stream = TcpStream> + Abort> Peers<'_, P> {
@@ -116,15 +117,24 @@ impl<P: Net<Listener = TcpListener, Stream = TcpStream> + Abort> Peers<'_, P> {
         for _ in 0..16 {
             let line = self.line()?;
             answer.extend_from_slice(&line)?;
-            if line.starts_with(b"reloaded") || line.starts_with(b"refused") {
+            if line.starts_with(b"reloaded") || line.starts_with(b"refused 37") {
                 break;
             }
         }
         Ok(answer)
     }
 
-    /// A source that is called tells its configuration, and is asked for its data.
+    /// A source that is called tells its configuration, and is asked for its data. A call that was given up before is passed over.
     fn take_call(&self, listener: &TcpListener, number: u16) -> io::Result<TcpStream> {
+        for _ in 0..4 {
+            if let Ok(call) = self.answer(listener, number) {
+                return Ok(call);
+            }
+        }
+        self.answer(listener, number)
+    }
+
+    fn answer(&self, listener: &TcpListener, number: u16) -> io::Result<TcpStream> {
         let (call, _) = listener.accept()?;
         get(self.alloc, &call, 18)?;
         (&call).write_all(&config(self.alloc, number)?)?;
@@ -227,10 +237,10 @@ impl<P: Net<Listener = TcpListener, Stream = TcpStream> + Abort> Peers<'_, P> {
         let is_over = is_hung_up(&sub)?;
         assert!(self.rt; is_over && self.subscribe(places.third, 300).is_err());
         // What was not named stands: subscriber 20 at its new port.
-        let moved = self.subscribe(places.later, 2000)?;
-        self.change_source(neighbour, others.as_str())?;
-        drop(moved);
-        Ok(())
+        drop(self.subscribe(places.later, 2000)?);
+        self.be_told(neighbour, changed.as_str())?;
+        self.change_rules(neighbour, changed.as_str())?;
+        self.change_source(neighbour, others.as_str())
     }
 
     /// Subscriber 20's port moves, whatever others there are.
@@ -244,6 +254,85 @@ impl<P: Net<Listener = TcpListener, Stream = TcpStream> + Abort> Peers<'_, P> {
         self.change(neighbour, text.as_str(), "reloaded: 0 edits, 2 orders\n")?;
         assert!(self.rt; self.subscribe(places.twenty, 2000).is_err());
         drop(self.subscribe(places.later, 2000)?);
+        Ok(())
+    }
+
+    /// Subscriber 20 was deprived of his grant by a line, so that what the file asks for is refused: that is told, and the rest done.
+    fn be_told(&mut self, neighbour: &Neighbour, table: &str) -> io::Result<()> {
+        let (alloc, places) = (self.alloc, self.places);
+        self.steer(neighbour, "revoke 20 9", "done 0 0\n")?;
+        let grants = subscriber(alloc, 20, places.later, 32, "7")?;
+        let others = format!(in alloc; "{grants}{table}header = \"west\"\n")?;
+        let text = setup(alloc, places, places.nine, others.as_str())?;
+        let told =
+            "subscriber 20: the grant of PMU 9/9 can't be revoked: it has no such grant (35 NotGranted)\n\
+            refused 35 NotGranted\nreloaded: 3 edits, 0 orders\n";
+        self.change(neighbour, text.as_str(), told)?;
+        let grants = subscriber(alloc, 20, places.later, 32, "9")?;
+        let others = format!(in alloc; "{grants}{table}")?;
+        let text = setup(alloc, places, places.nine, others.as_str())?;
+        self.change(neighbour, text.as_str(), "reloaded: 4 edits, 0 orders\n")
+    }
+
+    /// The rules of subscriber 20's port change, so that it is closed and opened; source 9 gets a PMU and other rules, so that it is
+    /// called anew; both go back.
+    fn change_rules(&mut self, neighbour: &Neighbour, table: &str) -> io::Result<()> {
+        let (alloc, places) = (self.alloc, self.places);
+        let sub = self.subscribe(places.later, 2000)?;
+        let plain = subscriber(alloc, 20, places.later, 32, "9")?;
+        let others = format!(in alloc; "{plain}takeover = true\n{table}")?;
+        let text = setup(alloc, places, places.nine, others.as_str())?;
+        self.change(neighbour, text.as_str(), "reloaded: 0 edits, 2 orders\n")?;
+        let is_over = is_hung_up(&sub)?;
+        assert!(self.rt; is_over);
+        let first = self.subscribe(places.later, 2000)?;
+        let second = self.subscribe(places.later, 2000)?;
+        let is_over = is_hung_up(&first)?;
+        assert!(self.rt; is_over);
+        let more = "[[pmu]]\nid = 10\nsource = 9\nsilence = 5\n";
+        let others = format!(in alloc; "{others}{more}")?;
+        let text = setup(alloc, places, places.nine, others.as_str())?;
+        self.change(neighbour, text.as_str(), "reloaded: 1 edits, 2 orders\n")?;
+        let nine = self.take_call(&self.nine, 9)?;
+        self.hand_over(&nine, 9, &second)?;
+        let others = format!(in alloc; "{plain}{table}")?;
+        let text = setup(alloc, places, places.nine, others.as_str())?;
+        self.change(neighbour, text.as_str(), "reloaded: 1 edits, 4 orders\n")
+    }
+
+    /// Subscriber 20 is dropped by a line: his connection ends, and his port refuses until he is added again.
+    fn drop_subscriber(&mut self, neighbour: &Neighbour) -> io::Result<()> {
+        let sub = self.subscribe(self.places.later, 2000)?;
+        self.steer(neighbour, "dropsub 20", "done 0 0\n")?;
+        let is_over = is_hung_up(&sub)?;
+        assert!(self.rt; is_over);
+        let here = SocketAddr::from((Ipv4Addr::LOCALHOST, self.places.later));
+        let refused = TcpStream::connect(self.rt, here)?;
+        let is_over = is_hung_up(&refused)?;
+        assert!(self.rt; is_over);
+        self.steer(neighbour, "addsub 20 32", "done 0 0\n")?;
+        self.steer(neighbour, "grant 20 9", "done 0 0\n")?;
+        let define = "define 20 2000 15 1000000 1 4 none 9";
+        self.steer(neighbour, define, "done 0 0\n")?;
+        drop(self.subscribe(self.places.later, 2000)?);
+        Ok(())
+    }
+
+    /// Each source and each subscriber is told once, whatever was asked of which worker.
+    fn be_counted(&self) -> io::Result<()> {
+        (&self.desk).write_all(b"status\n")?;
+        for start in [
+            "source 7 ",
+            "source 9 ",
+            "subscriber 1 ",
+            "subscriber 20 ",
+            "stream 1 101 on ",
+            "stream 20 2000 ",
+        ] {
+            let line = self.line()?;
+            let text = str::from_utf8(&line).unwrap_or("no text");
+            assert!(self.rt; text.starts_with(start), "{start}: {text}");
+        }
         Ok(())
     }
 
@@ -285,7 +374,7 @@ impl<P: Net<Listener = TcpListener, Stream = TcpStream> + Abort> Peers<'_, P> {
         let taken = places.first;
         let line = format!(in alloc; "listen 20 {taken} 127.0.0.1")?;
         let told = format!(in alloc;
-            "subscriber 20: port 127.0.0.1:{taken}: the address is in use\nrefused 39 ReadFault\n"
+            "subscriber 20: port 127.0.0.1:{taken}: address in use\nrefused 39 ReadFault\n"
         )?;
         self.steer(neighbour, line.as_str(), told.as_str())
     }
@@ -345,6 +434,8 @@ impl<P: Net<Listener = TcpListener, Stream = TcpStream> + Abort> Peers<'_, P> {
         self.change(&neighbour, text.as_str(), "reloaded: 0 edits, 0 orders\n")?;
         self.change_table(&neighbour, &nine)?;
         self.come_and_go(&neighbour)?;
+        self.be_counted()?;
+        self.drop_subscriber(&neighbour)?;
         self.steer_all(&neighbour)?;
         (&self.desk).write_all(b"quit\n")?;
         (&self.beside).write_all(b"quit\n")

@@ -11,6 +11,7 @@ use Rattle.pg_serve.specs.Inputs.{Fact, Outcome}
 use Rattle.pg_serve.specs.Shown.{WorldValue}
 use Rattle.pg_serve.specs.Full.{view_of, OutcomesLossless, HasAnswered, Headline, queue_of}
 use Rattle.pg_serve.specs.Beside.{Beside, frames, events, mine, other, mine_by, other_by, mine_of, other_of, AgreeAt, Agree, SeeAlike, ServesAlike, StandsBeside}
+use Rattle.pg_serve.proofs.Apart.{ungranted_unseen}
 use Rattle.pg_serve.proofs.Isolating.{isolated}
 
 view-append : (u : ℕ) (S : SharedMachine) (es fs : List Occurrence) → view u S (es ++ fs) ≡ view u S es ++ view u (shared_run S es) fs
@@ -59,4 +60,7 @@ stands_beside w inputs told lossless has = record {
   frames = λ u v others answers answered whole see.
       served u w v inputs others told answers (isolated w inputs told lossless has) (isolated v others answers whole answered)
       (seen_alike u inputs others see);
+  bytes = λ u v others answers answered whole few alike.
+      served u w v inputs others told answers (isolated w inputs told lossless has) (isolated v others answers whole answered)
+      (ungranted_unseen u inputs others few alike);
 }

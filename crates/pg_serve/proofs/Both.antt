@@ -1,7 +1,7 @@
 -- Two sessions of services where a subscriber sees the same, and of one history.
 use Rattle.std.proofs.Common.{◌≡◌, ◌≢◌, refl, sym, ap, ap₂, subst, ◌∙◌, ℕ, nat_eq, eqb-true, Bool, true, false, if◌then◌else◌, List, [], ◌∷◌, ◌++◌, append_assoc, Option, Some, None}
 use Rattle.std.proofs.lemmas.Grind.{flat_map-append}
-use Rattle.std.proofs.lemmas.List.{append-nil, map-append}
+use Rattle.std.proofs.lemmas.List.{append-nil, append_cancel_left, map-append}
 use mathlib.Core.List.{IsPrefix}
 use Rattle.pg_wire.specs.declared.refusal.Refusal.{Refusal}
 use Rattle.pg_turn.specs.Known.{Known}
@@ -20,10 +20,10 @@ use Rattle.pg_gateway.proofs.ViewLaws.{own-run}
 use Rattle.pg_gateway.proofs.AnswerLaws.{handed-run}
 use Rattle.pg_gateway.proofs.RunLaws.{Alone-run}
 use Rattle.pg_serve.specs.Sharing.{Call, history_of}
-use Rattle.pg_serve.specs.Onward.{calls_in}
+use Rattle.pg_serve.specs.Onward.{Piece, calls_in}
 use Rattle.pg_serve.specs.Delivery.{bytes_of, events_in, private_bytes, NoneDrains, Delivers}
-use Rattle.pg_serve.specs.Both.{SeesAlike, DeliverAlike, DeliversIn}
-use Rattle.pg_serve.proofs.Delivering.{lossless_split, private_both}
+use Rattle.pg_serve.specs.Both.{SeesAlike, DeliverAlike, DecidedByViews, DeliversIn}
+use Rattle.pg_serve.proofs.Delivering.{events_more, view_more, lossless_split, private_both}
 
 -- ---- where a subscriber sees the same
 
@@ -39,6 +39,23 @@ deliver_alike u s s' t t' left left' w w' x x' one other = record {
   alike = λ full own full' own' same.
       one.bytes full own ∙ private_alike u s.seen (calls_in one.since) t.seen (calls_in other.since) same ∙ sym (other.bytes full' own');
 }
+
+-- what u sees behind what it saw before
+view_behind : (u : ℕ) (s s' : Known Event Reply) (since : List Piece) → s'.seen ≡ s.seen ++ calls_in since
+    → view u opening (events_in s'.seen) ≡ view u opening (events_in s.seen) ++ view u (after (events_in s.seen)) (events_in (calls_in since))
+view_behind u s s' since seen =
+    ap (λ calls. view u opening (events_in calls)) seen ∙ ap (view u opening) (events_more s.seen (calls_in since))
+    ∙ view_more u opening (events_in s.seen) (events_in (calls_in since))
+
+pub decided_by_views : (u : ℕ) (s s' t t' : Known Event Reply) (left left' : List ℕ) (w w' x x' : Option (List ℕ))
+    (one : Delivers u s s' [] left w w') (other : Delivers u t t' [] left' x x') → DecidedByViews u s s' t t' left left' w w' x x' one other
+decided_by_views u s s' t t' left left' w w' x x' one other full own full' own' before whole =
+    let mine = view u (after (events_in s.seen)) (events_in (calls_in one.since)) in
+    let theirs = view u (after (events_in t.seen)) (events_in (calls_in other.since)) in
+    let since : mine ≡ theirs = append_cancel_left (view u opening (events_in s.seen)) mine theirs
+    (sym (view_behind u s s' one.since one.seen) ∙ whole ∙ view_behind u t t' other.since other.seen
+    ∙ ap (λ xs. xs ++ theirs) (sym before)) in
+    one.bytes full own ∙ private_alike u s.seen (calls_in one.since) t.seen (calls_in other.since) (before, since) ∙ sym (other.bytes full' own')
 
 -- ---- where nobody drains a subscriber it is handed nothing
 

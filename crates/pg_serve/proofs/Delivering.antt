@@ -242,7 +242,7 @@ delivers_meanwhile u s s' left w on others = record {
       ∙ given_behind u s.seen on.pieces (went_legal s s' on) (went_full s s' on full));
 }
 
-view_more : (u : ℕ) (S : SharedMachine) (es fs : List Occurrence) → view u S (es ++ fs) ≡ view u S es ++ view u (shared_run S es) fs
+pub view_more : (u : ℕ) (S : SharedMachine) (es fs : List Occurrence) → view u S (es ++ fs) ≡ view u S es ++ view u (shared_run S es) fs
 view_more u S [] fs = refl
 view_more u S (e ∷ es) fs =
     ap (λ l. part u S e ++ l) (view_more u (shared_step S e) es fs)
@@ -262,7 +262,7 @@ handed_more o (x ∷ xs) ys =
     ap (λ l. handed_at o x ++ l) (handed_more (private_step o x) xs ys)
     ∙ sym (append_assoc (handed_at o x) (handed_in (private_step o x) xs) (handed_in (private_run (private_step o x) xs) ys))
 
-events_more : (a b : List Call) → events_in (a ++ b) ≡ events_in a ++ events_in b
+pub events_more : (a b : List Call) → events_in (a ++ b) ≡ events_in a ++ events_in b
 events_more [] b = refl
 events_more (x ∷ a) b = ap (λ l. occurrence x.0 ∷ l) (events_more a b)
 

@@ -22,14 +22,17 @@ use Rattle.pg_gateway.specs.State.{SharedMachine, slot_of, own_of, at_slot, refu
 use Rattle.pg_gateway.specs.Histories.{state_after}
 use Rattle.pg_gateway.specs.Views.{private_run, part_of, part, view, full_by, full_answer, shared_step, shared_run}
 use Rattle.pg_gateway.specs.Laws.{events_of}
-use Rattle.pg_gateway.proofs.RelatedLaws.{Related-length}
+use Rattle.pg_gateway.specs.Related.{Related}
+use Rattle.pg_gateway.proofs.RelatedLaws.{Both, Related-length, Related-lookup, Related-set_value, Related-remove_entry}
 use Rattle.pg_gateway.proofs.SlotLaws.{owned, Alone, same-at_slot, same-fan_out, lookup-removed}
 use Rattle.pg_gateway.proofs.ViewLaws.{own-step, Alone-next}
 use Rattle.pg_serve.specs.Inputs.{Fact, link_up, pmu_bytes, sub_bytes, names}
 use Rattle.pg_serve.specs.Dues.{Due, posts, ignores_frame, closes, refuses, pairs_of, item_due, hang_up, session_due, link_due}
-use Rattle.pg_serve.specs.Moments.{SourceLinkPast, Moment, opening, is_done, new_source_link, lines_by, fed_by, put_line, put_fed, fed_more, all_given, line_after, after_turn, history_of, heard_due, up_due}
+use Rattle.pg_serve.specs.Moments.{SourceLinkPast, Moment, opening, is_done, new_source_link, lines_by, fed_by, put_line, put_fed, fed_more, gives_all, gone_up, fed_line, all_given, line_after, after_turn, history_of, heard_due, up_due}
 use Rattle.pg_serve.specs.Full.{full_deeds, told_more, told_dues, dues_of, full_turn, full_turns, view_of}
 use Rattle.pg_serve.specs.Others.{names_other, is_of_other, without_others, adds_by, adds_at, adds_in, NeighboursChangeNothing}
+use Rattle.pg_serve.proofs.Framing.{LineAlike, line_same, given_alike, line_up, line_fed, told_alike}
+use Rattle.pg_serve.proofs.Taking.{Related-insert}
 use Rattle.pg_serve.proofs.Belonging.{connected_in, Belongs, turn_belongs, opening_belongs, connect_done, hangup_done, drop_done}
 
 -- ---- what an event leaves that does not speak of subscribers
@@ -101,7 +104,7 @@ told_tick last (pmu_stats key) k = refl
 told_tick last (audit u index) k = refl
 told_tick last (standing u place) k = refl
 
-kept_tick : (S : SharedMachine) (e : Occurrence) (a : Answer) → KeepsTick e → (next S e a).last_tick ≡ S.last_tick
+pub kept_tick : (S : SharedMachine) (e : Occurrence) (a : Answer) → KeepsTick e → (next S e a).last_tick ≡ S.last_tick
 kept_tick S e (tells t) k = told_tick S.last_tick e k
 kept_tick S e (sub_counts x) k = refl
 kept_tick S e (pmu_counts x) k = refl
@@ -110,7 +113,7 @@ kept_tick S e (stands x) k = refl
 
 -- ---- two states that are alike for u
 
-record Alike (u : ℕ) (S T : SharedMachine) : Type 0 where
+pub record Alike (u : ℕ) (S T : SharedMachine) : Type 0 where
   pub pmus : S.pmus ≡ T.pmus
   pub tick : S.last_tick ≡ T.last_tick
   pub own : own_of u S ≡ own_of u T
@@ -268,7 +271,7 @@ step_by_parts u pmus last ss ts e own alone alone' mine_so room room' =
       same,
     )
 
-step_alike : (u : ℕ) (S T : SharedMachine) (e : Occurrence) → Alike u S T → names_other u e ≡ false → HasRoom e S → HasRoom e T
+pub step_alike : (u : ℕ) (S T : SharedMachine) (e : Occurrence) → Alike u S T → names_other u e ≡ false → HasRoom e S → HasRoom e T
     → Alike u (shared_step S e) (shared_step T e) × (part u S e ≡ part u T e)
 step_alike u S T e alike mine_so room room' =
     by T.pmus alike.pmus T.last_tick alike.tick room'
@@ -361,34 +364,34 @@ view-append u S [] fs = refl
 view-append u S (e ∷ es) fs = ap (λ v. part u S e ++ v) (view-append u (shared_step S e) es fs) ∙ sym (append_assoc (part u S e) (view u (shared_step S e) es) (view u (shared_run (shared_step S e) es) fs))
 
 -- the events that are due
-abbrev posted : List Due → List Occurrence
+abbrev pub posted : List Due → List Occurrence
 posted [] = []
 posted (posts e ∷ dues) = e ∷ posted dues
 posted (ignores_frame r ∷ dues) = posted dues
 posted (closes r ∷ dues) = posted dues
 posted (refuses r ∷ dues) = posted dues
 
-events_posted : (S : SharedMachine) (dues : List Due) → events_of (pairs_of (full_deeds S dues)) ≡ posted dues
+pub events_posted : (S : SharedMachine) (dues : List Due) → events_of (pairs_of (full_deeds S dues)) ≡ posted dues
 events_posted S [] = refl
 events_posted S (posts e ∷ dues) = ap (λ es. e ∷ es) (events_posted (shared_step S e) dues)
 events_posted S (ignores_frame r ∷ dues) = events_posted S dues
 events_posted S (closes r ∷ dues) = events_posted S dues
 events_posted S (refuses r ∷ dues) = events_posted S dues
 
-run_posted : (S : SharedMachine) (dues : List Due) → state_after S (pairs_of (full_deeds S dues)) ≡ shared_run S (posted dues)
+pub run_posted : (S : SharedMachine) (dues : List Due) → state_after S (pairs_of (full_deeds S dues)) ≡ shared_run S (posted dues)
 run_posted S [] = refl
 run_posted S (posts e ∷ dues) = run_posted (shared_step S e) dues
 run_posted S (ignores_frame r ∷ dues) = run_posted S dues
 run_posted S (closes r ∷ dues) = run_posted S dues
 run_posted S (refuses r ∷ dues) = run_posted S dues
 
-abbrev made_from : Moment → List Fact → List Occurrence
+abbrev pub made_from : Moment → List Fact → List Occurrence
 made_from m inputs = events_of (history_of (full_turns m inputs))
 
-abbrev turned : Moment → Fact → Moment
+abbrev pub turned : Moment → Fact → Moment
 turned m f = after_turn m (full_turn m f)
 
-view_turn : (u : ℕ) (m : Moment) (f : Fact) (inputs : List Fact)
+pub view_turn : (u : ℕ) (m : Moment) (f : Fact) (inputs : List Fact)
     → view u m.shared (made_from m (f ∷ inputs)) ≡ view u m.shared (posted (dues_of m f)) ++ view u (turned m f).shared (made_from (turned m f) inputs)
 view_turn u m f inputs =
     ap (view u m.shared) (map-append (λ (x : Occurrence × Answer). x.0) (pairs_of (full_deeds m.shared (dues_of m f))) (history_of (full_turns (turned m f) inputs))
@@ -511,9 +514,9 @@ remove_apart u w xs alone apart = lookup-removed u w xs alone ∙ rw apart refl
 
 -- ---- two moments that are alike for u
 
-record AlikeMoments (u : ℕ) (m n : Moment) : Type 0 where
+pub record AlikeMoments (u : ℕ) (m n : Moment) : Type 0 where
   pub shared : Alike u m.shared n.shared
-  pub lines : m.lines ≡ n.lines
+  pub lines : Related LineAlike m.lines n.lines
   pub fed : lookup (nat_eq u) m.fed ≡ lookup (nat_eq u) n.fed
   pub first : Belongs m
   pub other : Belongs n
@@ -571,7 +574,7 @@ other_lines u lines S T (pmu_stats key) done_so other = refl
 other_lines u lines S T (audit w index) done_so other = refl
 other_lines u lines S T (standing w place) done_so other = refl
 
-other_turn : (u : ℕ) (m n : Moment) (f : Fact) → AlikeMoments u m n → is_of_other u f ≡ true
+pub other_turn : (u : ℕ) (m n : Moment) (f : Fact) → AlikeMoments u m n → is_of_other u f ≡ true
     → AlikeMoments u (turned m f) n × (view u m.shared (posted (dues_of m f)) ≡ [])
 other_turn u m n (link_up s) alike other = absurd (cc)
 other_turn u m n (pmu_bytes s piece) alike other = absurd (cc)
@@ -592,7 +595,8 @@ other_turn u m n (names e) alike other =
     let ran = others_alike u m.shared n.shared (e ∷ []) alike.shared (other, tt) in (
       record {
         shared = ran.0;
-        lines = other_lines u m.lines m.shared (shared_step m.shared e) e (is_done (full_answer m.shared e)) other ∙ alike.lines;
+        lines = subst (λ ls. Related LineAlike ls n.lines)
+            (sym (other_lines u m.lines m.shared (shared_step m.shared e) e (is_done (full_answer m.shared e)) other)) alike.lines;
         fed = named_apart u m.fed e (is_done (full_answer m.shared e)) other alike.first.fed_alone ∙ alike.fed;
         first = turn_belongs m (names e) alike.first;
         other = alike.other;
@@ -649,17 +653,37 @@ heard_own u m n piece alike =
 
 -- lines go on alike
 own_lines : (u : ℕ) (m n : Moment) (e : Occurrence) → AlikeMoments u m n → (shared_step m.shared e).pmus ≡ (shared_step n.shared e).pmus
-    → lines_by m.lines m.shared (shared_step m.shared e) e (is_done (full_answer m.shared e)) ≡ lines_by n.lines n.shared (shared_step n.shared e) e (is_done (full_answer n.shared e))
-own_lines u m n (add_pmu key) alike after = ap₂ lines_added alike.lines alike.shared.pmus
+    → Related LineAlike (lines_by m.lines m.shared (shared_step m.shared e) e (is_done (full_answer m.shared e)))
+    (lines_by n.lines n.shared (shared_step n.shared e) e (is_done (full_answer n.shared e)))
+own_lines u m n (add_pmu key) alike after =
+    subst (λ pmus. Related LineAlike (lines_added m.lines m.shared.pmus) (lines_added n.lines pmus)) alike.shared.pmus
+    (by (is_added m.shared.pmus) (registered.has_source m.shared.pmus key.source))
   where
+    new : SourceLinkPast
+    new = new_source_link key.source
+
+    is_added : Pmus → Bool
+    is_added pmus = is_done (full_by (refuse (registered.has_key pmus key) PmuExists (refuse (nat_le 256 (length pmus)) PmusFull None)) (tells (done 0 0)))
+
     lines_added : List (ℕ × SourceLinkPast) → Pmus → List (ℕ × SourceLinkPast)
     lines_added lines pmus =
-        if is_done (full_by (refuse (registered.has_key pmus key) PmuExists (refuse (nat_le 256 (length pmus)) PmusFull None)) (tells (done 0 0)))
-        then (if registered.has_source pmus key.source then lines else insert_entry nat_eq lines key.source (new_source_link key.source)) else lines
-own_lines u m n (drop_pmu key) alike after = ap₂ lines_left alike.lines after
+        if is_added pmus then (if registered.has_source pmus key.source then lines else insert_entry nat_eq lines key.source new) else lines
+
+    by : (b c : Bool) → Related LineAlike (if b then (if c then m.lines else insert_entry nat_eq m.lines key.source new) else m.lines)
+        (if b then (if c then n.lines else insert_entry nat_eq n.lines key.source new) else n.lines)
+    by true true = alike.lines
+    by true false = Related-insert LineAlike key.source new new (line_same new) m.lines n.lines alike.lines
+    by false c = alike.lines
+own_lines u m n (drop_pmu key) alike after =
+    subst (λ pmus. Related LineAlike (lines_left m.lines (shared_step m.shared (drop_pmu key)).pmus) (lines_left n.lines pmus)) after
+    (by (registered.has_source (shared_step m.shared (drop_pmu key)).pmus key.source))
   where
     lines_left : List (ℕ × SourceLinkPast) → Pmus → List (ℕ × SourceLinkPast)
     lines_left lines pmus = if registered.has_source pmus key.source then lines else remove_entry (nat_eq key.source) lines
+
+    by : (b : Bool) → Related LineAlike (if b then m.lines else remove_entry (nat_eq key.source) m.lines) (if b then n.lines else remove_entry (nat_eq key.source) n.lines)
+    by true = alike.lines
+    by false = Related-remove_entry LineAlike (nat_eq key.source) m.lines n.lines alike.lines
 own_lines u m n (add_sub w size bytes) alike after = alike.lines
 own_lines u m n (drop_sub w) alike after = alike.lines
 own_lines u m n (grant w key) alike after = alike.lines
@@ -727,19 +751,47 @@ fed_named u m n (pmu_stats key) alike own = alike.fed
 fed_named u m n (audit w index) alike own = alike.fed
 fed_named u m n (standing w place) alike own = alike.fed
 
-abbrev RoomFor : Fact → SharedMachine → Type 0
+abbrev pub RoomFor : Fact → SharedMachine → Type 0
 RoomFor (link_up s) S = Unit {0}
 RoomFor (pmu_bytes s piece) S = Unit {0}
 RoomFor (sub_bytes u piece) S = Unit {0}
 RoomFor (names e) S = HasRoom e S
 
-own_turn : (u : ℕ) (m n : Moment) (f : Fact) → AlikeMoments u m n → is_of_other u f ≡ false → RoomFor f m.shared → RoomFor f n.shared → Goes u m n f
+-- a line that goes up or is fed
+up_alike : (o p : Option SourceLinkPast) → Both LineAlike o p → up_due o ≡ up_due p
+up_alike None None h = refl
+up_alike (Some a) (Some b) h = refl
+up_alike None (Some b) h = absurd h
+up_alike (Some a) None h = absurd h
+
+lines_up : (s : ℕ) (xs ys : List (ℕ × SourceLinkPast)) (o p : Option SourceLinkPast) → Both LineAlike o p → Related LineAlike xs ys
+    → Related LineAlike (put_line s xs (all_given (line_after (link_up s) [] o))) (put_line s ys (all_given (line_after (link_up s) [] p)))
+lines_up s xs ys None None h lines = lines
+lines_up s xs ys (Some a) (Some b) h lines =
+    Related-set_value LineAlike (nat_eq s) (gives_all (gone_up a)) (gives_all (gone_up b)) (given_alike (gone_up a) (gone_up b) (line_up a b h)) xs ys lines
+lines_up s xs ys None (Some b) h lines = absurd h
+lines_up s xs ys (Some a) None h lines = absurd h
+
+lines_fed : (s : ℕ) (piece : List ℕ) (xs ys : List (ℕ × SourceLinkPast)) (o p : Option SourceLinkPast) → Both LineAlike o p → Related LineAlike xs ys
+    → Related LineAlike (put_line s xs (all_given (line_after (pmu_bytes s piece) (told_more piece o) o)))
+    (put_line s ys (all_given (line_after (pmu_bytes s piece) (told_more piece p) p)))
+lines_fed s piece xs ys None None h lines = lines
+lines_fed s piece xs ys (Some a) (Some b) h lines =
+    let one = fed_line a piece (told_more piece (Some a)) in
+    let two = fed_line b piece (told_more piece (Some b)) in
+    Related-set_value LineAlike (nat_eq s) (gives_all one) (gives_all two)
+    (given_alike one two (line_fed a b piece (told_more piece (Some a)) (told_more piece (Some b)) h)) xs ys lines
+lines_fed s piece xs ys None (Some b) h lines = absurd h
+lines_fed s piece xs ys (Some a) None h lines = absurd h
+
+pub own_turn : (u : ℕ) (m n : Moment) (f : Fact) → AlikeMoments u m n → is_of_other u f ≡ false → RoomFor f m.shared → RoomFor f n.shared → Goes u m n f
 own_turn u m n (link_up s) alike own room room' =
     let f = link_up s in
-    let ran = turn_by_dues u m n f alike.shared (ap (λ ls. up_due (lookup (nat_eq s) ls)) alike.lines) (up_own u (lookup (nat_eq s) m.lines)) in (
+    let there = Related-lookup LineAlike (nat_eq s) m.lines n.lines alike.lines in
+    let ran = turn_by_dues u m n f alike.shared (up_alike (lookup (nat_eq s) m.lines) (lookup (nat_eq s) n.lines) there) (up_own u (lookup (nat_eq s) m.lines)) in (
       record {
         shared = ran.0;
-        lines = ap (λ ls. put_line s ls (all_given (line_after f [] (lookup (nat_eq s) ls)))) alike.lines;
+        lines = lines_up s m.lines n.lines (lookup (nat_eq s) m.lines) (lookup (nat_eq s) n.lines) there alike.lines;
         fed = alike.fed;
         first = turn_belongs m f alike.first;
         other = turn_belongs n f alike.other;
@@ -748,10 +800,12 @@ own_turn u m n (link_up s) alike own room room' =
     )
 own_turn u m n (pmu_bytes s piece) alike own room room' =
     let f = pmu_bytes s piece in
-    let ran = turn_by_dues u m n f alike.shared (ap (λ ls. told_dues piece (lookup (nat_eq s) ls)) alike.lines) (bytes_own u piece (lookup (nat_eq s) m.lines)) in (
+    let there = Related-lookup LineAlike (nat_eq s) m.lines n.lines alike.lines in
+    let ran = turn_by_dues u m n f alike.shared (told_alike piece (lookup (nat_eq s) m.lines) (lookup (nat_eq s) n.lines) there)
+    (bytes_own u piece (lookup (nat_eq s) m.lines)) in (
       record {
         shared = ran.0;
-        lines = ap (λ ls. put_line s ls (all_given (line_after f (told_more piece (lookup (nat_eq s) ls)) (lookup (nat_eq s) ls)))) alike.lines;
+        lines = lines_fed s piece m.lines n.lines (lookup (nat_eq s) m.lines) (lookup (nat_eq s) n.lines) there alike.lines;
         fed = alike.fed;
         first = turn_belongs m f alike.first;
         other = turn_belongs n f alike.other;
@@ -889,7 +943,7 @@ dues_add m (pmu_bytes s piece) = by (lookup (nat_eq s) m.lines)
 dues_add m (sub_bytes w piece) = at_adds w (dues_of m (sub_bytes w piece)) (at_heard w piece (is_some (slot_of w m.shared.subs)) (lookup (nat_eq w) m.fed))
 dues_add m (names e) = omega arith
 
-length_turn : (m : Moment) (f : Fact) → length (turned m f).shared.subs ≤ length m.shared.subs + adds_at f
+pub length_turn : (m : Moment) (f : Fact) → length (turned m f).shared.subs ≤ length m.shared.subs + adds_at f
 length_turn m f =
     let dues = dues_of m f in
     let run = length_run m.shared (posted dues) in
@@ -918,7 +972,7 @@ has_room (pmu_stats key) S others h = tt
 has_room (audit u index) S others h = tt
 has_room (standing u place) S others h = tt
 
-room_for : (f : Fact) (S : SharedMachine) (others : ℕ) → length S.subs + (adds_at f + others) ≤ 64 → RoomFor f S
+pub room_for : (f : Fact) (S : SharedMachine) (others : ℕ) → length S.subs + (adds_at f + others) ≤ 64 → RoomFor f S
 room_for (link_up s) S others h = tt
 room_for (pmu_bytes s piece) S others h = tt
 room_for (sub_bytes u piece) S others h = tt
@@ -967,7 +1021,7 @@ view_without : (u : ℕ) (inputs : List Fact) → adds_in inputs ≤ 64 → view
 view_without u inputs room =
     let alike : AlikeMoments u opening opening = record {
       shared = record { pmus = refl; tick = refl; own = refl; alone = tt; alone' = tt };
-      lines = refl;
+      lines = tt;
       fed = refl;
       first = opening_belongs;
       other = opening_belongs;

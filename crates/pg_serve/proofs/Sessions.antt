@@ -1,8 +1,10 @@
 -- Runs of a session's loop, put together.
-use Rattle.std.proofs.Common.{◌≡◌, ◌≢◌, ◌∙◌, sym, subst, ap, ap₂, refl, ℕ, List, [], ◌∷◌, ◌++◌, map, append-nil, append_assoc, Option, Some, None, true, false, take, inl, inr, Result, Ok, Err}
+use Rattle.std.proofs.Common.{◌≡◌, ◌≢◌, ◌∙◌, sym, subst, ap, ap₂, refl, arith, ℕ, zero, suc, ◌<◌, ◌≤◌, Bool, ◌||◌, length, List, [], ◌∷◌, ◌++◌, map, append-nil, append_assoc, Option, Some, None, true, false, take, inl, inr, Result, Ok, Err}
 use Rattle.std.specs.Prelude.{◌⊎◌, MatchOption, IfSome}
 use Rattle.std.specs.List.{flat_map}
 use Rattle.std.specs.Io.KnownBytes.{Consumes}
+use Rattle.std.proofs.Math.Bool.{or-true}
+use Rattle.std.proofs.lemmas.Bool.{eqb-true}
 use Rattle.std.proofs.lemmas.List.{map-append}
 use Rattle.std.proofs.lemmas.Grind.{flat_map-append}
 use mathlib.Core.List.{IsPrefix}
@@ -23,8 +25,8 @@ use Rattle.pg_ingest.specs.declared.run.End.{End}
 use Rattle.pg_ingest.specs.declared.run.End.TheVariants.{Closed, Quiet, Stalled, Fault}
 use Rattle.pg_ingest.proofs.Known.{notes_nil, notes_more, appends_nil, appends_more, consumes_nil, consumes_more}
 use Rattle.pg_ingest.specs.Ends.{is_cut}
-use Rattle.pg_serve.specs.Turned.{HasGivenAll, Writes, IsReadEnd, DrainsLast, Turned}
-use Rattle.pg_serve.specs.Serving.{Post, passes, drains, hangs_up, Call, posted_by, command_in, passed_by, handed_by, bytes_answered, Follows, AreWritten, RanFrom, Ran, HasNoHangup, IsLast, EndsWith, Served, BreaksBy, EndsBy}
+use Rattle.pg_serve.specs.Turned.{HasGivenAll, Writes, IsReadEnd, DrainsLast, due_after, Turned, EndsSo, TurnedTo, is_closed, is_quiet}
+use Rattle.pg_serve.specs.Serving.{Post, passes, drains, hangs_up, Call, posted_by, command_in, passed_by, handed_by, bytes_answered, Doing, reads, waits, posts, read_by, call_by, due_read, due_by, InOrder, has_wait, WaitsAt, Follows, AreWritten, RanFrom, Ran, HasNoHangup, IsLast, EndsWith, Served, BreaksBy, EndsBy}
 
 abbrev Bytes : Type 0
 Bytes = Option (List ℕ)
@@ -108,16 +110,60 @@ drains_later (Some Closed) a b h k = tt
 drains_later (Some Stalled) a b h k = tt
 drains_later (Some (Fault n)) a b h k = tt
 
-pub turned_more : (end : Option End) (v v' v'' : Hearing) (r r' r'' w w' w'' : Bytes) (p p' p'' : Notices)
-    → Turned None v v' r r' w w' p p' → Turned end v' v'' r' r'' w' w'' p' p'' → Turned end v v'' r r'' w w'' p p''
+-- ---- in their order
+
+in_order_both : (due : Bool) (stream : List ℕ) (passed : List Command) (xs ys : List Doing) → InOrder due stream passed xs
+    → InOrder (due_after due xs) (stream ++ flat_map read_by xs) (passed ++ flat_map passed_by (flat_map call_by xs)) ys → InOrder due stream passed (xs ++ ys)
+in_order_both due stream passed [] ys h k =
+    subst (λ x. InOrder due x passed ys) (append-nil stream) (subst (λ y. InOrder due (stream ++ []) y ys) (append-nil passed) k)
+in_order_both due stream passed (x ∷ xs) ys h k =
+    let calls : flat_map passed_by (call_by x ++ flat_map call_by xs) ≡ flat_map passed_by (call_by x) ++ flat_map passed_by (flat_map call_by xs) =
+    flat_map-append passed_by (call_by x) (flat_map call_by xs) in
+    let before : InOrder (due_after (due_by due x) xs) ((stream ++ read_by x) ++ flat_map read_by xs)
+    ((passed ++ flat_map passed_by (call_by x)) ++ flat_map passed_by (flat_map call_by xs)) ys =
+    subst (λ s. InOrder (due_after (due_by due x) xs) s ((passed ++ flat_map passed_by (call_by x)) ++ flat_map passed_by (flat_map call_by xs)) ys)
+    (sym (append_assoc stream (read_by x) (flat_map read_by xs)))
+    (subst (λ c. InOrder (due_after (due_by due x) xs) (stream ++ (read_by x ++ flat_map read_by xs)) c ys)
+    (ap (λ c. passed ++ c) calls ∙ sym (append_assoc passed (flat_map passed_by (call_by x)) (flat_map passed_by (flat_map call_by xs)))) k) in
+    (h.0, in_order_both (due_by due x) (stream ++ read_by x) (passed ++ flat_map passed_by (call_by x)) xs ys h.1 before)
+
+due_both : (due : Bool) (xs ys : List Doing) → due_after due (xs ++ ys) ≡ due_after (due_after due xs) ys
+due_both due [] ys = refl
+due_both due (x ∷ xs) ys = due_both (due_by due x) xs ys
+
+wait_both : (xs ys : List Doing) → has_wait (xs ++ ys) ≡ (has_wait xs || has_wait ys)
+wait_both [] ys = refl
+wait_both (reads bytes ∷ xs) ys = wait_both xs ys
+wait_both (waits ∷ xs) ys = refl
+wait_both (posts call ∷ xs) ys = wait_both xs ys
+
+-- what was passed on behind all that was passed on before
+passed_both : (given items : List Item) (calls : List Call) (doings : List Doing) → flat_map passed_by calls ≡ flat_map command_in items → flat_map call_by doings ≡ calls
+    → flat_map command_in (given ++ items) ≡ flat_map command_in given ++ flat_map passed_by (flat_map call_by doings)
+passed_both given items calls doings passed posted =
+    flat_map-append command_in given items
+    ∙ ap (λ c. flat_map command_in given ++ c) (sym passed ∙ ap (flat_map passed_by) (sym posted))
+
+pub turned_more : (end : Option End) (due due' due'' waited waited' : Bool) (v v' v'' : Hearing) (r r' r'' w w' w'' : Bytes) (p p' p'' : Notices)
+    → Turned None due due' waited v v' r r' w w' p p' → Turned end due' due'' waited' v' v'' r' r'' w' w'' p' p''
+    → Turned end due due'' (waited || waited') v v'' r r'' w w'' p p''
 unfolding ran_more
-turned_more end v v' v'' r r' r'' w w' w'' p p' p'' first second stream given shows =
+turned_more end due due' due'' waited waited' v v' v'' r r' r'' w w' w'' p p' p'' first second stream given shows =
     let a = first stream given shows in
     let b = second (stream ++ a.ran.bytes) (given ++ a.ran.items) a.ran.shows in
     record {
       ran = ran_more v v' v'' r r' r'' w w' w'' p p' p'' stream given a.ran b.ran;
       stays = stays_both a.ran.calls b.ran.calls a.stays b.stays;
       last = drains_later end a.ran.calls b.ran.calls a.stays b.last;
+      doings = a.doings ++ b.doings;
+      read = flat_map-append read_by a.doings b.doings ∙ ap₂ (λ x y. x ++ y) a.read b.read;
+      posted = flat_map-append call_by a.doings b.doings ∙ ap₂ (λ x y. x ++ y) a.posted b.posted;
+      order = in_order_both due stream (flat_map command_in given) a.doings b.doings a.order
+          (subst (λ d. InOrder d (stream ++ flat_map read_by a.doings) (flat_map command_in given ++ flat_map passed_by (flat_map call_by a.doings)) b.doings) (sym a.due_then)
+          (subst (λ x. InOrder due' (stream ++ x) (flat_map command_in given ++ flat_map passed_by (flat_map call_by a.doings)) b.doings) (sym a.read)
+          (subst (λ c. InOrder due' (stream ++ a.ran.bytes) c b.doings) (passed_both given a.ran.items a.ran.calls a.doings a.ran.passed a.posted) b.order)));
+      due_then = due_both due a.doings b.doings ∙ ap (λ d. due_after d b.doings) a.due_then ∙ b.due_then;
+      waits_so = wait_both a.doings b.doings ∙ ap₂ (λ x y. x || y) a.waits_so b.waits_so;
     }
 
 pub drained_later : (out left : List ℕ) (first more : List Call) (a : Answer) → AreWritten out left (first ++ (drains, a) ∷ more) → IsPrefix (left ++ flat_map handed_by first) out
@@ -126,8 +172,21 @@ drained_later out left (call ∷ first) more a h =
     subst (λ x. IsPrefix x out) (append_assoc left (handed_by call) (flat_map handed_by first)) (drained_later out (left ++ handed_by call) first more a h.1)
 
 -- the ends that need no drain, and any end behind one
-pub turned_any : (end : Option End) (v v' : Hearing) (r r' w w' : Bytes) (p p' : Notices) → Turned (Some Quiet) v v' r r' w w' p p' → Turned end v v' r r' w w' p p'
-turned_any end v v' r r' w w' p p' turned stream given shows = let a = turned stream given shows in record { ran = a.ran; stays = a.stays; last = by end a.ran.calls a.last }
+pub turned_any : (end : Option End) (due due' waited : Bool) (v v' : Hearing) (r r' w w' : Bytes) (p p' : Notices) → Turned (Some Quiet) due due' waited v v' r r' w w' p p'
+    → Turned end due due' waited v v' r r' w w' p p'
+turned_any end due due' waited v v' r r' w w' p p' turned stream given shows =
+    let a = turned stream given shows in
+    record {
+      ran = a.ran;
+      stays = a.stays;
+      last = by end a.ran.calls a.last;
+      doings = a.doings;
+      read = a.read;
+      posted = a.posted;
+      order = a.order;
+      due_then = a.due_then;
+      waits_so = a.waits_so;
+    }
   where
     by : (e : Option End) (calls : List Call) → IsLast drains calls → DrainsLast e calls
     by None calls h = tt
@@ -169,8 +228,21 @@ cut_not_quiet Quiet h = absurd (let x : false ≡ true = h in cc)
 cut_not_quiet Stalled h = tt
 cut_not_quiet (Fault n) h = tt
 
-pub turned_end : (end : End) (v v' : Hearing) (r r' w w' : Bytes) (p p' : Notices) → NotQuiet end → Turned None v v' r r' w w' p p' → Turned (Some end) v v' r r' w w' p p'
-turned_end end v v' r r' w w' p p' loud turned stream given shows = let a = turned stream given shows in record { ran = a.ran; stays = a.stays; last = by end loud a.ran.calls }
+pub turned_end : (end : End) (due due' waited : Bool) (v v' : Hearing) (r r' w w' : Bytes) (p p' : Notices) → NotQuiet end → Turned None due due' waited v v' r r' w w' p p'
+    → Turned (Some end) due due' waited v v' r r' w w' p p'
+turned_end end due due' waited v v' r r' w w' p p' loud turned stream given shows =
+    let a = turned stream given shows in
+    record {
+      ran = a.ran;
+      stays = a.stays;
+      last = by end loud a.ran.calls;
+      doings = a.doings;
+      read = a.read;
+      posted = a.posted;
+      order = a.order;
+      due_then = a.due_then;
+      waits_so = a.waits_so;
+    }
   where
     by : (e : End) → NotQuiet e → (calls : List Call) → DrainsLast (Some e) calls
     by Closed h calls = tt
@@ -207,28 +279,41 @@ wrote_from v v' r w w' p stream given shows writes same = record {
   written = tt;
 }
 
-pub turned_wrote : (v v' : Hearing) (r w w' : Bytes) (p : Notices) → Writes v.left v'.left w w' → v' ≡ record v { left = v'.left } → Turned None v v' r r w w' p p
+pub turned_wrote : (due : Bool) (v v' : Hearing) (r w w' : Bytes) (p : Notices) → Writes v.left v'.left w w' → v' ≡ record v { left = v'.left }
+    → Turned None due due false v v' r r w w' p p
 unfolding wrote_from
-turned_wrote v v' r w w' p writes same stream given shows = record {
+turned_wrote due v v' r w w' p writes same stream given shows = record {
   ran = wrote_from v v' r w w' p stream given shows writes same;
   stays = tt;
   last = tt;
+  doings = [];
+  read = refl;
+  posted = refl;
+  order = tt;
+  due_then = refl;
+  waits_so = refl;
 }
 
-pub turned_pushed : (end : Option End) (v v' v'' : Hearing) (r r' w w' w'' : Bytes) (p p' : Notices) → Turned end v v' r r' w w' p p' → Writes v'.left v''.left w' w''
-    → v'' ≡ record v' { left = v''.left } → Turned end v v'' r r' w w'' p p'
+pub turned_pushed : (end : Option End) (due due' waited : Bool) (v v' v'' : Hearing) (r r' w w' w'' : Bytes) (p p' : Notices) → Turned end due due' waited v v' r r' w w' p p'
+    → Writes v'.left v''.left w' w'' → v'' ≡ record v' { left = v''.left } → Turned end due due' waited v v'' r r' w w'' p p'
 unfolding ran_more wrote_from
-turned_pushed end v v' v'' r r' w w' w'' p p' turned writes same stream given shows =
+turned_pushed end due due' waited v v' v'' r r' w w' w'' p p' turned writes same stream given shows =
     let a = turned stream given shows in
     record {
       ran = ran_more v v' v'' r r' r' w w' w'' p p' p' stream given a.ran
           (wrote_from v' v'' r' w' w'' p' (stream ++ a.ran.bytes) (given ++ a.ran.items) a.ran.shows writes same);
       stays = stays_both a.ran.calls [] a.stays tt;
       last = subst (DrainsLast end) (sym (append-nil a.ran.calls)) a.last;
+      doings = a.doings;
+      read = a.read ∙ sym (append-nil a.ran.bytes);
+      posted = a.posted ∙ sym (append-nil a.ran.calls);
+      order = a.order;
+      due_then = a.due_then;
+      waits_so = a.waits_so;
     }
 
-pub turned_nothing : (v : Hearing) (r w : Bytes) (p : Notices) → Turned None v v r r w w p p
-turned_nothing v r w p = turned_wrote v v r w w p ([], appends_nil w, refl) refl
+pub turned_nothing : (due : Bool) (v : Hearing) (r w : Bytes) (p : Notices) → Turned None due due false v v r r w w p p
+turned_nothing due v r w p = turned_wrote due v v r w w p ([], appends_nil w, refl) refl
 
 -- A step of which the session and the bytes that it read are told: these calls are posted, and what they hand out is left.
 step : (v v' : Hearing) (r r' w : Bytes) (p p' : Notices) (stream : List ℕ) (given : List Item) (bytes : List ℕ) (items : List Item) (calls : List Call)
@@ -252,79 +337,199 @@ step v v' r r' w p p' stream given bytes items calls sub buffer shows read poste
 }
 
 -- a read that failed
-pub turned_unread : (v : Hearing) (r r' w : Bytes) (p : Notices) → Consumes r r' [] → Turned None v v r r' w w p p
+pub turned_unread : (due : Bool) (v : Hearing) (r r' w : Bytes) (p : Notices) → Consumes r r' [] → Turned None due due false v v r r' w w p p
 unfolding step
-turned_unread v r r' w p read stream given shows = record {
+turned_unread due v r r' w p read stream given shows = record {
   ran = step v v r r' w p p stream given [] [] [] refl refl
       (subst (λ x. ShowsHearing v x (given ++ [])) (sym (append-nil stream)) (subst (ShowsHearing v stream) (sym (append-nil given)) shows))
       read (notes_nil p) refl (sym (append-nil v.left)) tt;
   stays = tt;
   last = tt;
+  doings = [];
+  read = refl;
+  posted = refl;
+  order = tt;
+  due_then = refl;
+  waits_so = refl;
 }
 
 -- a piece was read
-pub turned_read : (v v' : Hearing) (r r' w : Bytes) (p : Notices) (piece : List ℕ) → Consumes r r' piece → v' ≡ heard v piece
-    → ((stream : List ℕ) (given : List Item) → ShowsHearing v stream given → ShowsHearing v' (stream ++ piece) given) → Turned None v v' r r' w w p p
+pub turned_read : (due : Bool) (v v' : Hearing) (r r' w : Bytes) (p : Notices) (piece : List ℕ) → Consumes r r' piece → v' ≡ heard v piece
+    → ((stream : List ℕ) (given : List Item) → ShowsHearing v stream given → ShowsHearing v' (stream ++ piece) given)
+    → Turned None due (due_read due piece) false v v' r r' w w p p
 unfolding step
-turned_read v v' r r' w p piece read same fed stream given shows = record {
+turned_read due v v' r r' w p piece read same fed stream given shows = record {
   ran = step v v' r r' w p p stream given piece [] [] (ap (λ (x : Hearing). x.sub) same) (ap (λ (x : Hearing). x.buffer) same)
       (subst (ShowsHearing v' (stream ++ piece)) (sym (append-nil given)) (fed stream given shows))
       read (notes_nil p) refl (ap (λ (x : Hearing). x.left) same ∙ sym (append-nil v.left)) tt;
   stays = tt;
   last = tt;
+  doings = reads piece ∷ [];
+  read = append-nil piece;
+  posted = refl;
+  order = (tt, tt);
+  due_then = refl;
+  waits_so = refl;
 }
 
 -- a command was given, and passed on
-pub turned_passed : (v v' : Hearing) (r w : Bytes) (p p' : Notices) (c : Command) (a : Answer)
+pub turned_passed : (due : Bool) (v v' : Hearing) (r w : Bytes) (p p' : Notices) (c : Command) (a : Answer)
     → ((stream : List ℕ) (given : List Item) → ShowsHearing v stream given → ShowsHearing v' stream (given ++ commands c ∷ []))
-    → Notes p p' (posted_by v' (passes c, a) ∷ []) → v'.sub ≡ v.sub → v'.buffer ≡ v.buffer → v'.left ≡ v.left → Turned None v v' r r w w p p'
+    → Notes p p' (posted_by v' (passes c, a) ∷ []) → v'.sub ≡ v.sub → v'.buffer ≡ v.buffer → v'.left ≡ v.left → Turned None due due false v v' r r w w p p'
 unfolding step
-turned_passed v v' r w p p' c a gives posted sub buffer left stream given shows = record {
+turned_passed due v v' r w p p' c a gives posted sub buffer left stream given shows = record {
   ran = step v v' r r w p p' stream given [] (commands c ∷ []) ((passes c, a) ∷ []) sub buffer
       (subst (λ x. ShowsHearing v' x (given ++ commands c ∷ [])) (sym (append-nil stream)) (gives stream given shows))
       (consumes_nil r) (subst (λ s. Notes p p' (posted_by (record v { sub = s }) (passes c, a) ∷ [])) sub posted)
       refl (left ∙ sym (append-nil v.left)) (tt, tt);
   stays = (tt, tt);
   last = tt;
+  doings = posts (passes c, a) ∷ [];
+  read = refl;
+  posted = refl;
+  order = (tt, tt);
+  due_then = refl;
+  waits_so = refl;
 }
 
 -- a frame was ignored
-pub turned_ignored : (v v' : Hearing) (r w : Bytes) (p : Notices) (refusal : Refusal)
+pub turned_ignored : (due : Bool) (v v' : Hearing) (r w : Bytes) (p : Notices) (refusal : Refusal)
     → ((stream : List ℕ) (given : List Item) → ShowsHearing v stream given → ShowsHearing v' stream (given ++ ignores refusal ∷ []))
-    → v'.sub ≡ v.sub → v'.buffer ≡ v.buffer → v'.left ≡ v.left → Turned None v v' r r w w p p
+    → v'.sub ≡ v.sub → v'.buffer ≡ v.buffer → v'.left ≡ v.left → Turned None due due false v v' r r w w p p
 unfolding step
-turned_ignored v v' r w p refusal gives sub buffer left stream given shows = record {
+turned_ignored due v v' r w p refusal gives sub buffer left stream given shows = record {
   ran = step v v' r r w p p stream given [] (ignores refusal ∷ []) [] sub buffer
       (subst (λ x. ShowsHearing v' x (given ++ ignores refusal ∷ [])) (sym (append-nil stream)) (gives stream given shows))
       (consumes_nil r) (notes_nil p) refl (left ∙ sym (append-nil v.left)) tt;
   stays = tt;
   last = tt;
+  doings = [];
+  read = refl;
+  posted = refl;
+  order = tt;
+  due_then = refl;
+  waits_so = refl;
 }
 
 -- the bytes broke
-pub turned_broken : (v v' : Hearing) (r w : Bytes) (p : Notices) → ((stream : List ℕ) (given : List Item) → ShowsHearing v stream given → ShowsHearing v' stream given)
-    → v'.sub ≡ v.sub → v'.buffer ≡ v.buffer → v'.left ≡ v.left → Turned None v v' r r w w p p
+pub turned_broken : (due : Bool) (v v' : Hearing) (r w : Bytes) (p : Notices) → ((stream : List ℕ) (given : List Item) → ShowsHearing v stream given → ShowsHearing v' stream given)
+    → v'.sub ≡ v.sub → v'.buffer ≡ v.buffer → v'.left ≡ v.left → Turned None due due false v v' r r w w p p
 unfolding step
-turned_broken v v' r w p gives sub buffer left stream given shows = record {
+turned_broken due v v' r w p gives sub buffer left stream given shows = record {
   ran = step v v' r r w p p stream given [] [] [] sub buffer
       (subst (λ x. ShowsHearing v' x (given ++ [])) (sym (append-nil stream)) (subst (ShowsHearing v' stream) (sym (append-nil given)) (gives stream given shows)))
       (consumes_nil r) (notes_nil p) refl (left ∙ sym (append-nil v.left)) tt;
   stays = tt;
   last = tt;
+  doings = [];
+  read = refl;
+  posted = refl;
+  order = tt;
+  due_then = refl;
+  waits_so = refl;
 }
 
--- a drain was posted, where all was written
-pub turned_drained : (v v' : Hearing) (r w : Bytes) (p p' : Notices) (a : Answer) → v.left ≡ [] → v'.left ≡ bytes_answered a
-    → Notes p p' (posted_by v (drains, a) ∷ []) → v' ≡ record v { left = v'.left } → Turned (Some Quiet) v v' r r w w p p'
+-- a drain was posted, where all was written and all commands were passed on
+drain_doings : Bool → Answer → List Doing
+drain_doings false a = posts (drains, a) ∷ []
+drain_doings true a = waits ∷ posts (drains, a) ∷ []
+
+drain_read : (waited : Bool) (a : Answer) → flat_map read_by (drain_doings waited a) ≡ []
+unfolding drain_doings
+drain_read false a = refl
+drain_read true a = refl
+
+drain_posted : (waited : Bool) (a : Answer) → flat_map call_by (drain_doings waited a) ≡ (drains, a) ∷ []
+unfolding drain_doings
+drain_posted false a = refl
+drain_posted true a = refl
+
+drain_order : (due waited : Bool) (a : Answer) (stream : List ℕ) (given : List Item) → (due || waited) ≡ true → given ≡ items_of stream → break_in stream ≡ None
+    → InOrder due stream (flat_map command_in given) (drain_doings waited a)
+unfolding drain_doings
+drain_order due true a stream given is all whole = (
+  tt,
+  (
+    (
+      refl,
+      append-nil (flat_map command_in given) ∙ ap (flat_map command_in) all ∙ ap (λ x. flat_map command_in (items_of x)) (sym (append-nil stream)),
+      ap break_in (append-nil stream) ∙ whole,
+    ),
+    tt,
+  ),
+)
+drain_order true false a stream given is all whole = ((refl, ap (flat_map command_in) all, whole), tt)
+drain_order false false a stream given is all whole = absurd (cc)
+
+drain_due : (due waited : Bool) (a : Answer) → due_after due (drain_doings waited a) ≡ false
+unfolding drain_doings
+drain_due due false a = refl
+drain_due due true a = refl
+
+drain_waits : (waited : Bool) (a : Answer) → has_wait (drain_doings waited a) ≡ waited
+unfolding drain_doings
+drain_waits false a = refl
+drain_waits true a = refl
+
+pub turned_drained : (due waited : Bool) (v v' : Hearing) (r w : Bytes) (p p' : Notices) (a : Answer) → (due || waited) ≡ true → HasGivenAll v → BreaksBy None v → v.left ≡ []
+    → v'.left ≡ bytes_answered a → Notes p p' (posted_by v (drains, a) ∷ []) → v' ≡ record v { left = v'.left } → Turned (Some Quiet) due false waited v v' r r w w p p'
 unfolding step
-turned_drained v v' r w p p' a empty left posted same stream given shows = record {
+turned_drained due waited v v' r w p p' a is all whole empty left posted same stream given shows = record {
   ran = step v v' r r w p p' stream given [] [] ((drains, a) ∷ []) (ap (λ (x : Hearing). x.sub) same) (ap (λ (x : Hearing). x.buffer) same)
       (subst (λ x. ShowsHearing v' x (given ++ [])) (sym (append-nil stream)) (subst (ShowsHearing v' stream) (sym (append-nil given)) (left_unshown v v' stream given same shows)))
       (consumes_nil r) posted refl (left ∙ sym (append-nil (bytes_answered a)) ∙ ap (λ x. x ++ (bytes_answered a ++ [])) (sym empty))
       (([], append-nil v.left ∙ empty), tt);
   stays = (tt, tt);
   last = ([], a, refl, tt);
+  doings = drain_doings waited a;
+  read = drain_read waited a;
+  posted = drain_posted waited a;
+  order = drain_order due waited a stream given is (all stream given shows) (whole stream given shows);
+  due_then = drain_due due waited a;
+  waits_so = drain_waits waited a;
 }
+
+-- when a drain is due
+pub drain_is_due : (end : Option End) (size : ℕ) (buffer : List ℕ) → IsReadEnd end → size ≤ length buffer → (end ≡ None → 0 < size) → is_closed end ≡ false
+    → (due_read false (take size buffer) || is_quiet end) ≡ true
+drain_is_due None size [] kind within came going = absurd (omega (arith, came refl, within))
+drain_is_due None zero (byte ∷ buffer) kind within came going = absurd (omega (arith, came refl))
+drain_is_due None (suc size) (byte ∷ buffer) kind within came going = refl
+drain_is_due (Some Closed) size buffer kind within came going = absurd (let x : true ≡ false = going in cc)
+drain_is_due (Some Quiet) size buffer kind within came going = or-true (due_read false (take size buffer))
+drain_is_due (Some Stalled) size buffer kind within came going = absurd kind
+drain_is_due (Some (Fault n)) size buffer kind within came going = absurd kind
+
+-- how turns end
+pub unwaited : (end : End) → WaitsAt end false
+unwaited Closed = refl
+unwaited Quiet = tt
+unwaited Stalled = tt
+unwaited (Fault n) = inr refl
+
+pub cut_waits : (end : End) (waited : Bool) → is_cut end ≡ true → WaitsAt end waited
+cut_waits Closed waited cut = absurd (let x : false ≡ true = cut in cc)
+cut_waits Quiet waited cut = tt
+cut_waits Stalled waited cut = tt
+cut_waits (Fault n) waited cut = inl (eqb-true n 40 cut)
+
+pub ends_so : (end : Option End) → EndsSo end false (is_quiet end)
+ends_so None = (refl, refl)
+ends_so (Some Closed) = refl
+ends_so (Some Quiet) = tt
+ends_so (Some Stalled) = tt
+ends_so (Some (Fault n)) = inr refl
+
+-- whole turns that go on
+pub turned_whole : (v v' : Hearing) (r r' w w' : Bytes) (p p' : Notices) → TurnedTo None v v' r r' w w' p p' → Turned None false false false v v' r r' w w' p p'
+turned_whole v v' r r' w w' p p' turned =
+    subst (λ d. Turned None false d false v v' r r' w w' p p') turned.2.0
+    (subst (λ b. Turned None false turned.0 b v v' r r' w w' p p') turned.2.1 turned.3)
+
+pub turned_to : (end : End) (v v' v'' : Hearing) (r r' r'' w w' w'' : Bytes) (p p' p'' : Notices) → Turned None false false false v v' r r' w w' p p'
+    → TurnedTo (Some end) v' v'' r' r'' w' w'' p' p'' → TurnedTo (Some end) v v'' r r'' w w'' p p''
+turned_to end v v' v'' r r' r'' w w' w'' p p' p'' first turned =
+    (turned.0, turned.1, turned.2, turned_more (Some end) false false turned.0 false turned.1 v v' v'' r r' r'' w w' w'' p p' p'' first turned.3)
 
 -- what a drain's reply hands out
 pub bytes_drained : (bytes : List ℕ) (out : Result Drained Refusal) → take (handed_len out) bytes ≡ bytes_answered (tells (drain_told bytes out))
@@ -362,12 +567,27 @@ ends_read (Some Quiet) v kind breaks left = (breaks, left)
 ends_read (Some Stalled) v kind breaks left = absurd kind
 ends_read (Some (Fault n)) v kind breaks left = absurd kind
 
+or-false-right : (b : Bool) → (b || false) ≡ b
+or-false-right true = refl
+or-false-right false = refl
+
 -- a call of the loop, with what it posts last
-pub served_as : (end : End) (v v' : Hearing) (r r' w w' : Bytes) (p p' : Notices) → Turned (Some end) v v' r r' w w' p p' → HasGivenAll v' → DoesNotHangUp end
+pub served_as : (end : End) (v v' : Hearing) (r r' w w' : Bytes) (p p' : Notices) → TurnedTo (Some end) v v' r r' w w' p p' → HasGivenAll v' → DoesNotHangUp end
     → Served end v v' r r' w w' p p'
 served_as end v v' r r' w w' p p' turned all stays stream given shows =
-    let a = turned stream given shows in
-    record { ran = a.ran; all = all (stream ++ a.ran.bytes) (given ++ a.ran.items) a.ran.shows; last = by end stays a.ran.calls a.stays a.last }
+    let a = turned.3 stream given shows in
+    record {
+      ran = a.ran;
+      all = all (stream ++ a.ran.bytes) (given ++ a.ran.items) a.ran.shows;
+      last = by end stays a.ran.calls a.stays a.last;
+      drained = record {
+        doings = a.doings;
+        read = a.read;
+        posted = a.posted;
+        order = a.order;
+        waited = subst (WaitsAt end) (sym a.waits_so) turned.2;
+      };
+    }
   where
     by : (e : End) → DoesNotHangUp e → (calls : List Call) → HasNoHangup calls → DrainsLast (Some e) calls → EndsWith e calls
     by Closed h calls stays last = absurd h
@@ -375,17 +595,28 @@ served_as end v v' r r' w w' p p' turned all stays stream given shows =
     by Stalled h calls stays last = stays
     by (Fault n) h calls stays last = absurd h
 
-pub served_hung_up : (end : End) (v v' : Hearing) (r r' w w' : Bytes) (p p' p'' : Notices) (a : Answer) → Turned (Some end) v v' r r' w w' p p' → HasGivenAll v' → DoesHangUp end
+pub served_hung_up : (end : End) (v v' : Hearing) (r r' w w' : Bytes) (p p' p'' : Notices) (a : Answer) → TurnedTo (Some end) v v' r r' w w' p p' → HasGivenAll v' → DoesHangUp end
     → Notes p' p'' (posted_by v' (hangs_up, a) ∷ []) → Served end v v' r r' w w' p p''
 unfolding ran_more step
 served_hung_up end v v' r r' w w' p p' p'' a turned all hangs posted stream given shows =
-    let t = turned stream given shows in
+    let t = turned.3 stream given shows in
     let hung : RanFrom (stream ++ t.ran.bytes) (given ++ t.ran.items) v' v' r' r' w' w' p' p'' =
     step v' v' r' r' w' p' p'' (stream ++ t.ran.bytes) (given ++ t.ran.items) [] [] ((hangs_up, a) ∷ []) refl refl
     (subst (λ x. ShowsHearing v' x ((given ++ t.ran.items) ++ [])) (sym (append-nil (stream ++ t.ran.bytes))) (subst (ShowsHearing v' (stream ++ t.ran.bytes)) (sym (append-nil (given ++ t.ran.items))) t.ran.shows))
     (consumes_nil r') posted refl (sym (append-nil v'.left)) (tt, tt) in
     let ran = ran_more v v' v' r r' r' w w' w' p p' p'' stream given t.ran hung in
-    record { ran = ran; all = all (stream ++ ran.bytes) (given ++ ran.items) ran.shows; last = by end hangs (t.ran.calls, a, refl, t.stays) }
+    record {
+      ran = ran;
+      all = all (stream ++ ran.bytes) (given ++ ran.items) ran.shows;
+      last = by end hangs (t.ran.calls, a, refl, t.stays);
+      drained = record {
+        doings = t.doings ++ posts (hangs_up, a) ∷ [];
+        read = flat_map-append read_by t.doings (posts (hangs_up, a) ∷ []) ∙ ap (λ x. x ++ []) t.read;
+        posted = flat_map-append call_by t.doings (posts (hangs_up, a) ∷ []) ∙ ap (λ x. x ++ (hangs_up, a) ∷ []) t.posted;
+        order = in_order_both false stream (flat_map command_in given) t.doings (posts (hangs_up, a) ∷ []) t.order (tt, tt);
+        waited = subst (WaitsAt end) (sym (wait_both t.doings (posts (hangs_up, a) ∷ []) ∙ ap (λ x. x || false) t.waits_so ∙ or-false-right turned.1)) turned.2;
+      };
+    }
   where
     by : (e : End) → DoesHangUp e → {calls : List Call} → IsLast hangs_up calls → EndsWith e calls
     by Closed h last = last

@@ -133,7 +133,7 @@ bytes_some m s bytes line o g h links v hearings found takes shows = record {
 
 -- ---- PMUs
 
-Related-insert : {V W : Type 0} (R : V → W → Type 0) (u : ℕ) (v : V) (w : W) → R v w → (xs : List (ℕ × V)) (ys : List (ℕ × W)) → Related R xs ys
+pub Related-insert : {V W : Type 0} (R : V → W → Type 0) (u : ℕ) (v : V) (w : W) → R v w → (xs : List (ℕ × V)) (ys : List (ℕ × W)) → Related R xs ys
     → Related R (insert_entry nat_eq xs u v) (insert_entry nat_eq ys u w)
 Related-insert R u v w r [] [] h = (refl, r, tt)
 Related-insert R u v w r [] (y ∷ ys) h = absurd h

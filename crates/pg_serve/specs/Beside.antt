@@ -1,5 +1,5 @@
 -- A subscriber in two worlds, of which it sees the same: it queues the same in both, and both hand it the same.
-use Rattle.std.specs.Prelude.{◌≡◌, ℕ, List, [], ◌∷◌, None}
+use Rattle.std.specs.Prelude.{◌≡◌, ◌≤◌, ℕ, List, [], ◌∷◌, None}
 use Rattle.std.specs.List.{flat_map}
 use Rattle.pg_data.specs.Measurements.{Measurement}
 use Rattle.pg_gateway.specs.Occurrences.{Occurrence, measure}
@@ -8,6 +8,8 @@ use Rattle.pg_gateway.specs.Views.{part, shared_run}
 use Rattle.pg_gateway.specs.Laws.{AgreeOn}
 use Rattle.pg_serve.specs.Inputs.{Fact, Outcome}
 use Rattle.pg_serve.specs.Shown.{WorldValue, queue_shown}
+use Rattle.pg_serve.specs.Others.{adds_in}
+use Rattle.pg_serve.specs.Framed.{SameButUngranted}
 use Rattle.pg_serve.specs.Full.{events_made, view_of, handed_over, OutcomesLossless, HasAnswered}
 
 -- events of two worlds, side by side
@@ -66,9 +68,12 @@ pub record ServesAlike (u : ℕ) (w : WorldValue) (inputs : List Fact) (told : L
   pub handed : handed_over u inputs told ≡ handed_over u others answers
 
 -- Beside any other world that has answered without a loss and without want of memory: a subscriber whose view of both is
--- the same is served alike; and so is one that sees both alike but for blocks of shared frames that it is not granted.
+-- the same is served alike; and so is one that sees both alike but for blocks of shared frames that it is not granted. So it is
+-- where the inputs are the same but for the bytes of such blocks, and add subscribers at most 64 times.
 pub record StandsBeside (w : WorldValue) (inputs : List Fact) (told : List Outcome) : Type 0 where
   pub views : (u : ℕ) (v : WorldValue) (others : List Fact) (answers : List Outcome) → HasAnswered v others answers → OutcomesLossless answers
       → view_of u inputs ≡ view_of u others → ServesAlike u w inputs told v others answers
   pub frames : (u : ℕ) (v : WorldValue) (others : List Fact) (answers : List Outcome) → HasAnswered v others answers → OutcomesLossless answers
       → SeeAlike u inputs others → ServesAlike u w inputs told v others answers
+  pub bytes : (u : ℕ) (v : WorldValue) (others : List Fact) (answers : List Outcome) → HasAnswered v others answers → OutcomesLossless answers
+      → adds_in inputs ≤ 64 → SameButUngranted u inputs others → ServesAlike u w inputs told v others answers

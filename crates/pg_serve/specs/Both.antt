@@ -28,6 +28,15 @@ pub record DeliverAlike (u : ℕ) (s s' t t' : Known Event Reply) (left left' : 
       → AllLossless (answers_of (history_of t'.seen)) → OwnDrains u other.since
       → SeesAlike u s.seen (calls_in one.since) t.seen (calls_in other.since) → one.out ++ left ≡ other.out ++ left'
 
+-- The same of two deliveries, where u's views of the two histories are equal: those of the calls before, and those of all calls.
+abbrev pub DecidedByViews : (u : ℕ) (s s' t t' : Known Event Reply) (left left' : List ℕ) (w w' x x' : Option (List ℕ))
+    → Delivers u s s' [] left w w' → Delivers u t t' [] left' x x' → Type 0
+DecidedByViews u s s' t t' left left' w w' x x' one other =
+    AllLossless (answers_of (history_of s'.seen)) → OwnDrains u one.since
+    → AllLossless (answers_of (history_of t'.seen)) → OwnDrains u other.since
+    → view u opening (events_in s.seen) ≡ view u opening (events_in t.seen)
+    → view u opening (events_in s'.seen) ≡ view u opening (events_in t'.seen) → one.out ++ left ≡ other.out ++ left'
+
 -- While a seat went on from v to v', bytes were written for u; behind its last call the history went on by others. Where no
 -- answer of the whole history tells a loss or want of memory, and none but this seat drained u: what was written, followed by
 -- what is left to write, is what had been left, followed by what the private gateway of u's view of the history hands out.

@@ -1,11 +1,12 @@
 -- To be believed, in this order. The world: what it is handed and answers; what bytes make; the turns that its inputs are; what
--- it shows of them; what holds of each subscriber; of neighbours; and beside another world.
+-- it shows of them; what holds of each subscriber; of neighbours; of the bytes of data frames; and beside another world.
 pub mod Inputs
 pub mod Dues
 pub mod Moments
 pub mod Shown
 pub mod Full
 pub mod Others
+pub mod Framed
 pub mod Beside
 -- A shared gateway, its gates, and the loop of a session.
 pub mod Sharing

@@ -1,5 +1,5 @@
 -- What a session's loop reads, posts and writes.
-use Rattle.std.specs.Prelude.{◌≡◌, ◌≢◌, ◌⊎◌, ℕ, List, [], ◌∷◌, ◌++◌, map, Option, Some, None}
+use Rattle.std.specs.Prelude.{◌≡◌, ◌≢◌, ◌⊎◌, ℕ, Bool, true, false, List, [], ◌∷◌, ◌++◌, map, Option, Some, None}
 use Rattle.std.specs.List.{flat_map}
 use Rattle.std.specs.Io.KnownBytes.{Appends, Consumes}
 use mathlib.Core.List.{IsPrefix}
@@ -123,11 +123,86 @@ EndsWith Quiet calls = IsLast drains calls
 EndsWith Stalled calls = HasNoHangup calls
 EndsWith (Fault n) calls = IsLast hangs_up calls
 
+-- ---- in which order it reads and posts
+
+pub data Doing : Type 0 where
+  -- it reads these bytes: none where the reader has ended
+  reads : List ℕ → Doing
+  -- it finds that the reader would block
+  waits : Doing
+  posts : Call → Doing
+
+abbrev pub read_by : Doing → List ℕ
+read_by (reads bytes) = bytes
+read_by waits = []
+read_by (posts call) = []
+
+abbrev pub call_by : Doing → List Call
+call_by (reads bytes) = []
+call_by waits = []
+call_by (posts call) = call ∷ []
+
+-- A drain is due once bytes came or the reader would block, and until it is posted.
+abbrev pub due_read : Bool → List ℕ → Bool
+due_read due [] = due
+due_read due (byte ∷ bytes) = true
+
+abbrev pub due_posted : Bool → Post → Bool
+due_posted due (passes c) = due
+due_posted due drains = false
+due_posted due hangs_up = due
+
+abbrev pub due_by : Bool → Doing → Bool
+due_by due (reads bytes) = due_read due bytes
+due_by due waits = true
+due_by due (posts call) = due_posted due call.0
+
+-- A drain is posted only where it is due, behind the commands of all that was read, and where that is not broken.
+abbrev pub MayPost : Bool → List ℕ → List Command → Post → Type 0
+MayPost due stream passed (passes c) = Unit {0}
+MayPost due stream passed drains = (due ≡ true) × (passed ≡ flat_map command_in (items_of stream)) × (break_in stream ≡ None)
+MayPost due stream passed hangs_up = Unit {0}
+
+abbrev pub MayDo : Bool → List ℕ → List Command → Doing → Type 0
+MayDo due stream passed (reads bytes) = Unit {0}
+MayDo due stream passed waits = Unit {0}
+MayDo due stream passed (posts call) = MayPost due stream passed call.0
+
+-- so one after another, where this was read and these commands were passed on before
+abbrev pub InOrder : Bool → List ℕ → List Command → List Doing → Type 0
+InOrder due stream passed [] = Unit {0}
+InOrder due stream passed (doing ∷ doings) =
+    MayDo due stream passed doing
+    × InOrder (due_by due doing) (stream ++ read_by doing) (passed ++ flat_map passed_by (call_by doing)) doings
+
+abbrev pub has_wait : List Doing → Bool
+has_wait [] = false
+has_wait (reads bytes ∷ doings) = has_wait doings
+has_wait (waits ∷ doings) = true
+has_wait (posts call ∷ doings) = has_wait doings
+
+-- A call drains because the reader would block only where it ends so, or where the write behind that drain is cut short.
+abbrev pub WaitsAt : End → Bool → Type 0
+WaitsAt Closed waited = waited ≡ false
+WaitsAt Quiet waited = Unit {0}
+WaitsAt Stalled waited = Unit {0}
+WaitsAt (Fault n) waited = (n ≡ 40) ⊎ (waited ≡ false)
+
+-- What was read and posted, in its order: each drain but one for which the reader would block is posted behind a read of its own
+-- that gave bytes. A reader tells its bytes and not its reads, so this order is one that fits them.
+pub record DrainsInOrder (end : End) (stream : List ℕ) (given : List Item) (bytes : List ℕ) (calls : List Call) : Type 0 where
+  pub doings : List Doing
+  pub read : flat_map read_by doings ≡ bytes
+  pub posted : flat_map call_by doings ≡ calls
+  pub order : InOrder false stream (flat_map command_in given) doings
+  pub waited : WaitsAt end (has_wait doings)
+
 -- A call: it ran, and posted all commands of the frames of all that the session was fed.
 pub record ServedFrom (end : End) (stream : List ℕ) (given : List Item) (v v' : Hearing) (r r' w w' : Option (List ℕ)) (p p' : Option (List Posted)) : Type 0 where
   pub ran : RanFrom stream given v v' r r' w w' p p'
   pub all : given ++ ran.items ≡ items_of (stream ++ ran.bytes)
   pub last : EndsWith end ran.calls
+  pub drained : DrainsInOrder end stream given ran.bytes ran.calls
 
 abbrev pub Served : End → Hearing → Hearing → Option (List ℕ) → Option (List ℕ) → Option (List ℕ) → Option (List ℕ)
     → Option (List Posted) → Option (List Posted) → Type 0

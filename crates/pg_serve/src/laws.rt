@@ -1,6 +1,6 @@
 //! Laws of the world, as contracts of functions that do nothing: a caller that needs one calls it.
-ghost use Rattle.pg_serve.specs.Full.{InputsIsolate, SharedFrame};
-ghost use Rattle.std.specs.Prelude.{◌≡◌, ℕ, List, [], ◌++◌, ◌∷◌, Option, Some};
+ghost use Rattle.pg_serve.specs.Full.{InputsIsolate, SharedFrame, view_of};
+ghost use Rattle.std.specs.Prelude.{◌≡◌, ◌≤◌, ℕ, List, [], ◌++◌, ◌∷◌, Option, Some};
 ghost use Rattle.std.specs.List.{flat_map};
 ghost use mathlib.Core.List.{IsPrefix};
 ghost use Rattle.pg_ingest.specs.declared.run.End.{End};
@@ -20,8 +20,10 @@ ghost use Rattle.pg_serve.specs.Onward.{own_in, GoesOn};
 ghost use Rattle.pg_serve.specs.Telling.{Tells, HasTold};
 ghost use Rattle.pg_serve.specs.Delivery.{NoneDrains, ArePassed, Delivers, Hears, HasHeard};
 ghost use Rattle.pg_serve.specs.Sharing.{Call};
-ghost use Rattle.pg_serve.specs.Both.{DeliverAlike, DeliversIn};
-ghost use Rattle.pg_serve.specs.Others.{NeighboursChangeNothing};
+ghost use Rattle.pg_serve.specs.Both.{DecidedByViews, DeliverAlike, DeliversIn};
+ghost use Rattle.pg_serve.specs.Inputs.{Fact};
+ghost use Rattle.pg_serve.specs.Others.{adds_in, NeighboursChangeNothing};
+ghost use Rattle.pg_serve.specs.Framed.{FramesAreEvents, SameButUngranted};
 
 /// Two lists of inputs that give a subscriber equal views leave it alike, queue the same for it, and hand it the same bytes,
 /// where no memory is refused.
@@ -39,6 +41,18 @@ pub fn own_blocks_alone()
 /// adds subscribers more than 64 times.
 pub fn neighbours_change_nothing()
     ensures { NeighboursChangeNothing }
+{}
+
+/// The bytes of a data frame with a right CHK, by the configuration of their link, are one event: the measurement of just the
+/// frame's blocks (C37.118.2, 6.3).
+pub fn frames_are_events()
+    ensures { FramesAreEvents }
+{}
+
+/// Two lists of inputs that are the same, but for the bytes of data frames which differ in blocks that a subscriber is not
+/// granted, give it equal views, where they add subscribers at most 64 times.
+pub fn ungranted_bytes_change_nothing()
+    ensures { (u : ℕ) (is js : List Fact) → adds_in is ≤ 64 → SameButUngranted u is js → view_of u is ≡ view_of u js }
 {}
 
 /// Calls of `serve_session`, one after another, are one run from the first session to the last: so what is said of a call is
@@ -81,12 +95,16 @@ pub fn deliveries_go_on()
         → HasHeard u v' s x r r'' }
 {}
 
-/// Two services in which a subscriber sees the same give its sockets the same bytes. And what was delivered to it is what the
+/// Two services in which a subscriber sees the same give its sockets the same bytes, also where that is said of its views of
+/// their two histories alone. And what was delivered to it is what the
 /// private gateway of its view of the whole history hands out, also where that goes on behind the seat's last call: so what
 /// several threads delivered holds of one history.
 pub fn deliveries_agree()
     ensures alike { (u : ℕ) (s s' t t' : Known Event Reply) (left left' : List ℕ) (w w' x x' : Option (List ℕ))
         → Delivers u s s' [] left w w' → Delivers u t t' [] left' x x' → DeliverAlike u s s' t t' left left' w w' x x' }
+    ensures views { (u : ℕ) (s s' t t' : Known Event Reply) (left left' : List ℕ) (w w' x x' : Option (List ℕ))
+        → (one : Delivers u s s' [] left w w') → (other : Delivers u t t' [] left' x x')
+        → DecidedByViews u s s' t t' left left' w w' x x' one other }
     ensures whole { (history : List Call) (u : ℕ) (v v' : Known Event Reply) (left left' : List ℕ) (w w' : Option (List ℕ))
         → IsPrefix v'.seen history → Delivers u v v' left left' w w' → DeliversIn history u v v' left left' w w' }
 {}

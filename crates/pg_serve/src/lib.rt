@@ -20,8 +20,8 @@ pub use asked::event_of;
 pub use gate::{Named, SharedGate};
 pub use input::{Input, Note, Output};
 pub use laws::{
-    deliveries_agree, deliveries_go_on, equal_views_queue_alike, links_tell_on,
-    neighbours_change_nothing, own_blocks_alone, serving_goes_on,
+    deliveries_agree, deliveries_go_on, equal_views_queue_alike, frames_are_events, links_tell_on,
+    neighbours_change_nothing, own_blocks_alone, serving_goes_on, ungranted_bytes_change_nothing,
 };
 pub use seat_gate::SeatGate;
 pub use serve::serve_session;

@@ -1,11 +1,11 @@
 //! The loop of a session over any reader, writer and gate.
 
-ghost use Rattle.std.specs.Prelude.{◌≡◌, ◌<◌, ◌≤◌, ℕ, List, [], length, take, Option, Some, None, IfSome, IfNone, true};
+ghost use Rattle.std.specs.Prelude.{◌≡◌, ◌<◌, ◌≤◌, ◌||◌, ℕ, Bool, List, [], length, take, Option, Some, None, IfSome, IfNone, true, false};
 ghost use Rattle.std.specs.Io.KnownBytes.{Consumes, IsAtEnd};
 ghost use Rattle.pg_session.specs.Ready.{handed_len};
 ghost use Rattle.pg_ingest.specs.Ends.{is_cut};
 ghost use Rattle.pg_serve.specs.Serving.{Served, BreaksBy, EndsBy};
-ghost use Rattle.pg_serve.specs.Turned.{HasGivenAll, Turned, Writes, IsReadEnd, HangsUp};
+ghost use Rattle.pg_serve.specs.Turned.{HasGivenAll, is_closed, Turned, TurnedTo, Writes, IsReadEnd, HangsUp};
 
 use pg_gateway::{Event, Gate, Reply};
 use pg_ingest::End;
@@ -37,7 +37,7 @@ fn push_left<W: Write>(session: &mut Session, writer: &mut W) -> Option<End>
 
 /// Posts the commands of a subscriber's frames that are whole, and tells whether its bytes broke behind them.
 fn post_commands<G: Gate>(session: &mut Session, gate: &mut G) -> Option<Refusal>
-    ensures ran { (r w : Option (List ℕ)) → Turned None session.old session.new r r w w (G.posts gate.old) (G.posts gate.new) }
+    ensures ran { (r w : Option (List ℕ)) (due : Bool) → Turned None due due false session.old session.new r r w w (G.posts gate.old) (G.posts gate.new) }
     ensures given { HasGivenAll session.new }
     ensures breaks { BreaksBy result session.new }
     ensures room { length session.new.bytes.held < 65535 }
@@ -66,10 +66,13 @@ fn handed_size(out: Result<Drained, Refusal>) -> usize
     }
 }
 
-/// Posts a drain. What it hands out is left to write.
+/// Posts a drain, which is due or for which the reader would block. What it hands out is left to write.
 fn post_drain<G: Gate>(session: &mut Session, gate: &mut G)
     requires left { session.old.left ≡ [] }
-    ensures ran { (r w : Option (List ℕ)) → Turned (Some End.Quiet) session.old session.new r r w w (G.posts gate.old) (G.posts gate.new) }
+    requires given { HasGivenAll session.old }
+    requires whole { BreaksBy None session.old }
+    ensures ran { (r w : Option (List ℕ)) (due waited : Bool) → (due || waited) ≡ true
+        → Turned (Some End.Quiet) due false waited session.old session.new r r w w (G.posts gate.old) (G.posts gate.new) }
     ensures same { session.new ≡ record session.old { left = session.new.left } }
     ensures onward { G.goes_on gate.old gate.new }
 {
@@ -86,6 +89,7 @@ fn read_piece<R: Read>(reader: &mut R, buffer: &mut [u8]) -> Option<(usize, Opti
     ensures read { IfSome result (λ came. (came.0 ≤ length buffer.new)
         × Consumes (R.remaining reader.old) (R.remaining reader.new) (take came.0 buffer.new)) }
     ensures kind { IfSome result (λ came. IsReadEnd came.1) }
+    ensures some { IfSome result (λ came. came.1 ≡ None → 0 < came.0) }
     ensures ended { IfSome result (λ came. came.1 ≡ Some End.Closed → IsAtEnd (R.remaining reader.new)) }
     ensures failed { IfNone result (Consumes (R.remaining reader.old) (R.remaining reader.new) []) }
 {
@@ -95,6 +99,20 @@ fn read_piece<R: Read>(reader: &mut R, buffer: &mut [u8]) -> Option<(usize, Opti
         Err(error) => match error.kind() {
             ErrorKind::WouldBlock => Some((0, Some(End::Quiet))),
             _ => None,
+        },
+    }
+}
+
+/// Whether a read found that the reader has ended.
+fn is_closed(end: Option<End>) -> bool
+    ensures value { result ≡ is_closed end }
+    ensures closed { result ≡ true → end ≡ Some End.Closed }
+{
+    match end {
+        None => false,
+        Some(end) => match end {
+            End::Closed => true,
+            End::Quiet | End::Stalled | End::Fault(_) => false,
         },
     }
 }
@@ -110,7 +128,7 @@ fn turn<R: Read, W: Write, G: Gate>(
 ) -> Option<End>
     requires room { length session.old.bytes.held < 65535 }
     requires given { HasGivenAll session.old }
-    ensures ran { Turned result session.old session.new (R.remaining reader.old) (R.remaining reader.new)
+    ensures ran { TurnedTo result session.old session.new (R.remaining reader.old) (R.remaining reader.new)
         (W.contents writer.old) (W.contents writer.new) (G.posts gate.old) (G.posts gate.new) }
     ensures room { length session.new.bytes.held < 65535 }
     ensures given { HasGivenAll session.new }
@@ -132,7 +150,7 @@ fn turn<R: Read, W: Write, G: Gate>(
     if let Some(refusal) = post_commands(session, gate) {
         return Some(End::Fault(refusal.number()));
     }
-    if let Some(End::Closed) = end {
+    if is_closed(end) {
         return Some(End::Closed);
     }
     post_drain(session, gate);
@@ -150,7 +168,7 @@ fn serve_turns<R: Read, W: Write, G: Gate>(
     gate: &mut G,
     turns: u64,
 ) -> End
-    ensures ran { Turned (Some result) session.old session.new (R.remaining reader.old) (R.remaining reader.new)
+    ensures ran { TurnedTo (Some result) session.old session.new (R.remaining reader.old) (R.remaining reader.new)
         (W.contents writer.old) (W.contents writer.new) (G.posts gate.old) (G.posts gate.new) }
     ensures given { HasGivenAll session.new }
     ensures ends { 0 < turns → EndsBy result session.new }
@@ -186,7 +204,8 @@ pub fn serve_session<R: Read, W: Write, G: Gate>(
     gate: &mut G,
     turns: u64,
 ) -> End
-    // The commands of the bytes that were read are posted, each once and in order, and what the drains handed out is written.
+    // The commands of the bytes that were read are posted, each once and in order, and what the drains handed out is written. The
+    // reads, commands and drains lie in an order in which each drain is due.
     ensures served { Served result session.old session.new (R.remaining reader.old) (R.remaining reader.new)
         (W.contents writer.old) (W.contents writer.new) (G.posts gate.old) (G.posts gate.new) }
     // All is written, but where a write was cut short; and nothing broke, but where the call ends by the break.

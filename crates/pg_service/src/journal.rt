@@ -1,5 +1,6 @@
 //! What the service notes of what it meets.
 
+use crate::asked::Asked;
 use log::{Level, LevelFilter};
 use pg_ingest::End;
 use pg_wire::{PmuId, Refusal, SubId};
@@ -83,10 +84,19 @@ pub enum Notice {
     Shown = 33,
     /// Lines are taken at the control socket.
     Opened = 34,
+    /// A subscriber was hung up, since another connection of it took its place.
+    Replaced = 35,
+    /// An edit of a setup that was read again was refused.
+    NotDone = 36,
+    /// The port of a setup that was read again could not be bound.
+    NotBound = 37,
 }
 
+/// The PMUs of a configuration at most.
+pub(crate) const MOST_PMUS: usize = 16;
+
 /// How many kinds of notices there are.
-const KINDS: usize = 35;
+const KINDS: usize = 38;
 
 impl Notice {
     /// The kinds that are counted where nobody is named, so that the log tells how often they were met.
@@ -121,12 +131,15 @@ impl Notice {
             | Notice::Gap
             | Notice::Untold
             | Notice::Unanswered
+            | Notice::NotDone
+            | Notice::NotBound
             | Notice::NotReloaded => Level::Warn,
             Notice::Called
             | Notice::Made
             | Notice::Connected
             | Notice::GuestEnded
             | Notice::HungUp
+            | Notice::Replaced
             | Notice::Announced
             | Notice::Started
             | Notice::Stopped
@@ -164,10 +177,12 @@ pub enum Detail {
     Ended(End),
     /// What the system said.
     System(ErrorKind),
-    /// DATA_RATE of the configuration that was announced.
-    Rate(i16),
+    /// The configuration that was announced: its DATA_RATE, and the IDCODEs of its PMUs in their order, 0 behind the last.
+    Config(i16, [u16; MOST_PMUS]),
     /// Of this stream.
     Stream(u16),
+    /// What was asked for, and why it was refused.
+    Edit(Asked, Refusal),
 }
 
 /// What was met, for the log.

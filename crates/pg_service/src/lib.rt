@@ -3,6 +3,7 @@
 //! clocks, by state machines over any reader, writer, gate and time. All of it is a rule of this project.
 #![tactic(auto)]
 
+mod asked;
 mod board;
 mod counted;
 mod digest;
@@ -18,14 +19,17 @@ mod patience;
 mod plan;
 mod ports;
 mod registered;
+mod rota;
 mod source;
 mod sources;
 mod stamps;
+mod switches;
 mod ticker;
 mod waiting;
 mod watched;
 mod words;
 
+pub use asked::Asked;
 pub use board::{Board, PortReport, Reach, Reports, SourceReport};
 pub use counted::{Counted, Never};
 pub use digest::Digest;
@@ -40,9 +44,11 @@ pub use patience::{Overdue, Patience};
 pub use plan::{CallPlan, Due, Phase};
 pub use ports::{Port, PortWorker};
 pub use registered::{After, Change, Registered};
+pub use rota::Rota;
 pub use source::{SourceLine, Turn};
 pub use sources::{Address, Dial, Neighbours, REASONS, SourceWorker};
 pub use stamps::Stamps;
+pub use switches::Switches;
 pub use ticker::Ticker;
 pub use waiting::Waiting;
 pub use watched::{Guarding, Seen, Watched};

@@ -1,6 +1,6 @@
 //! Workers that serve subscribers.
 
-ghost use Rattle.std.specs.Prelude.{◌≡◌, None, option_map};
+ghost use Rattle.std.specs.Prelude.{◌≡◌, None, option_map, true};
 
 use crate::board::{Board, PortReport};
 use crate::counted::Counted;
@@ -11,11 +11,11 @@ use crate::mail::{Mailbox, PortOrder};
 use crate::patience::Overdue;
 use crate::sources::READS;
 use crate::stamps::{Aged, Stamps};
+use crate::switches::Switches;
 use crate::waiting::{PATIENCE_MS, Waiting, sooner};
 use crate::watched::Watched;
 use mio::net::{TcpListener, TcpStream};
 use mio::{Interest, Poll, Token};
-use pg_command::Word;
 use pg_gateway::Gate;
 use pg_limits::Budget;
 use pg_serve::{Named, SharedGate, Work};
@@ -32,6 +32,9 @@ use std::{io, mem};
 
 /// The connections that one turn accepts at most. The others wait for the next turn.
 const ACCEPTED: u32 = 16;
+
+/// The streams of a subscriber at most.
+const STREAMS: usize = 8;
 
 /// When it is tried again to accept, where the system could not (own rule): it does not name a listener twice for one who waits.
 const RETRY_MS: u64 = 1_000;
@@ -92,6 +95,13 @@ impl Port {
         self.door.sub()
     }
 
+    /// Whether it is this subscriber's.
+    fn is_of(&self, sub: SubId) -> bool
+        ensures { result ≡ true → self.now.sub ≡ sub }
+    {
+        self.door.sub() == sub
+    }
+
     /// Where it listens.
     ///
     /// # Errors
@@ -125,6 +135,17 @@ pub struct PortWorker<'a, R: Wait + Net + Clock, N: Named> {
     now: Instant,
 }
 
+impl<'a, R: Wait + Net + Clock, N: Named> Model for PortWorker<'a, R, N> {
+    ghost use Rattle.pg_gateway.specs.declared.event.Event.{Event};
+    ghost use Rattle.pg_gateway.specs.declared.event.Reply.{Reply};
+    ghost use Rattle.pg_turn.specs.Known.{Known};
+
+    ghost Value = { Known Event Reply };
+
+    // It is seen as the seat of its gate.
+    ghost view = { λ w. w.gate.gate };
+}
+
 impl<'a, R: Wait + Net + Clock, N: Named> PortWorker<'a, R, N> {
     /// A worker without ports.
     pub fn new(
@@ -136,7 +157,9 @@ impl<'a, R: Wait + Net + Clock, N: Named> PortWorker<'a, R, N> {
         journal: &'a Journal,
         board: &'a Board,
         now: Instant,
-    ) -> PortWorker<'a, R, N> {
+    ) -> PortWorker<'a, R, N>
+        ensures seat { result ≡ gate.entry }
+    {
         PortWorker {
             rt,
             alloc,
@@ -177,7 +200,10 @@ impl<'a, R: Wait + Net + Clock, N: Named> PortWorker<'a, R, N> {
     }
 
     /// Its gate. All its sockets are closed.
-    pub fn into_gate(self) -> SharedGate<'a, R, N> {
+    pub fn into_gate(self) -> SharedGate<'a, R, N>
+        // With its own seat.
+        ensures seat { result ≡ self.entry }
+    {
         let PortWorker { gate, .. } = self;
         gate.into_inner()
     }
@@ -268,7 +294,7 @@ impl<'a, R: Wait + Net + Clock, N: Named> PortWorker<'a, R, N> {
         self.hang_up(sub);
         let mut is_closed = false;
         for port in self.ports.iter_mut() {
-            if port.as_ref().is_some_and(|it| it.door.sub() == sub) {
+            if port.as_ref().is_some_and(|it| it.is_of(sub)) {
                 *port = None;
                 is_closed = true;
             }
@@ -283,7 +309,7 @@ impl<'a, R: Wait + Net + Clock, N: Named> PortWorker<'a, R, N> {
     /// Hangs up who has connected as this subscriber.
     fn hang_up(&mut self, sub: SubId) {
         for port in self.ports.iter_mut().flatten() {
-            if port.door.sub() == sub && port.door.hang_up(&mut self.gate) {
+            if port.is_of(sub) && port.door.hang_up(&mut self.gate) {
                 port.part(self.now);
                 let entry = port.entry(Notice::HungUp, Detail::Nothing);
                 self.journal.tell(self.rt, entry);
@@ -505,13 +531,23 @@ impl Port {
             entry.times = seen.gap;
             journal.tell(rt, entry);
         }
-        if let Some(command) = seen.switched {
-            let notice = match Word::of(command.word) {
-                Some(Word::StartData) => Notice::Started,
-                Some(Word::StopData) => Notice::Stopped,
-                _ => return,
+        if !seen.switched.is_empty() {
+            self.tell_switched(rt, &seen.switched, journal);
+        }
+    }
+
+    /// Tells which streams were started and stopped.
+    fn tell_switched<R: Wait>(&self, rt: &R, switched: &Switches, journal: &Journal) {
+        for place in 0..STREAMS {
+            let Some((stream, is_on)) = switched.at(place) else {
+                return;
             };
-            journal.tell(rt, self.entry(notice, Detail::Stream(command.stream)));
+            let notice = if is_on {
+                Notice::Started
+            } else {
+                Notice::Stopped
+            };
+            journal.tell(rt, self.entry(notice, Detail::Stream(stream)));
         }
     }
 
@@ -530,6 +566,16 @@ impl Port {
                 false
             }
         }
+    }
+
+    /// Closes the connection that stood, since another takes its place.
+    fn give_way<R: Wait>(&mut self, rt: &R, journal: &Journal, now: Instant) {
+        let detail = match self.peer {
+            Some(peer) => Detail::At(peer),
+            None => Detail::Nothing,
+        };
+        self.part(now);
+        journal.tell(rt, self.entry(Notice::Replaced, detail));
     }
 
     /// Accepts who wants to connect, and tells whether more may want to.
@@ -577,7 +623,10 @@ impl Port {
         address: SocketAddr,
     ) {
         match self.door.knock(alloc, gate, host_of(address), now) {
-            Knock::Welcome { .. } => {
+            Knock::Welcome { replaced } => {
+                if replaced {
+                    self.give_way(rt, journal, now);
+                }
                 self.part(now);
                 let both = Interest::READABLE | Interest::WRITABLE;
                 let token = connected(place);
@@ -598,7 +647,7 @@ impl Port {
             }
             Knock::Refused { refusal, replaced } => {
                 if replaced {
-                    self.part(now);
+                    self.give_way(rt, journal, now);
                 }
                 journal.tell(rt, self.entry(Notice::Refused, Detail::Because(refusal)));
             }

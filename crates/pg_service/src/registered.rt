@@ -1,5 +1,6 @@
 //! Which sources have PMUs, and what workers are to be told after an edit.
 
+use crate::rota::Rota;
 use pg_gateway::{Edit, Reply};
 use pg_wire::{PmuId, PmuKey, Refusal, SubId};
 use std::alloc::Global;
@@ -51,9 +52,13 @@ impl Change {
     }
 }
 
-/// The PMUs and subscribers that are registered at the gateway, by the edits that were done (own rule).
+/// The PMUs and subscribers that are registered at the gateway, by the edits that were done, and whose workers serve them (own rule).
 #[derive(Drop)]
 pub struct Registered {
+    /// Which workers call which sources.
+    pub callers: Rota,
+    /// Which workers serve which subscribers.
+    pub servers: Rota,
     keys: Vec<PmuKey>,
     subs: Vec<SubId>,
 }
@@ -66,6 +71,8 @@ impl Registered {
     /// `NoMemory`.
     pub fn new(alloc: Global) -> Result<Registered, Refusal> {
         Ok(Registered {
+            callers: Rota::new(alloc),
+            servers: Rota::new(alloc),
             keys: Vec::with_capacity(alloc, MOST)?,
             subs: Vec::with_capacity(alloc, MOST_SUBS)?,
         })

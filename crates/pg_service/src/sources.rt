@@ -1,5 +1,7 @@
 //! Workers that call sources.
 
+ghost use Rattle.std.specs.Prelude.{◌≡◌, IfSome, Some, option_map, slice_get};
+
 use crate::board::{Board, Reach, SourceReport};
 use crate::finder::Lookup;
 use crate::journal::{Detail, Entry, Journal, Notice, Whom};
@@ -17,6 +19,7 @@ use pg_serve::{Named, SharedGate, Work};
 use pg_wire::{PmuId, Refusal};
 use std::alloc::{AllocError, Global};
 use std::io::ErrorKind;
+use std::marker::Model;
 use std::mem;
 use std::net::{Net, SocketAddr};
 use std::rt::Clock;
@@ -108,6 +111,14 @@ struct Source {
     heard: Option<Instant>,
 }
 
+/// The place of this source, if it is one of these.
+fn place_of(sources: &[Source], id: PmuId) -> Option<usize>
+    // It is a place of its own.
+    ensures own { IfSome result (λ at. option_map (λ s. s.line.link.source) (slice_get sources.now at) ≡ Some id) }
+{
+    sources.iter().position(|it| it.line.source() == id)
+}
+
 /// Whom a worker tells what: the subscribers' workers, whom it wakes where frames were made, and who looks up names.
 #[derive(Clone, Copy)]
 pub struct Neighbours<'a> {
@@ -156,6 +167,17 @@ pub struct SourceWorker<'a, R: Wait + Net + Clock, N: Named> {
     clock: u64,
 }
 
+impl<'a, R: Wait + Net + Clock, N: Named> Model for SourceWorker<'a, R, N> {
+    ghost use Rattle.pg_gateway.specs.declared.event.Event.{Event};
+    ghost use Rattle.pg_gateway.specs.declared.event.Reply.{Reply};
+    ghost use Rattle.pg_turn.specs.Known.{Known};
+
+    ghost Value = { Known Event Reply };
+
+    // It is seen as the seat of its gate.
+    ghost view = { λ w. w.gate.gate };
+}
+
 impl<'a, R: Wait + Net + Clock, N: Named> SourceWorker<'a, R, N> {
     /// A worker without sources, which has this number among those of its kind.
     pub fn new(
@@ -167,7 +189,9 @@ impl<'a, R: Wait + Net + Clock, N: Named> SourceWorker<'a, R, N> {
         mailbox: &'a Mailbox<SourceOrder>,
         neighbours: Neighbours<'a>,
         now: Instant,
-    ) -> SourceWorker<'a, R, N> {
+    ) -> SourceWorker<'a, R, N>
+        ensures seat { result ≡ gate.entry }
+    {
         SourceWorker {
             rt,
             alloc,
@@ -201,11 +225,7 @@ impl<'a, R: Wait + Net + Clock, N: Named> SourceWorker<'a, R, N> {
         self.ready.reserve(self.sources.len() + 1)?;
         self.serving.reserve(self.sources.len() + 1)?;
         self.due = Some(self.now);
-        if let Some(old) = self
-            .sources
-            .iter_mut()
-            .find(|it| it.line.source() == source)
-        {
+        if let Some(old) = self.source_mut(source) {
             old.line = line;
             old.address = Some(address);
             old.stream = None;
@@ -228,7 +248,10 @@ impl<'a, R: Wait + Net + Clock, N: Named> SourceWorker<'a, R, N> {
     }
 
     /// Its gate. All its sockets are closed.
-    pub fn into_gate(self) -> SharedGate<'a, R, N> {
+    pub fn into_gate(self) -> SharedGate<'a, R, N>
+        // With its own seat.
+        ensures seat { result ≡ self.entry }
+    {
         let SourceWorker { gate, .. } = self;
         gate.into_inner()
     }
@@ -272,6 +295,12 @@ impl<'a, R: Wait + Net + Clock, N: Named> SourceWorker<'a, R, N> {
         }
     }
 
+    /// This source, if it is one of its own.
+    fn source_mut(&mut self, id: PmuId) -> Option<&mut Source> {
+        let place = place_of(&self.sources, id)?;
+        self.sources.get_mut(place)
+    }
+
     /// Does what it was told.
     fn obey_all(&mut self) {
         for order in self.mailbox.take(self.rt, self.alloc) {
@@ -286,26 +315,17 @@ impl<'a, R: Wait + Net + Clock, N: Named> SourceWorker<'a, R, N> {
                     self.note(Notice::MailFault);
                 }
             }
-            SourceOrder::Undial(id) => {
-                if let Some(source) = self.sources.iter_mut().find(|it| it.line.source() == id) {
-                    source.line.rest();
-                    source.stream = None;
-                    if source.address.take().is_some() {
-                        let entry = source.entry(Notice::Undialed, Detail::Nothing);
-                        self.neighbours.journal.tell(self.rt, entry);
-                    }
-                }
-            }
+            SourceOrder::Undial(id) => self.undial(id),
             SourceOrder::Renew(id) => {
-                if let Some(source) = self.sources.iter_mut().find(|it| it.line.source() == id) {
-                    source.renew(self.now);
-                    self.due = Some(self.now);
+                let now = self.now;
+                if let Some(source) = self.source_mut(id) {
+                    source.renew(now);
+                    self.due = Some(now);
                 }
             }
             SourceOrder::Rest(id) => {
-                if let Some(source) = self.sources.iter_mut().find(|it| it.line.source() == id) {
-                    source.line.rest();
-                    source.stream = None;
+                if let Some(source) = self.source_mut(id) {
+                    source.rest();
                 }
             }
             SourceOrder::Found(id, address) => self.connect_found(id, address),
@@ -313,10 +333,25 @@ impl<'a, R: Wait + Net + Clock, N: Named> SourceWorker<'a, R, N> {
         }
     }
 
-    /// Tells at the board how its sources stand.
+    /// This source is called no longer.
+    fn undial(&mut self, id: PmuId) {
+        let Some(source) = self.source_mut(id) else {
+            return;
+        };
+        source.rest();
+        if source.address.take().is_some() {
+            let entry = source.entry(Notice::Undialed, Detail::Nothing);
+            self.neighbours.journal.tell(self.rt, entry);
+        }
+    }
+
+    /// Tells at the board how its sources stand. One that it calls no longer may be another worker's by now, and is left out.
     fn report(&self, asking: u64) {
         let mut told = Vec::new(self.alloc);
         for source in &self.sources {
+            if source.address.is_none() {
+                continue;
+            }
             let is_told = match source.report(self.alloc, self.now) {
                 Ok(report) => told.push(report).is_ok(),
                 Err(_) => false,
@@ -483,7 +518,8 @@ impl Source {
         if let Some(rate) = seen.rate {
             if !self.has_announced {
                 self.has_announced = true;
-                journal.tell(rt, self.entry(Notice::Announced, Detail::Rate(rate)));
+                let config = Detail::Config(rate, seen.pmus);
+                journal.tell(rt, self.entry(Notice::Announced, config));
             }
         }
         if seen.far > 0 {
@@ -652,6 +688,12 @@ impl Source {
     fn end(&mut self, now: Instant) {
         self.stream = None;
         self.line.ended(now);
+    }
+
+    /// Ends the connection, and calls no more.
+    fn rest(&mut self) {
+        self.stream = None;
+        self.line.rest();
     }
 
     /// Ends the connection, and calls anew.

@@ -1,10 +1,13 @@
 //! The clock's ticks.
 
+ghost use Rattle.std.specs.Prelude.{◌≡◌};
+
 use crate::journal::Notice;
 use crate::sources::Neighbours;
 use crate::watched::Watched;
 use pg_gateway::{Event, Gate};
 use pg_serve::{Named, SharedGate, Work};
+use std::marker::Model;
 use std::rt::Clock;
 use std::sync::Wait;
 use std::thread;
@@ -19,6 +22,17 @@ pub struct Ticker<'a, R: Wait + Clock, N: Named> {
     neighbours: Neighbours<'a>,
 }
 
+impl<'a, R: Wait + Clock, N: Named> Model for Ticker<'a, R, N> {
+    ghost use Rattle.pg_gateway.specs.declared.event.Event.{Event};
+    ghost use Rattle.pg_gateway.specs.declared.event.Reply.{Reply};
+    ghost use Rattle.pg_turn.specs.Known.{Known};
+
+    ghost Value = { Known Event Reply };
+
+    // It is seen as the seat of its gate.
+    ghost view = { λ w. w.gate.gate };
+}
+
 impl<'a, R: Wait + Clock, N: Named> Ticker<'a, R, N> {
     /// A ticker that waits so long before each tick, and wakes the subscribers' workers where a tick made frames.
     pub fn new(
@@ -26,7 +40,9 @@ impl<'a, R: Wait + Clock, N: Named> Ticker<'a, R, N> {
         gate: SharedGate<'a, R, N>,
         wait: Duration,
         neighbours: Neighbours<'a>,
-    ) -> Ticker<'a, R, N> {
+    ) -> Ticker<'a, R, N>
+        ensures seat { result ≡ gate.entry }
+    {
         Ticker {
             rt,
             gate: Watched::new(gate),
@@ -36,7 +52,10 @@ impl<'a, R: Wait + Clock, N: Named> Ticker<'a, R, N> {
     }
 
     /// Its gate.
-    pub fn into_gate(self) -> SharedGate<'a, R, N> {
+    pub fn into_gate(self) -> SharedGate<'a, R, N>
+        // With its own seat.
+        ensures seat { result ≡ self.entry }
+    {
         let Ticker { gate, .. } = self;
         gate.into_inner()
     }

@@ -4,7 +4,10 @@ ghost use Rattle.std.specs.Prelude.{◌≡◌, None, true, false};
 ghost use Rattle.pg_gateway.specs.Posting.{Answers};
 ghost use Rattle.pg_service.specs.Posts.{through};
 
+use crate::journal::MOST_PMUS;
+use crate::switches::Switches;
 use pg_command::{Command, Word};
+use pg_config::SourceConfig;
 use pg_data::DataFrame;
 use pg_gateway::{Event, Gate, Reply};
 use pg_limits::ClockGuard;
@@ -20,14 +23,16 @@ pub struct Seen {
     pub events: u64,
     /// DATA_RATE of the last announcement, if there was one.
     pub rate: Option<i16>,
+    /// The IDCODEs of its PMUs in their order, 0 behind the last.
+    pub pmus: [u16; MOST_PMUS],
     /// The measurements that were too far from this machine's clock.
     pub far: u64,
     /// The bytes that the last drain handed out.
     pub handed: usize,
     /// The frames that were dropped before those that were handed out.
     pub gap: u64,
-    /// The last command that started or stopped a stream, if there was one.
-    pub switched: Option<Command>,
+    /// The streams that commands started or stopped.
+    pub switched: Switches,
 }
 
 impl Seen {
@@ -37,12 +42,32 @@ impl Seen {
             made: 0,
             events: 0,
             rate: None,
+            pmus: [0; MOST_PMUS],
             far: 0,
             handed: 0,
             gap: 0,
-            switched: None,
+            switched: Switches::none(),
         }
     }
+}
+
+impl Seen {
+    /// Keeps that a command switched its stream, if it did.
+    fn note_switch(&mut self, switch: Option<Command>) {
+        if let Some(command) = switch {
+            let is_on = command.word == Word::StartData.number();
+            self.switched.switch(command.stream, is_on);
+        }
+    }
+}
+
+/// The IDCODEs of the PMUs of a configuration in their order, 0 behind the last.
+fn pmus_of(config: &SourceConfig) -> [u16; MOST_PMUS] {
+    let mut pmus = [0; MOST_PMUS];
+    for (place, part) in pmus.iter_mut().zip(config.parts.iter()) {
+        *place = part.id();
+    }
+    pmus
 }
 
 /// A measurement's distance from the clock is looked at.
@@ -147,6 +172,7 @@ impl<G: Gate> Watched<G> {
                     Some(part) => Some(part.rate),
                     None => None,
                 };
+                self.seen.pmus = pmus_of(config);
                 false
             }
             Event::Measure(frame) => {
@@ -180,7 +206,7 @@ impl<G: Gate> Gate for Watched<G> {
         match &reply {
             Reply::Done { made, .. } => {
                 self.seen.made = self.seen.made.saturating_add(*made);
-                self.seen.switched = switch.or(self.seen.switched);
+                self.seen.note_switch(switch);
             }
             Reply::Drained { out, .. } => {
                 self.seen.handed = 0;

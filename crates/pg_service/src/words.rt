@@ -1,6 +1,7 @@
 //! What the log says.
 
-use crate::journal::{Detail, Entry, Notice, Whom};
+use crate::asked::{why, write_asked};
+use crate::journal::{Detail, Entry, MOST_PMUS, Notice, Whom};
 use pg_ingest::End;
 use pg_wire::Refusal;
 use std::fmt;
@@ -54,6 +55,10 @@ fn said(notice: Notice) -> &'static str {
         Notice::Stalled => "hung up, since its socket took nothing for as long as `stall` says",
         Notice::Idle => "hung up, since nothing went either way for as long as `idle` says",
         Notice::HungUp => "hung up by an order",
+        Notice::Replaced => "hung up, since another connection takes its place",
+        Notice::NotBound => "its port can't be bound",
+        // What is known beside says it.
+        Notice::NotDone => "",
         Notice::NotAccepted => "who wants to connect can't be accepted; tried again in a second",
         Notice::SocketFault => "a socket can't be waited for, or an option of it not be set",
         Notice::PollFault => "the system does not tell which sockets are ready",
@@ -100,9 +105,29 @@ fn write_detail<W: fmt::Write>(
             let told = system_words(*kind);
             write!(f, ": {told}")
         }
-        Detail::Rate(rate) => write!(f, ", DATA_RATE {rate}"),
+        Detail::Config(rate, pmus) => write_config(*rate, pmus, f),
         Detail::Stream(stream) => write!(f, " {stream}"),
+        Detail::Edit(asked, refusal) => {
+            write_asked(*asked, f)?;
+            let (why, number, name) = (why(*refusal), refusal.number(), refusal.name());
+            write!(f, ": {why} ({number} {name})")
+        }
     }
+}
+
+/// The rate and the PMUs of a configuration.
+fn write_config<W: fmt::Write>(
+    rate: i16,
+    pmus: &[u16; MOST_PMUS],
+    f: &mut fmt::Formatter<W>,
+) -> fmt::Result {
+    write!(f, ", DATA_RATE {rate}, PMUs")?;
+    for pmu in pmus {
+        if *pmu != 0 {
+            write!(f, " {pmu}")?;
+        }
+    }
+    Ok(())
 }
 
 /// A reason, by its number and name.
@@ -135,7 +160,7 @@ fn write_end<W: fmt::Write>(end: End, f: &mut fmt::Formatter<W>) -> fmt::Result 
 pub fn system_words(kind: ErrorKind) -> &'static str {
     match kind {
         ErrorKind::NotFound => "there is no such file",
-        ErrorKind::AddrInUse => "the address is in use",
+        ErrorKind::AddrInUse => "address in use",
         ErrorKind::AddrNotAvailable => "this machine has no such address",
         ErrorKind::ConnectionRefused => "connection refused",
         ErrorKind::ConnectionReset => "connection reset",

@@ -7,6 +7,8 @@ mod chain;
 #[cfg(test)]
 mod doors;
 #[cfg(test)]
+mod fairness;
+#[cfg(test)]
 mod frames;
 #[cfg(test)]
 mod logging;

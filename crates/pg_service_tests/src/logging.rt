@@ -1,7 +1,7 @@
 //! What the log says, and how often.
-use crate::frames::{source, subscriber};
+use crate::frames::{key, source, subscriber};
 use pg_ingest::End;
-use pg_service::{Detail, Digest, Entry, Journal, Notice, Whom};
+use pg_service::{Asked, Detail, Digest, Entry, Journal, Notice, Whom};
 use pg_wire::Refusal;
 use std::alloc::Global;
 use std::io::ErrorKind;
@@ -23,6 +23,24 @@ fn times(told: Option<Entry>) -> u64 {
     match told {
         Some(entry) => entry.times,
         None => 0,
+    }
+}
+
+/// Whether it is told that so much could not be told.
+fn is_untold(told: Option<Entry>, times: u64) -> bool {
+    match told {
+        Some(entry) => {
+            entry.notice == Notice::Untold && entry.whom == Whom::Nobody && entry.times == times
+        }
+        None => false,
+    }
+}
+
+/// Whether it is told that so many frames were ignored for this reason.
+fn is_ignored(told: Option<Entry>, reason: Refusal, times: u64) -> bool {
+    match told {
+        Some(entry) => entry.detail == Detail::Because(reason) && entry.times == times,
+        None => false,
     }
 }
 
@@ -90,10 +108,8 @@ fn reasons_are_told_apart(rt: HostRuntime) {
     assert!(rt; digest.met(ignored(Refusal::BadCheck), 2).is_none());
     assert!(rt; digest.met(ignored(Refusal::BadCheck), 3).is_none());
     assert!(rt; digest.met(ignored(Refusal::StaleConfig), 4).is_none());
-    let first = digest.due(60_001).expect(&rt, "the first reason");
-    assert!(rt; first.detail == Detail::Because(Refusal::BadCheck) && first.times == 2);
-    let second = digest.due(60_001).expect(&rt, "the other reason");
-    assert!(rt; second.detail == Detail::Because(Refusal::StaleConfig) && second.times == 1);
+    assert!(rt; is_ignored(digest.due(60_001), Refusal::BadCheck, 2));
+    assert!(rt; is_ignored(digest.due(60_001), Refusal::StaleConfig, 1));
     let started = |stream| of_subscriber(&rt, 2, Notice::Started, Detail::Stream(stream));
     assert!(rt; times(digest.met(started(101), 0)) == 1);
     assert!(rt; times(digest.met(started(102), 0)) == 1);
@@ -110,8 +126,7 @@ fn too_many_kinds(rt: HostRuntime) {
     let more = || of_subscriber(&rt, 2_000, Notice::Connected, Detail::Nothing);
     assert!(rt; digest.met(more(), 0).is_none());
     assert!(rt; digest.met(more(), 500).is_none());
-    let told = digest.due(600).expect(&rt, "what was not told");
-    assert!(rt; told.notice == Notice::Untold && told.times == 2);
+    assert!(rt; is_untold(digest.due(600), 2));
     assert!(rt; times(digest.met(more(), 1_000)) == 1);
 }
 
@@ -121,8 +136,7 @@ fn missed_lines(rt: HostRuntime) {
     let mut digest = Digest::new(rt.alloc());
     digest.missed(2);
     digest.missed(3);
-    let told = digest.due(0).expect(&rt, "what was not told");
-    assert!(rt; told.notice == Notice::Untold && told.whom == Whom::Nobody && told.times == 5);
+    assert!(rt; is_untold(digest.due(0), 5));
     assert!(rt; digest.due(0).is_none());
 }
 
@@ -162,6 +176,21 @@ fn entries_are_bounded(rt: HostRuntime) {
     assert!(rt; journal.count(Notice::Connected) == 1_030 && journal.count(Notice::Untold) == 6);
 }
 
+/// An edit that is refused is told with whom it concerns, what was asked for, and why.
+#[test]
+fn lines_of_refused_edits(rt: HostRuntime) {
+    let alloc = rt.alloc();
+    let asked = Detail::Edit(Asked::Revoke(key(&rt, 9)), Refusal::NotGranted);
+    let told = line(&rt, alloc, &of_subscriber(&rt, 20, Notice::NotDone, asked));
+    let expected =
+        "subscriber 20: the grant of PMU 9/9 can't be revoked: it has no such grant (35 NotGranted)";
+    assert!(rt; told.as_str() == expected);
+    let asked = Detail::Edit(Asked::AddPmu(source(&rt, 9)), Refusal::PmuExists);
+    let told = line(&rt, alloc, &of_source(&rt, Notice::NotDone, asked));
+    let expected = "source 7: PMU 9 can't be registered: it is registered already (24 PmuExists)";
+    assert!(rt; told.as_str() == expected);
+}
+
 /// What is said of each.
 #[test]
 fn lines_of_the_log(rt: HostRuntime) {
@@ -178,13 +207,12 @@ fn lines_of_the_log(rt: HostRuntime) {
             "source 7: the call failed; it is called again: connection refused"
         )
     );
-    let announced = of_source(&rt, Notice::Announced, Detail::Rate(-2));
-    assert!(rt;
-        says(
-            announced,
-            "source 7: announced its configuration, DATA_RATE -2"
-        )
-    );
+    let mut pmus = [0; 16];
+    pmus[0] = 11;
+    pmus[1] = 12;
+    let announced = of_source(&rt, Notice::Announced, Detail::Config(-2, pmus));
+    let expected = "source 7: announced its configuration, DATA_RATE -2, PMUs 11 12";
+    assert!(rt; says(announced, expected));
     let ended = of_source(&rt, Notice::SourceEnded, Detail::Ended(End::Closed));
     let expected = "source 7: the connection ended; it is called again: closed by the other side";
     assert!(rt; says(ended, expected));
@@ -205,6 +233,10 @@ fn lines_of_the_log(rt: HostRuntime) {
     assert!(rt; says(ended, expected));
     let started = of_subscriber(&rt, 20, Notice::Started, Detail::Stream(101));
     assert!(rt; says(started, "subscriber 20: started stream 101"));
+    let replaced = of_subscriber(&rt, 20, Notice::Replaced, Detail::At(host));
+    let expected =
+        "subscriber 20: hung up, since another connection takes its place: 10.1.2.3:4712";
+    assert!(rt; says(replaced, expected));
     let mut gap = of_subscriber(&rt, 20, Notice::Gap, Detail::Nothing);
     gap.times = 12;
     let expected = "subscriber 20: frames were dropped before those that are handed out: 12 frames";

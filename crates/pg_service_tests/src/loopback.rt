@@ -28,10 +28,10 @@ use std::thread::Threads;
 use std::time::{Duration, Instant};
 
 /// PMU 9's CFG-2 and its data frame.
-const CONFIG_9: &[u8] = b"\xAA\x32\0\x4A\0\x09\0\0\0\x64\0\0\0\0\0\x0F\x42\x40\0\x01\
+pub(crate) const CONFIG_9: &[u8] = b"\xAA\x32\0\x4A\0\x09\0\0\0\x64\0\0\0\0\0\x0F\x42\x40\0\x01\
     PMU 9           \0\x09\0\0\0\x01\0\0\0\0VA              \0\0\0\x01\0\0\0\0\0\x1E\x82\xA7";
 
-const DATA_9: &[u8] =
+pub(crate) const DATA_9: &[u8] =
     b"\xAA\x02\0\x1A\0\x09\0\0\0\x64\0\x01\x04\x6B\0\0\x30\0\x40\0\0\0\0\0\x89\x87";
 
 /// Commands 5 and 2 for stream 2000.

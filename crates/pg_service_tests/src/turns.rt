@@ -27,11 +27,11 @@ const ASKED_7: &[u8] = b"\xAA\x42\0\x12\0\x07\0\0\0\0\x0F\0\0\0\0\x05\x32\x3A";
 
 const ASKED_9: &[u8] = b"\xAA\x42\0\x12\0\x09\0\0\0\0\x0F\0\0\0\0\x05\x61\x40";
 
-fn here() -> SocketAddr {
+pub(crate) fn here() -> SocketAddr {
     SocketAddr::from((Ipv4Addr::LOCALHOST, 0))
 }
 
-fn rules() -> DoorRules {
+pub(crate) fn rules() -> DoorRules {
     DoorRules {
         allow: Allow { networks: None },
         takeover: false,
@@ -41,7 +41,7 @@ fn rules() -> DoorRules {
 }
 
 /// Whether these are the next bytes that come.
-fn comes(mut stream: impl Read + Drop, wanted: &[u8]) -> bool {
+pub(crate) fn comes(mut stream: impl Read + Drop, wanted: &[u8]) -> bool {
     let mut piece = [0u8; 1];
     for byte in wanted {
         match stream.read(&mut piece) {
@@ -53,7 +53,7 @@ fn comes(mut stream: impl Read + Drop, wanted: &[u8]) -> bool {
 }
 
 /// Whether the peer has closed, and nothing comes before.
-fn is_over(mut stream: impl Read + Drop) -> bool {
+pub(crate) fn is_over(mut stream: impl Read + Drop) -> bool {
     let mut piece = [0u8; 1];
     match stream.read(&mut piece) {
         Ok(count) => count == 0,

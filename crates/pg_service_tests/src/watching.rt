@@ -1,11 +1,10 @@
 //! What is told of what went through a gate.
 use crate::frames::{COMMANDS_101, CONFIG_7, DATA_7, data_of, done, gateway, source, subscriber};
-use pg_command::Command;
 use pg_fakes::{FakeReader, FakeWriter};
 use pg_gateway::{Event, Gate, Gateway, Reply};
 use pg_ingest::{Link, run_link};
 use pg_serve::serve_session;
-use pg_service::Watched;
+use pg_service::{Switches, Watched};
 use pg_session::Session;
 use std::alloc::Global;
 use std::io::ErrorKind;
@@ -69,6 +68,7 @@ fn rate_is_told(rt: HostRuntime) {
     hear(&rt, alloc, &mut link, DATA_7, &mut gate);
     let seen = gate.take_seen();
     assert_eq!(rt; seen.rate, Some(30));
+    assert!(rt; seen.pmus[0] == 7 && seen.pmus[1] == 0);
     assert_eq!(rt; seen.events, 2);
     let again = gate.take_seen();
     assert!(rt; again.rate.is_none() && again.events == 0);
@@ -96,7 +96,7 @@ fn drains_are_told(rt: HostRuntime) {
     assert_eq!(rt; gate.handed(), 0);
 }
 
-/// The command that switched a stream last is told, and how many frames were dropped before those that are handed out: of seven frames
+/// A stream that was started is told, and how many frames were dropped before those that are handed out: of seven frames
 /// a ring of four keeps the last ones.
 #[test]
 fn gaps_are_told(rt: HostRuntime) {
@@ -109,17 +109,28 @@ fn gaps_are_told(rt: HostRuntime) {
     let mut session = Session::new(alloc, sub).expect(&rt, "memory");
     let mut from = fake(COMMANDS_101);
     serve_session(&mut session, &mut from, &mut writer(alloc), &mut gate, 10);
-    let started = Command {
-        stream: 101,
-        word: 2,
-    };
     let seen = gate.take_seen();
-    assert!(rt; seen.switched == Some(started) && seen.gap == 0);
+    assert!(rt; seen.switched.at(0) == Some((101, true)) && seen.switched.at(1).is_none());
+    assert_eq!(rt; seen.gap, 0);
     for second in 100..107 {
         let frame = data_of(&rt, alloc, second);
         hear(&rt, alloc, &mut link, &frame, &mut gate);
     }
     assert_eq!(rt; drained(&rt, alloc, &mut gate), 104);
     let seen = gate.take_seen();
-    assert!(rt; seen.gap == 3 && seen.switched.is_none());
+    assert!(rt; seen.gap == 3 && seen.switched.is_empty());
+}
+
+/// Each stream that was started or stopped is told, with what came last.
+#[test]
+fn each_switch_is_told(rt: HostRuntime) {
+    let mut switched = Switches::none();
+    assert!(rt; switched.is_empty() && switched.at(0).is_none());
+    switched.switch(101, true);
+    switched.switch(2000, true);
+    switched.switch(101, false);
+    assert!(rt; !switched.is_empty());
+    assert_eq!(rt; switched.at(0), Some((101, false)));
+    assert_eq!(rt; switched.at(1), Some((2000, true)));
+    assert!(rt; switched.at(2).is_none() && switched.at(8).is_none());
 }

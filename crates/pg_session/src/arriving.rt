@@ -49,8 +49,13 @@ pub(crate) fn count_placed(definition: &Definition, frame: &DataFrame, places: &
     count
 }
 
-/// Whether one of these blocks is a member's.
-pub(crate) fn has_placed(definition: &Definition, frame: &DataFrame, places: &[usize]) -> bool
+/// Whether one of these blocks is a member's; the first is guessed to be the one at the place `guess`.
+pub(crate) fn has_placed(
+    definition: &Definition,
+    frame: &DataFrame,
+    places: &[usize],
+    guess: usize,
+) -> bool
     requires limits { IsWithinLimits definition.now }
     requires places { All (λ i. i < length frame.now.config.parts) places.now }
     ensures some { IsTrue result
@@ -59,7 +64,7 @@ pub(crate) fn has_placed(definition: &Definition, frame: &DataFrame, places: &[u
         → length (placed definition.now.members frame.now.quality (samples_at frame.now places.now)) ≡ 0 }
 {
     let _count = frame.count();
-    let mut next = 0;
+    let mut next = guess;
     for place in places {
         if count_one(definition, &frame.key(*place), &mut next) > 0 {
             return true;
@@ -85,12 +90,14 @@ fn arrive_one(align: &mut Align, slot: u64, member: usize, block: SharedBlock, o
 }
 
 /// Those blocks of a frame that are members' arrive in a slot, in the frame's order. Their copies are taken from the front of
-/// `blocks`; what is late or comes twice is counted.
+/// `blocks`; what is late or comes twice is counted. The first is guessed to be the member at the place `guess`, which is then
+/// where the next frame's first is guessed.
 pub(crate) fn arrive_all_in(
     definition: &Definition,
     frame: &DataFrame,
     places: &[usize],
     slot: u64,
+    guess: &mut usize,
     align: &mut Align,
     blocks: &mut HeapCircularBuffer<SharedBlock>,
     output: &mut Output,
@@ -111,7 +118,7 @@ pub(crate) fn arrive_all_in(
     ensures capacity { blocks.new.capacity ≡ blocks.old.capacity }
 {
     let _count = frame.count();
-    let mut next = 0;
+    let mut next = *guess;
     for place in places {
         let Some(member) = place_next(definition, &frame.key(*place), &mut next) else {
             continue;
@@ -120,6 +127,17 @@ pub(crate) fn arrive_all_in(
             unreachable!();
         };
         arrive_one(align, slot, member, block, output);
+    }
+    *guess = within(definition, next);
+}
+
+/// The place of a member that is guessed next: behind the last one it is the first.
+#[inline(always)]
+fn within(definition: &Definition, next: usize) -> usize {
+    if next < definition.members.as_slice().len() {
+        next
+    } else {
+        0
     }
 }
 

@@ -86,11 +86,13 @@ fn lay_block(
     Ok(())
 }
 
-/// Lays a copy of each of those blocks that is a member's. The one refusal is `NoMemory`; some copies may then lie there.
+/// Lays a copy of each of those blocks that is a member's; the first is guessed to be the one at the place `guess`. The one
+/// refusal is `NoMemory`; some copies may then lie there.
 pub(crate) fn copy_members(
     definition: &Definition,
     frame: &Arc<DataFrame>,
     places: &[usize],
+    guess: usize,
     blocks: &mut HeapCircularBuffer<SharedBlock>,
 ) -> Result<(), Refusal>
     requires limits { IsWithinLimits definition.now }
@@ -104,7 +106,7 @@ pub(crate) fn copy_members(
     ensures memory { IfErr result (λ refusal. refusal ≡ Refusal.NoMemory) }
 {
     let _count = frame.count();
-    let mut next = 0;
+    let mut next = guess;
     for place in places {
         let key = frame.key(*place);
         lay_block(definition, &key, frame, *place, &mut next, blocks)?;

@@ -41,13 +41,15 @@ use std::sync::Arc;
 const MOST_MEMBERS: usize = 32;
 
 /// A stream: its definition, its open slots, and the count of changes of the CFG-1 list since its definition. `size` is the size of
-/// its last data frame, a good guess for the next one, or 0 where its effective members have changed since.
+/// its last data frame, a good guess for the next one, or 0 where its effective members have changed since. `guess` is the place of
+/// the member whose block is guessed to come next: behind the last one that came it is the next.
 #[derive(Drop)]
 pub(crate) struct Stream {
     definition: Definition,
     align: Align,
     changes: OutCfg,
     size: u16,
+    guess: usize,
 }
 
 impl Model for Stream {
@@ -165,6 +167,7 @@ impl Stream {
             align,
             changes: OutCfg::new(),
             size: 0,
+            guess: 0,
         })
     }
 
@@ -310,7 +313,7 @@ impl Stream {
         if !self.align.is_on() {
             return;
         }
-        if !has_placed(&self.definition, frame, places) {
+        if !has_placed(&self.definition, frame, places, self.guess) {
             return;
         }
         match slot_of(self.definition.rate, frame.base(), frame.soc, frame.frac) {
@@ -320,6 +323,7 @@ impl Stream {
                     frame,
                     places,
                     slot,
+                    &mut self.guess,
                     &mut self.align,
                     blocks,
                     output,
@@ -359,7 +363,7 @@ impl Stream {
         if !self.align.is_on() {
             return Ok(());
         }
-        copy_members(&self.definition, frame, places, blocks)?;
+        copy_members(&self.definition, frame, places, self.guess, blocks)?;
         Ok(())
     }
 

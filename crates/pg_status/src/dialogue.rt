@@ -1,6 +1,6 @@
 //! A client that sends lines and is answered, over one connection.
 
-use crate::lines::Lines;
+use crate::lines::{END, LineKind, Lines, kind_of};
 use crate::outbox::{Outbox, Sending};
 use pg_wire::Refusal;
 use std::alloc::Global;
@@ -12,6 +12,9 @@ pub const OWED_BYTES: usize = 1_048_576;
 
 /// The reads, and the writes, of one call.
 const TURNS: u32 = 16;
+
+/// The lines that are answered in one call.
+const LINES: u32 = 16;
 
 /// The bytes of one read.
 const PIECE: usize = 1024;
@@ -42,16 +45,22 @@ pub enum Turned {
 enum Flow {
     Blocked,
     UsedUp,
+    /// The line `quit` has come, and waits until all answers before it are sent.
+    Held,
     Ended,
     Failed,
 }
 
 /// A client that sends lines and is answered in their order (own rule). A line of more than 4,096 bytes is answered as `BadLine`
-/// where it ends. A last line without an end is answered too. Where more than 1,048,576 bytes of answers wait, the client is closed.
-/// It knows no socket.
+/// where it ends. A last line without an end is answered too. The line `end` is answered `end`. The line `quit` is answered once all
+/// answers before it are sent, and is the last: what comes behind it is passed over, and the client is closed. At most 16 lines are
+/// answered in one call. Where more than 1,048,576 bytes of answers wait, the client is closed. It knows no socket.
 #[derive(Drop)]
 pub struct Dialogue {
     line: Lines,
+    // What was read, of which so many bytes were taken.
+    heard: Vec<u8>,
+    taken: usize,
     owed: Outbox,
     is_ended: bool,
 }
@@ -61,6 +70,8 @@ impl Dialogue {
     pub fn new(alloc: Global) -> Dialogue {
         Dialogue {
             line: Lines::new(alloc),
+            heard: Vec::new(alloc),
+            taken: 0,
             owed: Outbox {
                 bytes: Vec::new(alloc),
                 sent: 0,
@@ -85,7 +96,7 @@ impl Dialogue {
         match sending {
             Sending::Done => match flow {
                 Flow::Blocked => Turned::Waits,
-                Flow::UsedUp => Turned::More,
+                Flow::UsedUp | Flow::Held => Turned::More,
                 Flow::Ended | Flow::Failed => Turned::Gone,
             },
             Sending::Blocked if flow != Flow::UsedUp => Turned::Waits,
@@ -94,70 +105,110 @@ impl Dialogue {
         }
     }
 
-    /// Reads and answers, unless the client has ended.
+    /// Reads and answers, so many times and lines at most.
     fn hear<R: Read, A: Answer>(&mut self, reader: &mut R, answers: &mut A) -> Flow {
-        if self.is_ended {
-            return Flow::Ended;
-        }
-        let flow = self.read(reader, answers);
-        if flow == Flow::Ended {
-            self.is_ended = true;
-            if self.finish(answers).is_err() {
-                return Flow::Failed;
-            }
-        }
-        flow
-    }
-
-    /// Reads until nothing is there, so many times at most.
-    fn read<R: Read, A: Answer>(&mut self, reader: &mut R, answers: &mut A) -> Flow {
-        let mut piece = [0u8; PIECE];
+        let mut lines = 0u32;
         for _ in 0..TURNS {
-            match reader.read(&mut piece) {
-                Ok(0) => return Flow::Ended,
-                Ok(size) => {
-                    if self.take(&piece[..size], answers).is_err() {
-                        return Flow::Failed;
-                    }
-                }
-                Err(error) => match error.kind() {
-                    ErrorKind::WouldBlock => return Flow::Blocked,
-                    ErrorKind::Interrupted => {}
-                    _ => return Flow::Failed,
-                },
+            if let Some(flow) = self.take(answers, &mut lines) {
+                return flow;
+            }
+            if self.is_ended {
+                return self.finish(answers);
+            }
+            if let Some(flow) = self.read(reader) {
+                return flow;
             }
         }
         Flow::UsedUp
     }
 
-    /// Takes bytes, and has each line answered that ends among them.
-    fn take<A: Answer>(&mut self, bytes: &[u8], answers: &mut A) -> io::Result<()> {
-        for byte in bytes {
-            if *byte == b'\n' {
-                self.end_line(answers)?;
-            } else {
-                self.line.push(*byte)?;
+    /// Reads once, where all was taken that was read before. None where there is more to do.
+    fn read<R: Read>(&mut self, reader: &mut R) -> Option<Flow> {
+        let mut piece = [0u8; PIECE];
+        match reader.read(&mut piece) {
+            Ok(0) => self.is_ended = true,
+            Ok(size) => {
+                self.heard.clear();
+                self.taken = 0;
+                if self.heard.extend_from_slice(&piece[..size]).is_err() {
+                    return Some(Flow::Failed);
+                }
             }
+            Err(error) => match error.kind() {
+                ErrorKind::WouldBlock => return Some(Flow::Blocked),
+                ErrorKind::Interrupted => {}
+                _ => return Some(Flow::Failed),
+            },
         }
-        Ok(())
+        None
     }
 
-    /// Has a last line answered that has no end.
-    fn finish<A: Answer>(&mut self, answers: &mut A) -> io::Result<()> {
-        if self.line.bytes().is_empty() {
-            return Ok(());
+    /// Takes what was read, and has each line answered that ends in it. None where all was taken.
+    fn take<A: Answer>(&mut self, answers: &mut A, lines: &mut u32) -> Option<Flow> {
+        for _ in 0..PIECE {
+            let Some(byte) = self.heard.as_slice().get(self.taken).copied() else {
+                return None;
+            };
+            if byte != b'\n' {
+                if self.line.push(byte).is_err() {
+                    return Some(Flow::Failed);
+                }
+            } else {
+                if *lines >= LINES {
+                    return Some(Flow::UsedUp);
+                }
+                if self.is_held() {
+                    return Some(Flow::Held);
+                }
+                *lines = (*lines).saturating_add(1);
+                if self.end_line(answers).is_err() {
+                    return Some(Flow::Failed);
+                }
+            }
+            self.taken = self.taken.saturating_add(1);
         }
-        self.end_line(answers)
+        None
+    }
+
+    /// Whether the line is `quit`, and has to wait until all answers before it are sent.
+    fn is_held(&self) -> bool {
+        self.owed.left() > 0 && kind_of(without_return(self.line.bytes())) == LineKind::Quit
+    }
+
+    /// The client sends no more: has a last line answered that has no end.
+    fn finish<A: Answer>(&mut self, answers: &mut A) -> Flow {
+        if self.line.bytes().is_empty() {
+            return Flow::Ended;
+        }
+        if self.is_held() {
+            return Flow::Held;
+        }
+        match self.end_line(answers) {
+            Ok(()) => Flow::Ended,
+            Err(_) => Flow::Failed,
+        }
     }
 
     /// Has the line answered, and begins the next one.
     fn end_line<A: Answer>(&mut self, answers: &mut A) -> io::Result<()> {
+        let line = without_return(self.line.bytes());
         if self.line.is_long() {
             let refusal = Refusal::BadLine;
             let (number, name) = (refusal.number(), refusal.name());
             writeln!(self.owed.bytes, "refused {number} {name}")?;
         } else {
-            answers.answer(without_return(self.line.bytes()), &mut self.owed.bytes)?;
+            match kind_of(line) {
+                LineKind::Other => answers.answer(line, &mut self.owed.bytes)?,
+                LineKind::End => {
+                    self.owed.bytes.extend_from_slice(END)?;
+                    self.owed.bytes.push(b'\n')?;
+                }
+                LineKind::Quit => {
+                    answers.answer(line, &mut self.owed.bytes)?;
+                    self.is_ended = true;
+                    self.heard.clear();
+                }
+            }
         }
         self.line.clear();
         if self.owed.left() > OWED_BYTES {

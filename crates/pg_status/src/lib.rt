@@ -2,6 +2,7 @@
 //! that ask for them. It knows neither sockets nor clocks. All of it is a rule of this project.
 #![tactic(auto)]
 
+mod asking;
 mod contents;
 mod dialogue;
 mod exchange;
@@ -16,13 +17,14 @@ mod request;
 mod snapshot;
 mod status;
 
+pub use asking::{Answered, BUSY, converse};
 pub use contents::contents_of;
 pub use dialogue::{Answer, Dialogue, OWED_BYTES, Turned};
 pub use exchange::{Exchange, Step};
 pub use histogram::{BOUNDS, BUCKETS, Histogram};
 pub use history::{Frames, History, Past, SECONDS, Total};
 pub use json::state_json;
-pub use lines::{LINE_BYTES, Lines};
+pub use lines::{END, LINE_BYTES, LineKind, Lines, kind_of};
 pub use metrics::print_metrics;
 pub use page::page_text;
 pub use request::{Denial, HEAD_BYTES, Request, Shown, read_request};

@@ -1,13 +1,66 @@
 //! Lines of bounded length.
 
-ghost use Rattle.std.specs.Prelude.{◌≡◌, ◌≤◌, ◌↔◌, if◌then◌else◌, is_ok, IsTrue, length, true};
-ghost use Rattle.pg_status.specs.Lines.{fresh, lengthened};
+ghost use Rattle.std.specs.Prelude.{◌≡◌, ◌<◌, ◌≤◌, ◌↔◌, if◌then◌else◌, is_ok, IfSome, IsTrue, length, true};
+ghost use Rattle.pg_status.specs.Lines.{fresh, is_quit, kind_in, lengthened, past_spaces, word_in};
 
 use std::alloc::{AllocError, Global};
 use std::marker::Model;
 
 /// The bytes of a line at most, without its LF.
 pub const LINE_BYTES: usize = 4096;
+
+/// The line by which a client asks whether all before it were answered. The answer is the same.
+pub const END: &[u8] = b"end";
+
+/// What a line is for the connection that it came by (own rule).
+#[derive(Clone, Copy, Debug, PartialEq, Eq)]
+pub enum LineKind {
+    /// It is answered by who answers lines.
+    Other,
+    /// `end`: it is answered by `end`, once all lines before it were.
+    End,
+    /// `quit`, with spaces around it or none: it is the last line of its connection.
+    Quit,
+}
+
+/// What a line is, which stands there without its end.
+pub fn kind_of(line: &[u8]) -> LineKind
+    ensures { result ≡ kind_in line.now }
+{
+    if line == END {
+        LineKind::End
+    } else if has_quit(line) {
+        LineKind::Quit
+    } else {
+        LineKind::Other
+    }
+}
+
+/// Where the first byte is that is no space.
+fn word_at(line: &[u8]) -> Option<usize>
+    ensures value { result ≡ word_in line.now }
+    ensures within { IfSome result (λ place. place < length line.now) }
+{
+    line.iter().position(|byte| *byte != b' ')
+}
+
+/// A line without the spaces before it.
+fn without_spaces(line: &[u8]) -> &[u8]
+    ensures { result.now ≡ past_spaces line.now }
+{
+    match word_at(line) {
+        Some(place) => &line[place..],
+        None => &[],
+    }
+}
+
+/// Whether it is `quit`, with spaces around it or none.
+fn has_quit(line: &[u8]) -> bool
+    ensures { result ≡ is_quit line.now }
+{
+    let word = without_spaces(line);
+    word.starts_with(b"quit") && without_spaces(&word[4..]).is_empty()
+}
 
 /// A line that comes byte by byte (own rule). It keeps 4,096 bytes at most; of a longer one it knows that it is too long.
 #[derive(Drop)]

@@ -69,6 +69,10 @@ svg { display: block; width: 100%; overflow: visible; }
 .plot .large { height: 9rem; } .plot .small { height: 4rem; }
 .times { grid-column: 2; display: flex; justify-content: space-between; color: var(--muted); font-size: .875rem; }
 .spark { width: 11rem; height: 1.9rem; }
+@media (max-width: 1450px) {
+  th, td { padding-right: .8rem; }
+  .spark { width: 6rem; }
+}
 @media (max-width: 760px) {
   header { flex-wrap: wrap; gap: 0 .8rem; padding: .8rem 1rem; }
   header p { display: none; }
@@ -314,7 +318,8 @@ function show(state) {
   showStreams(streams, subscribers);
 }
 
-const time = when => when.toLocaleTimeString('en-GB');
+// UTC, as in the log.
+const time = when => when.toISOString().replace(/\.\d+Z$/, 'Z');
 let seen = null;
 
 async function ask() {

@@ -1,7 +1,7 @@
 //! Clients that send lines, over memory.
 
 use crate::wires::{Sends, Takes};
-use pg_status::{Answer, Dialogue, LINE_BYTES, Lines, OWED_BYTES, Turned};
+use pg_status::{Answer, Dialogue, LINE_BYTES, LineKind, Lines, OWED_BYTES, Turned, kind_of};
 use std::alloc::Global;
 use std::io;
 use std::io::Write;
@@ -143,4 +143,111 @@ fn clients_that_read_late(rt: HostRuntime) {
         );
     }
     assert_eq!(rt; out.taken.len(), 1_800_000);
+}
+
+/// A line of a megabyte without an end keeps 4,096 bytes, is answered by nothing, and is `BadLine` where it ends.
+#[test]
+fn a_line_without_end(rt: HostRuntime) {
+    let alloc = rt.alloc();
+    let mut dialogue = Dialogue::new(alloc);
+    let mut out = taker(alloc);
+    let piece = [b'x'; 16_384];
+    for _ in 0..64u32 {
+        let mut reader = Sends::all(&piece);
+        assert_eq!(rt;
+            dialogue.serve(&mut reader, &mut out, &mut Echo),
+            Turned::More
+        );
+        assert_eq!(rt;
+            dialogue.serve(&mut reader, &mut out, &mut Echo),
+            Turned::Waits
+        );
+        assert!(rt; reader.left.is_empty() && out.taken.is_empty());
+    }
+    let mut reader = Sends::all(b"\na\n");
+    assert_eq!(rt;
+        dialogue.serve(&mut reader, &mut out, &mut Echo),
+        Turned::Waits
+    );
+    let told = b"refused 36 BadLine\n[a]\n";
+    assert!(rt; out.taken.as_slice() == told.as_slice());
+}
+
+/// Of 40 lines that have come at once 16 are answered in a call, and then 16, and then 8.
+#[test]
+fn sixteen_lines_a_call(rt: HostRuntime) {
+    let alloc = rt.alloc();
+    let mut dialogue = Dialogue::new(alloc);
+    let mut out = taker(alloc);
+    let mut text = Vec::new(alloc);
+    for _ in 0..40u32 {
+        text.extend_from_slice(b"a\n").expect(&rt, "memory");
+    }
+    let mut reader = Sends::all(text.as_slice());
+    for (lines, turned) in [
+        (16usize, Turned::More),
+        (32, Turned::More),
+        (40, Turned::Waits),
+        (40, Turned::Waits),
+    ] {
+        let told = dialogue.serve(&mut reader, &mut out, &mut Echo);
+        assert_eq!(rt; told, turned, "{lines}");
+        assert_eq!(rt; out.taken.len(), lines.saturating_mul(4));
+    }
+    // They are counted where they ask for nothing too.
+    let empty = [b'\n'; 1000];
+    let mut reader = Sends::all(&empty);
+    assert_eq!(rt;
+        dialogue.serve(&mut reader, &mut out, &mut Echo),
+        Turned::More
+    );
+    assert_eq!(rt; out.taken.len(), 40 * 4 + 16 * 3);
+}
+
+/// What is between spaces is `quit`, and just `end` is `end`.
+#[test]
+fn kinds_of_lines(rt: HostRuntime) {
+    for line in ["quit", " quit", "quit  ", "   quit "] {
+        assert_eq!(rt; kind_of(line.as_bytes()), LineKind::Quit, "{line}");
+    }
+    assert_eq!(rt; kind_of(b"end"), LineKind::End);
+    for line in [
+        "", " ", "qui", "quite", "quit now", "Quit", "\tquit", "end ", " end", "ends", "en",
+        "status",
+    ] {
+        assert_eq!(rt; kind_of(line.as_bytes()), LineKind::Other, "{line}");
+    }
+}
+
+/// `quit` waits until the answers before it are sent, and nothing behind it is answered.
+#[test]
+fn quit_is_the_last_line(rt: HostRuntime) {
+    let alloc = rt.alloc();
+    let text = b"one\r\nend\n quit \r\ntwo\n";
+    assert!(rt;
+        answered(&rt, alloc, text.as_slice(), 9).as_slice() == b"[one]\nend\n[ quit ]\n".as_slice()
+    );
+    assert!(rt; answered(&rt, alloc, b"a\nquit", 9).as_slice() == b"[a]\n[quit]\n".as_slice());
+    let mut dialogue = Dialogue::new(alloc);
+    let mut out = taker(alloc);
+    out.writes = 0;
+    let mut reader = Sends::all(b"one\nquit\ntwo\n");
+    for _ in 0..3u32 {
+        assert_eq!(rt;
+            dialogue.serve(&mut reader, &mut out, &mut Echo),
+            Turned::Waits
+        );
+    }
+    out.writes = 1;
+    assert_eq!(rt;
+        dialogue.serve(&mut reader, &mut out, &mut Echo),
+        Turned::More
+    );
+    assert!(rt; out.taken.as_slice() == b"[one]\n".as_slice());
+    out.writes = 9;
+    assert_eq!(rt;
+        dialogue.serve(&mut reader, &mut out, &mut Echo),
+        Turned::Gone
+    );
+    assert!(rt; out.taken.as_slice() == b"[one]\n[quit]\n".as_slice());
 }

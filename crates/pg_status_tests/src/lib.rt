@@ -6,6 +6,8 @@ mod ages;
 #[cfg(test)]
 mod asked;
 #[cfg(test)]
+mod conversations;
+#[cfg(test)]
 mod dialogues;
 #[cfg(test)]
 mod exchanges;

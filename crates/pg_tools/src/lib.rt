@@ -8,6 +8,7 @@ mod lines;
 mod measuring;
 mod moment;
 mod playing;
+mod question;
 mod reading;
 mod screen;
 mod settings;
@@ -22,6 +23,7 @@ pub use fault::Fault;
 pub use measuring::add_measured;
 pub use moment::{MICROS, Moment, Rate};
 pub use playing::simulate;
+pub use question::{PATIENCE, Question};
 pub use settings::{
     Channels, Faults, Misword, Nominal, Numbers, Settings, SimulateWords, address, number,
     read_settings,

@@ -4,7 +4,7 @@ ghost use Rattle.std.specs.Prelude.{◌≤◌};
 
 use crate::moment::Moment;
 use crate::reading::{Cell, Quality, Reading};
-use crate::watcher::Tally;
+use crate::watcher::Watcher;
 use jiff::Timestamp;
 use pg_config::SourceConfig;
 use pg_data::DataFrame;
@@ -61,6 +61,9 @@ impl fmt::Display for Instant {
         }
     }
 }
+
+/// What is told where the configuration has no PMU: none of the stream's is granted and announced.
+pub const NO_PMU: &str = "no PMU yet";
 
 /// The heading of the lines of values: `time`, the time quality, and the channels of each PMU by their names.
 pub fn write_heading(out: &mut String, config: &SourceConfig) -> Result<(), AllocError> {
@@ -157,14 +160,20 @@ pub fn write_second(
     frame: Option<&DataFrame>,
     in_second: u64,
     delay: Option<i64>,
-    tally: &Tally,
+    watcher: &Watcher,
 ) -> Result<(), AllocError> {
+    let tally = watcher.tally();
     let frames = tally.frames;
     let missing = tally.missing;
     let fillers = tally.fillers;
     let troubles = tally.troubles;
     let Some(frame) = frame else {
-        return write!(out, "no data frame yet; {troubles} troubles\n");
+        let why = if watcher.has_no_pmu() {
+            NO_PMU
+        } else {
+            "no data frame yet"
+        };
+        return write!(out, "{why}; {troubles} troubles\n");
     };
     let time = Instant::of(frame);
     let quality = Quality(frame.quality);

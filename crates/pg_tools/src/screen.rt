@@ -1,7 +1,7 @@
 //! The screen of `watch`: plain ANSI sequences, which move the cursor up and wipe the rest of a line, and nothing that would
 //! have to be undone.
 
-use crate::lines::Instant;
+use crate::lines::{Instant, NO_PMU};
 use crate::reading::{Quality, Reading, Status, shown};
 use crate::watcher::{Tally, Trouble};
 use pg_config::{PmuConfig, SourceConfig};
@@ -114,6 +114,8 @@ pub struct View<'a> {
     pub header: &'a [u8],
     /// The configuration, if it is known.
     pub config: Option<&'a SourceConfig>,
+    /// Whether the last configuration had no PMU.
+    pub has_no_pmu: bool,
     /// The latest data frame.
     pub frame: Option<&'a DataFrame>,
     /// The last minute of each PMU.
@@ -209,7 +211,9 @@ fn draw_head(page: &mut Page, view: &View<'_>) -> Result<(), AllocError> {
     let address = view.address;
     let stream = view.stream;
     write!(page.line, "{address}  stream {stream}  ")?;
-    if let Some(frame) = view.frame {
+    if view.has_no_pmu {
+        page.line.push_str(NO_PMU)?;
+    } else if let Some(frame) = view.frame {
         let time = Instant::of(frame);
         let quality = Quality(frame.quality);
         write!(page.line, "{time}  {quality}")?;

@@ -1,7 +1,7 @@
 //! `pdcgw watch`: a subscriber that shows what comes.
 
 use crate::fault::Fault;
-use crate::lines::{Instant, write_heading, write_second, write_values};
+use crate::lines::{Instant, NO_PMU, write_heading, write_second, write_values};
 use crate::moment::Moment;
 use crate::playing::written;
 use crate::screen::{Before, History, View, draw};
@@ -195,6 +195,10 @@ struct Show {
     lines: usize,
     /// The tenth of a second, counted from 1970, in which the screen was drawn last.
     drawn: u64,
+    /// The configuration by whose channels values are shown.
+    begun: Option<Arc<SourceConfig>>,
+    /// Whether the last configuration had no PMU, which was told.
+    is_waiting: bool,
     is_over: bool,
 }
 
@@ -239,6 +243,8 @@ where
     let mut show = Show::new(alloc, watched.stream)?;
     let start = now(rt)?;
     let mut second = start;
+    // Whether the audience would go on.
+    let mut goes_on = true;
     for _ in 0..u64::MAX {
         send_owed(rt, &stream, &mut show)?;
         poll.poll(&mut events, Some(Duration::from_millis(TURN)))?;
@@ -250,7 +256,7 @@ where
             };
             show.end_second(rt, watched, at.micros.saturating_sub(start.micros))?;
         }
-        let goes_on = audience.turn(&show.watcher);
+        goes_on = audience.turn(&show.watcher);
         let micros = at.micros.saturating_sub(start.micros);
         let is_last = show.is_over || !goes_on || has_all(&show, watched, micros);
         if watched.style == Style::Screen {
@@ -261,6 +267,9 @@ where
         }
     }
     stop_stream(rt, &stream, &show, &mut poll, &mut events)?;
+    if goes_on {
+        show.close(rt, watched)?;
+    }
     show.end(rt, watched)?;
     Ok(show.watcher.tally().troubles == 0)
 }
@@ -399,6 +408,8 @@ impl Show {
             trouble: None,
             lines: 0,
             drawn: 0,
+            begun: None,
+            is_waiting: false,
             is_over: false,
         })
     }
@@ -419,7 +430,8 @@ impl Show {
             match self.watcher.next() {
                 Seen::More if at >= bytes.len() => return Ok(()),
                 Seen::More | Seen::Header => {}
-                Seen::Config(config) => self.begin(rt, watched, &config)?,
+                Seen::Config(config) => self.begin(rt, watched, config)?,
+                Seen::NoPmu => self.tell_no_pmu(rt, watched),
                 Seen::Frame(frame) => {
                     audience.frame(&frame);
                     self.show_frame(rt, watched, frame)?;
@@ -438,13 +450,19 @@ impl Show {
         Ok(())
     }
 
-    /// Begins with a configuration.
+    /// Begins with a configuration. One that is as the last one changes nothing.
     fn begin<R: Print>(
         &mut self,
         rt: &R,
         watched: &Watched<'_>,
-        config: &SourceConfig,
+        config: Arc<SourceConfig>,
     ) -> Result<(), Fault> {
+        self.is_waiting = false;
+        if let Some(begun) = &self.begun {
+            if is_same(&**begun, &*config) {
+                return Ok(());
+            }
+        }
         self.histories.clear();
         for _ in 0..config.count() {
             let history = History::new(self.alloc);
@@ -454,9 +472,10 @@ impl Show {
         }
         if watched.style == Style::Csv {
             let mut line = String::new(self.alloc);
-            made(write_heading(&mut line, config))?;
+            made(write_heading(&mut line, &*config))?;
             written(print!(rt; "{line}"))?;
         }
+        self.begun = Some(config);
         Ok(())
     }
 
@@ -508,6 +527,22 @@ impl Show {
         Ok(())
     }
 
+    /// Tells once that no PMU of the stream is announced yet, where no screen or line of a second tells it.
+    fn tell_no_pmu<R: Eprint>(&mut self, rt: &R, watched: &Watched<'_>) {
+        if watched.style == Style::Csv && !self.is_waiting {
+            let _ = eprintln!(rt; "pdcgw: {NO_PMU}; it is asked again");
+        }
+        self.is_waiting = true;
+    }
+
+    /// Tells that no data frame came, where that is so.
+    fn close<R: Print + Eprint>(&mut self, rt: &R, watched: &Watched<'_>) -> Result<(), Fault> {
+        match self.watcher.close() {
+            Some(trouble) => self.tell(rt, watched, trouble),
+            None => Ok(()),
+        }
+    }
+
     /// Ends a second: its rate, its frequencies, its line.
     fn end_second<R: Print + Eprint>(
         &mut self,
@@ -518,20 +553,15 @@ impl Show {
         let tally = self.watcher.tally();
         self.measured = tally.frames.saturating_sub(self.frames_before);
         self.frames_before = tally.frames;
-        if tally.configs == 0 && micros / SECOND == PATIENCE {
+        if tally.configs == 0 && !self.watcher.has_no_pmu() && micros / SECOND == PATIENCE {
             self.trouble_told(rt, watched, Trouble::Silent)?;
         }
+        self.watcher.second();
         made(self.keep_frequencies())?;
         if watched.style == Style::Plain {
             let mut line = String::new(self.alloc);
             let latest = self.latest.as_ref().map(|frame| &**frame);
-            made(write_second(
-                &mut line,
-                latest,
-                self.measured,
-                self.delay,
-                &self.watcher.tally(),
-            ))?;
+            made(write_second(&mut line, latest, self.measured, self.delay, &self.watcher))?;
             written(print!(rt; "{line}"))?;
         }
         Ok(())
@@ -579,6 +609,7 @@ impl Show {
             tally: self.watcher.tally(),
             header: self.watcher.header(),
             config: self.watcher.config().map(|config| &**config),
+            has_no_pmu: self.watcher.has_no_pmu(),
             frame: self.latest.as_ref().map(|frame| &**frame),
             histories: &self.histories,
             delay: self.delay,
@@ -613,6 +644,16 @@ impl Show {
             Style::Screen | Style::Plain => written(println!(rt; "{counted}")),
         }
     }
+}
+
+/// Whether two configurations have the same PMUs, with the same blocks, resolution and rate.
+fn is_same(one: &SourceConfig, other: &SourceConfig) -> bool {
+    one.parts.len() == other.parts.len()
+        && one
+            .parts
+            .iter()
+            .zip(other.parts.iter())
+            .all(|(part, same)| part.is_same(same))
 }
 
 /// How many milliseconds behind its stamp the latest frame came, below 0 where it came before.

@@ -3,6 +3,7 @@
 ghost use Rattle.std.specs.Prelude.{◌≡◌, ◌+◌, ◌≤◌, ◌<◌, length};
 ghost use Rattle.pg_wire.specs.Head.{IsFrame};
 
+use crate::question::Question;
 use pg_command::{Word, write_command};
 use pg_config::{Announced, SourceConfig, read_config};
 use pg_data::{DataFrame, read_data};
@@ -36,6 +37,8 @@ pub enum Trouble {
     Closed,
     /// No configuration came in time.
     Silent,
+    /// No data frame came at all.
+    NoFrame,
 }
 
 impl fmt::Display for Trouble {
@@ -70,6 +73,7 @@ impl fmt::Display for Trouble {
             }
             Trouble::Closed => write!(f, "the peer closed the connection"),
             Trouble::Silent => write!(f, "no configuration came; is the stream's number right?"),
+            Trouble::NoFrame => write!(f, "no data frame came"),
         }
     }
 }
@@ -144,6 +148,8 @@ impl Tally {
 pub enum Seen {
     /// A configuration, CFG-2.
     Config(Arc<SourceConfig>),
+    /// A CFG-2 without any PMU: no PMU of the stream is announced yet. It is asked again.
+    NoPmu,
     /// The header, whose text `Watcher::header` has.
     Header,
     /// A data frame that is right.
@@ -162,6 +168,7 @@ pub enum Seen {
 #[derive(Drop)]
 enum Told {
     Config(Announced),
+    NoPmu,
     Frame(Arc<DataFrame>),
     Header(Vec<u8>),
     Trouble(Trouble),
@@ -169,7 +176,8 @@ enum Told {
 }
 
 /// A subscriber of one stream, or of a source (own rule). It asks for CFG-2 and the header, starts the stream once it knows the
-/// configuration, asks for the header again, and checks each frame.
+/// configuration, asks for the header again, and checks each frame. What is not answered for 3 seconds it asks again; so it does each
+/// second where the configuration has no PMU yet.
 #[derive(Drop)]
 pub struct Watcher {
     alloc: Global,
@@ -183,6 +191,10 @@ pub struct Watcher {
     owes_start: bool,
     is_asked: bool,
     is_started: bool,
+    has_no_pmu: bool,
+    // Command 5 without CFG-2, and command 2 without a data frame.
+    config_question: Question,
+    start_question: Question,
     headers: u32,
     is_changing: bool,
     is_ended: bool,
@@ -208,6 +220,9 @@ impl Watcher {
             owes_start: false,
             is_asked: false,
             is_started: false,
+            has_no_pmu: false,
+            config_question: Question::NEW,
+            start_question: Question::NEW,
             headers: 0,
             is_changing: false,
             is_ended: false,
@@ -255,12 +270,38 @@ impl Watcher {
         self.is_started && self.headers >= 2
     }
 
+    /// Whether the last CFG-2 had no PMU.
+    pub fn has_no_pmu(&self) -> bool {
+        self.has_no_pmu
+    }
+
+    /// A second has passed: what was not answered is owed again.
+    pub fn second(&mut self) {
+        if self.is_asked {
+            if self.config_question.pass() || self.has_no_pmu {
+                self.owes_config = true;
+            }
+        } else if self.is_started && self.start_question.pass() {
+            self.owes_start = true;
+        }
+    }
+
+    /// Nothing is awaited any more. Answers, and counts, that no data frame came, where that is so.
+    pub fn close(&mut self) -> Option<Trouble> {
+        if self.tally.frames > 0 {
+            return None;
+        }
+        self.note(Trouble::NoFrame);
+        Some(Trouble::NoFrame)
+    }
+
     /// The next command that the peer is owed: 5 and 3 at first, 2 and 3 once the configuration is known, and 5 again where it
     /// may have changed.
     pub fn next_out(&mut self, soc: u32) -> Option<[u8; 18]> {
         let word = if self.owes_config {
             self.owes_config = false;
             self.is_asked = true;
+            self.config_question = Question::NEW;
             Word::SendCfgTwo
         } else if self.owes_header {
             self.owes_header = false;
@@ -268,6 +309,7 @@ impl Watcher {
         } else if self.owes_start {
             self.owes_start = false;
             self.is_started = true;
+            self.start_question = Question::NEW;
             // A peer obeys in order, so that the answer to this tells that the start was obeyed.
             self.owes_header = true;
             Word::StartData
@@ -308,6 +350,12 @@ impl Watcher {
     fn take(&mut self, told: Told) -> Seen {
         match told {
             Told::Config(announced) => self.take_config(announced),
+            Told::NoPmu => {
+                // It stands as not answered, so that it is asked again.
+                self.has_no_pmu = true;
+                self.is_asked = true;
+                Seen::NoPmu
+            }
             Told::Frame(frame) => self.take_frame(frame),
             Told::Header(text) => {
                 self.header = text;
@@ -342,6 +390,7 @@ impl Watcher {
         };
         self.config = Some(kept);
         self.is_asked = false;
+        self.has_no_pmu = false;
         if !self.is_started {
             self.owes_start = true;
         }
@@ -365,6 +414,7 @@ impl Watcher {
             self.tally.missing = self.tally.missing.saturating_add(between.saturating_sub(1));
         }
         self.last = Some(stamp);
+        self.start_question = Question::NEW;
         let is_changed = frame.is_changed();
         if self.is_changing && !is_changed {
             self.ask_again();
@@ -382,6 +432,13 @@ fn tell(alloc: Global, stream: PmuId, config: Option<&Arc<SourceConfig>>, frame:
 {
     let head = read_head(frame);
     match head.kind {
+        Kind::CfgTwo if has_no_pmu(frame) => {
+            if head.id == stream.get() {
+                Told::NoPmu
+            } else {
+                Told::Trouble(Trouble::Config(Refusal::WrongId))
+            }
+        }
         Kind::CfgTwo => match read_config(alloc, frame) {
             Ok(announced) if announced.config.source == stream => Told::Config(announced),
             Ok(_) => Told::Trouble(Trouble::Config(Refusal::WrongId)),
@@ -402,6 +459,11 @@ fn tell(alloc: Global, stream: PmuId, config: Option<&Arc<SourceConfig>>, frame:
         Kind::Header => header_in(alloc, frame),
         kind => Told::Trouble(Trouble::Unasked(kind)),
     }
+}
+
+/// Whether a configuration is whole and has no PMU: NUM_PMU is 0, and DATA_RATE and CHK stand behind it.
+fn has_no_pmu(frame: &[u8]) -> bool {
+    frame.len() == 24 && frame.get(18..20) == Some([0, 0].as_slice())
 }
 
 /// The text of a header, its first bytes.

@@ -1,8 +1,9 @@
 //! A simulated source with each of its faults, and what a watcher says of it.
 use crate::desk::{SOC, hear, number, source, take, watched};
 use pg_command::write_command;
-use pg_tools::{Faults, Moment, Seen, Stamp, Trouble, Watcher};
+use pg_tools::{Faults, Moment, PATIENCE, Question, Seen, Stamp, Trouble, Watcher};
 use pg_wire::{Refusal, check};
+use std::alloc::Global;
 use std::process::Abort;
 use std::test::*;
 
@@ -224,6 +225,126 @@ fn tells(rt: &impl std::process::Abort, watcher: &mut Watcher, bytes: &[u8], wan
         Seen::Trouble(trouble) => assert_eq!(rt; trouble, want),
         _ => panic!(rt; "no trouble, but {want:?}"),
     }
+}
+
+// Commands that the peer is owed now, by their numbers.
+fn owed(watcher: &mut Watcher) -> [u8; 4] {
+    let mut words = [0u8; 4];
+    for word in words.iter_mut() {
+        if let Some(command) = watcher.next_out(SOC) {
+            *word = command[15];
+        }
+    }
+    words
+}
+
+// A CFG-2 of stream 7 with NUM_PMU 0 and DATA_RATE 30: 24 bytes.
+fn no_pmu(rt: &impl Abort, alloc: Global, id: u8) -> Vec<u8> {
+    let mut frame = Vec::from_slice(
+        alloc,
+        &[
+            0xAA, 0x31, 0, 24, 0, id, 0, 0, 0, 1, 0, 0, 0, 0, 0, 15, 66, 64, 0, 0, 0, 30, 0, 0,
+        ],
+    )
+    .expect(rt, "memory");
+    seal(&mut frame);
+    frame
+}
+
+// A question is asked again in each third second.
+#[test]
+fn patience_of_a_question(rt: HostRuntime) {
+    let mut question = Question::NEW;
+    for (second, again) in [false, false, true, false, false, true].iter().enumerate() {
+        assert_eq!(rt; question.pass(), *again, "{second}");
+    }
+    assert_eq!(rt; (PATIENCE, question), (3, Question::NEW));
+}
+
+// What is not answered is asked again: command 5 without CFG-2, and command 2, with 3 behind it, without data frames.
+#[test]
+fn questions_are_asked_again(rt: HostRuntime) {
+    let alloc = rt.alloc();
+    let mut source = source(&rt, alloc, 1, Faults::NONE);
+    let mut watcher = Watcher::new(alloc, number(&rt, 7)).expect(&rt, "memory");
+    assert_eq!(rt; owed(&mut watcher), [5, 3, 0, 0]);
+    for words in [[0u8; 4], [0; 4], [5, 0, 0, 0], [0; 4], [0; 4], [5, 0, 0, 0]] {
+        watcher.second();
+        assert_eq!(rt; owed(&mut watcher), words);
+    }
+    let mut out = Vec::new(alloc);
+    let asked = write_command(number(&rt, 7), SOC, 5);
+    hear(&rt, &mut source, Moment::new(SOC, 0), &asked, &mut out);
+    take(&rt, &mut watcher, &out);
+    assert_eq!(rt; owed(&mut watcher), [2, 3, 0, 0]);
+    for words in [[0u8; 4], [0; 4], [2, 3, 0, 0], [0; 4], [0; 4]] {
+        watcher.second();
+        assert_eq!(rt; owed(&mut watcher), words);
+    }
+    // A data frame is the answer.
+    out.clear();
+    let asked = write_command(number(&rt, 7), SOC, 2);
+    hear(&rt, &mut source, Moment::new(SOC, 0), &asked, &mut out);
+    source
+        .due(Moment::new(SOC, 999_999), &mut out)
+        .expect(&rt, "memory");
+    assert!(rt; take(&rt, &mut watcher, &out) > 0);
+    for words in [[0u8; 4], [0; 4], [2, 3, 0, 0]] {
+        watcher.second();
+        assert_eq!(rt; owed(&mut watcher), words);
+    }
+    assert_eq!(rt; watcher.tally().troubles, 0);
+}
+
+// A configuration without any PMU is no trouble: it is asked again each second, until one has come, which starts the stream.
+#[test]
+fn no_pmu_yet(rt: HostRuntime) {
+    let alloc = rt.alloc();
+    let mut source = source(&rt, alloc, 1, Faults::NONE);
+    let mut watcher = Watcher::new(alloc, number(&rt, 7)).expect(&rt, "memory");
+    assert_eq!(rt; owed(&mut watcher), [5, 3, 0, 0]);
+    for _ in 0..4 {
+        let frame = no_pmu(&rt, alloc, 7);
+        watcher.feed(&frame);
+        assert!(rt; matches!(watcher.next(), Seen::NoPmu));
+        assert!(rt; watcher.has_no_pmu());
+        assert_eq!(rt; owed(&mut watcher), [0; 4]);
+        watcher.second();
+        assert_eq!(rt; owed(&mut watcher), [5, 0, 0, 0]);
+    }
+    let mut out = Vec::new(alloc);
+    let asked = write_command(number(&rt, 7), SOC, 5);
+    hear(&rt, &mut source, Moment::new(SOC, 0), &asked, &mut out);
+    take(&rt, &mut watcher, &out);
+    assert!(rt; !watcher.has_no_pmu());
+    assert_eq!(rt; owed(&mut watcher), [2, 3, 0, 0]);
+    assert_eq!(rt; (watcher.tally().configs, watcher.tally().troubles), (1, 0));
+    // One of another stream, and one that is longer than it may be.
+    let frame = no_pmu(&rt, alloc, 8);
+    tells(&rt, &mut watcher, &frame, Trouble::Config(Refusal::WrongId));
+    let mut frame = no_pmu(&rt, alloc, 7);
+    frame.extend_from_slice(&[0, 0]).expect(&rt, "memory");
+    change(&rt, &mut frame, 3, 26);
+    tells(
+        &rt,
+        &mut watcher,
+        &frame,
+        Trouble::Config(Refusal::BadCounts),
+    );
+}
+
+// Where no data frame came at all, that is wrong.
+#[test]
+fn no_frame_came(rt: HostRuntime) {
+    let alloc = rt.alloc();
+    let mut watcher = Watcher::new(alloc, number(&rt, 7)).expect(&rt, "memory");
+    assert_eq!(rt; watcher.close(), Some(Trouble::NoFrame));
+    assert_eq!(rt; watcher.tally().troubles, 1);
+    let mut source = source(&rt, alloc, 1, Faults::NONE);
+    let mut watcher = Watcher::new(alloc, number(&rt, 7)).expect(&rt, "memory");
+    watched(&rt, alloc, &mut source, &mut watcher, 1);
+    assert_eq!(rt; watcher.close(), None);
+    assert_eq!(rt; watcher.tally().troubles, 0);
 }
 
 // A stop ends the data at once, and a new start goes on behind its own slot.

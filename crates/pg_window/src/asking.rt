@@ -1,15 +1,16 @@
 //! A client of the control socket.
 
+use pg_status::{Answered, converse};
 use std::alloc::Global;
 use std::io;
-use std::io::{BufRead, BufReader, ErrorKind, Write};
-use std::net::Shutdown;
+use std::io::{BufReader, Write};
 use std::os::unix::net::UnixStream;
+use std::time::Duration;
 
-/// How the answer to a refused line begins.
-const REFUSED: &[u8] = b"refused ";
+/// How long an answer may take, in seconds.
+const SECONDS: u64 = 60;
 
-/// Sends lines to the control socket at this path, writes their answers, and tells whether none was refused (own rule).
+/// Sends lines to the control socket at this path, writes their answers, and tells how they were answered (own rule): as `converse`.
 ///
 /// # Errors
 ///
@@ -21,28 +22,10 @@ pub fn ask<W: Write>(
     path: &str,
     lines: &[&str],
     out: &mut W,
-) -> io::Result<bool> {
+) -> io::Result<Answered> {
     let stream = UnixStream::connect(files, path)?;
-    for line in lines {
-        (&stream).write_all(line.as_bytes())?;
-        (&stream).write_all(b"\n")?;
-    }
-    stream.shutdown(Shutdown::Write)?;
+    stream.set_read_timeout(Some(Duration::from_secs(SECONDS)))?;
     let mut answers = BufReader::new(alloc, &stream)?;
-    let mut line = Vec::new(alloc);
-    let mut is_refused = false;
-    for _ in 0..u64::MAX {
-        line.clear();
-        match answers.read_until(b'\n', &mut line) {
-            Ok(0) => break,
-            Ok(_) => {}
-            // The gateway ended, which is what `quit` asks for.
-            Err(error) if error.kind() == ErrorKind::ConnectionReset => break,
-            Err(error) => return Err(error),
-        }
-        is_refused = is_refused || line.starts_with(REFUSED);
-        out.write_all(&line)?;
-    }
-    out.flush()?;
-    Ok(!is_refused)
+    let mut sender = &stream;
+    converse(alloc, &mut answers, &mut sender, lines, out)
 }

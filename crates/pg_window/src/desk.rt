@@ -5,10 +5,10 @@ use crate::entrance::{ACCEPTED, Entrance};
 use mio::net::{UnixListener, UnixStream};
 use mio::{Interest, Poll, Token};
 use pg_service::{Detail, Entry, Journal, Notice, Whom};
-use pg_status::{Dialogue, Turned};
+use pg_status::{BUSY, Dialogue, Turned};
 use std::alloc::Global;
 use std::io;
-use std::io::ErrorKind;
+use std::io::{ErrorKind, Write};
 use std::sync::Wait;
 use std::time::{Duration, Instant};
 
@@ -138,9 +138,11 @@ impl Desk {
         }
     }
 
-    /// Lets a connection in, or closes it where there is no place.
+    /// Lets a connection in, or tells it that there is no place and closes it.
     fn admit<R: Wait>(&mut self, rt: &R, poll: &Poll, journal: &Journal, mut stream: UnixStream) {
         let Some(place) = self.speakers.iter().position(|it| it.is_none()) else {
+            // A new connection has room for a line; one that has none is closed without it.
+            let _ = (&stream).write(BUSY);
             return;
         };
         let token = Token(self.first.saturating_add(1).saturating_add(place));

@@ -4,7 +4,7 @@ use crate::clients::{Fake, LONG, Room, got, is, make_room};
 use pg_serve::Work;
 use pg_window::{Window, listen_at};
 use std::alloc::Global;
-use std::io::{ErrorKind, Write};
+use std::io::{ErrorKind, Read, Write};
 use std::os::unix::fs::PermissionsExt;
 use std::os::unix::net::UnixStream;
 use std::test::*;
@@ -63,9 +63,9 @@ fn lines_are_answered(rt: HostRuntime) {
     fs::remove_file(&rt, path.as_str()).expect(&rt, "the socket");
 }
 
-/// The ninth of nine clients is closed, and the others are answered.
+/// The ninth of nine clients is told that there is no place and closed, and the others are answered.
 #[test]
-fn the_ninth_is_closed(rt: HostRuntime) {
+fn the_ninth_is_told(rt: HostRuntime) {
     let alloc = rt.alloc();
     let Room {
         waiting,
@@ -90,8 +90,13 @@ fn the_ninth_is_closed(rt: HostRuntime) {
         if at < MOST {
             (&*stream).write_all(b"one\n").expect(&rt, "a line");
         }
-        let told = got(alloc, &mut window, &mut (&*stream), 9).expect(&rt, "an answer");
-        let wanted: &[u8] = if at < MOST { b"said one\n" } else { b"" };
+        let size = if at < MOST { 9 } else { 99 };
+        let told = got(alloc, &mut window, &mut (&*stream), size).expect(&rt, "an answer");
+        let wanted: &[u8] = if at < MOST {
+            b"said one\n"
+        } else {
+            b"refused 34 Busy\n"
+        };
         assert!(rt;
             is(&told.bytes, wanted) && told.is_ended == (at == MOST),
             "{at}"
@@ -163,4 +168,36 @@ fn a_stale_socket_is_replaced(rt: HostRuntime) {
     assert!(rt; third.is_err_and(|error| error.kind() == ErrorKind::AddrInUse));
     assert!(rt; fs::read_to_string(&rt, path).expect(&rt, "a file").as_str() == "text");
     fs::remove_file(&rt, path).expect(&rt, "the file");
+}
+
+/// One client floods lines, and another is answered all the same: of the flood at most 16 lines a turn.
+#[test]
+fn a_flood_of_lines(rt: HostRuntime) {
+    let alloc = rt.alloc();
+    let Room {
+        waiting,
+        mailbox,
+        journal,
+    } = make_room(&rt, alloc);
+    let path = path_of(&rt, alloc, "flood").expect(&rt, "a path");
+    let now = Instant::now(&rt).expect(&rt, "a clock");
+    let clerk = Fake { alloc, looks: 0 };
+    let mut window = Window::new(&rt, alloc, waiting, &mailbox, &journal, clerk, now).expect(
+        &rt, "a window",
+    );
+    let listener = listen_at(&rt, path.as_str()).expect(&rt, "a socket");
+    window.take_lines(listener).expect(&rt, "a listener");
+    let flood = client(&rt, path.as_str()).expect(&rt, "a client");
+    let other = client(&rt, path.as_str()).expect(&rt, "a client");
+    let lines = b"one\n".repeat(alloc, 1000).expect(&rt, "memory");
+    (&flood).write_all(&lines).expect(&rt, "lines");
+    (&other).write_all(b"two\n").expect(&rt, "a line");
+    window.turn();
+    window.turn();
+    let told = got(alloc, &mut window, &mut (&other), 9).expect(&rt, "an answer");
+    assert!(rt; is(&told.bytes, b"said two\n"));
+    let mut piece = [0u8; 9000];
+    let heard = (&flood).read(&mut piece).expect(&rt, "answers");
+    assert!(rt; heard > 0 && heard <= 4 * 16 * 9, "{heard}");
+    fs::remove_file(&rt, path.as_str()).expect(&rt, "the socket");
 }

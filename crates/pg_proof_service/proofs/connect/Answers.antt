@@ -1,11 +1,13 @@
 use Rattle.std.proofs.Common.{◌≡◌, ◌∙◌, inl, refl, sym, subst, [], ◌∷◌}
 use Rattle.std.proofs.lemmas.List.{append_cancel_left}
 use Rattle.pg_session.specs.Events.{connect}
+use Rattle.pg_gateway.specs.declared.event.Event.TheVariants as event
 use Rattle.pg_gateway.specs.Occurrences.{asks, told}
 use Rattle.pg_gateway.specs.Posting.{Posted}
 use Rattle.pg_serve.specs.Gates.{said_at}
 use Rattle.pg_serve.specs.Onward.{own_in}
 use Rattle.pg_serve.specs.Delivery.{NoneDrains, ArePassed}
+use Rattle.pg_proof_service.proofs.Joining.{gone_on}
 use Rattle.pg_proof_service.proofs.connect.Goals as goal
 
 pub returns : goal.returns
@@ -22,5 +24,12 @@ returns g c =
       delivers = λ w. c.deliveries_go_on.ensures.meanwhile u v c.post.new.self [] w on (subst (NoneDrains u) (sym said) none);
       heard = λ session r sub shows.
           c.deliveries_go_on.ensures.heard_none u session v c.post.new.self r on sub shows (subst (λ posts. ArePassed u posts []) (sym said) passed);
+      connects = record {
+        between = c.post.ensures.seat.between;
+        call = (event.Connect u, c.post.result);
+        asks = refl;
+        seat = gone_on v c.post.new.self c.post.ensures.seat.between (event.Connect u, c.post.result) on.table c.post.ensures.seat.seen c.post.ensures.seat.own;
+        legal = c.post.ensures.seat.legal;
+      };
       onward = on;
     }

@@ -34,6 +34,7 @@ returns-clause-both g c =
       history = longer;
       legal = both_legal seat one two joined (subst (λ v. GoesOn v one) first_same onward_one) (subst (λ v. GoesOn v two) second_same onward_two) longer;
       own = c.join.ensures.own;
+      apart = c.join.ensures.apart;
       first = is_served whole served_one.session joined.seen c.args.first split.0 seat one _ _ _ _ first_same
           (first_begins one.seen two.seen joined.seen longer) delivers_one heard_one;
       second = is_served whole served_two.session joined.seen c.args.second split.1 (beside seat) two _ _ _ _ second_same

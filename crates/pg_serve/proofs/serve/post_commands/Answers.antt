@@ -7,7 +7,7 @@ use Rattle.pg_serve.proofs.Sessions.{turned_nothing, turned_more, turned_passed,
 use Rattle.pg_serve.proofs.serve.post_commands.Goals as goal
 
 pub commands-init : goal.commands-init
-commands-init g c = record { ran = λ r w. turned_nothing _ r w _; onward = g.met.G.Gate.stays _; left = refl }
+commands-init g c = record { ran = λ r w due. turned_nothing due _ r w _; onward = g.met.G.Gate.stays _; left = refl }
 
 pub commands-preserved-in-Cmd-2 : goal.commands-preserved-in-Cmd-2
 commands-preserved-in-Cmd-2 g c =
@@ -15,26 +15,26 @@ commands-preserved-in-Cmd-2 g c =
     let posted = subst (λ u. Notes (g.G.Gate.posts c.commands.gate) (g.G.Gate.posts c.post.new.self) ((asks u (command asked.stream asked.word), told c.post.result) ∷ []))
     c.sub.ensures.value c.post.ensures.posted in
     record {
-      ran = λ r w.
-          turned_more _ _ _ _ _ _ _ _ _ _ _ _ _ (c.commands.invariant.ran r w)
-          (turned_passed _ _ r w _ _ asked _ c.in-Cmd.ensures.gives posted c.next_command.ensures.same c.next_command.ensures.buffer c.next_command.ensures.left);
+      ran = λ r w due.
+          turned_more _ _ _ _ _ _ _ _ _ _ _ _ _ _ _ _ _ _ (c.commands.invariant.ran r w due)
+          (turned_passed due _ _ r w _ _ asked _ c.in-Cmd.ensures.gives posted c.next_command.ensures.same c.next_command.ensures.buffer c.next_command.ensures.left);
       onward = g.met.G.Gate.joins _ _ _ c.commands.invariant.onward c.post.ensures.goes_on;
       left = c.next_command.ensures.left ∙ c.commands.invariant.left;
     }
 
 pub commands-preserved : goal.commands-preserved
 commands-preserved g c = record {
-  ran = λ r w.
-      turned_more _ _ _ _ _ _ _ _ _ _ _ _ _ (c.commands.invariant.ran r w)
-      (turned_ignored _ _ r w _ c.in-Ignored.field-0 c.in-Ignored.ensures.gives c.next_command.ensures.same c.next_command.ensures.buffer c.next_command.ensures.left);
+  ran = λ r w due.
+      turned_more _ _ _ _ _ _ _ _ _ _ _ _ _ _ _ _ _ _ (c.commands.invariant.ran r w due)
+      (turned_ignored due _ _ r w _ c.in-Ignored.field-0 c.in-Ignored.ensures.gives c.next_command.ensures.same c.next_command.ensures.buffer c.next_command.ensures.left);
   onward = c.commands.invariant.onward;
   left = c.next_command.ensures.left ∙ c.commands.invariant.left;
 }
 
 pub returns-in-Broken-clause-ran : goal.returns-in-Broken-clause-ran
-returns-in-Broken-clause-ran g c = λ r w.
-    turned_more _ _ _ _ _ _ _ _ _ _ _ _ _ (c.commands.invariant.ran r w)
-    (turned_broken _ _ r w _ (λ stream given shows. (c.in-Broken.ensures.gives stream given shows).2)
+returns-in-Broken-clause-ran g c = λ r w due.
+    turned_more _ _ _ _ _ _ _ _ _ _ _ _ _ _ _ _ _ _ (c.commands.invariant.ran r w due)
+    (turned_broken due _ _ r w _ (λ stream given shows. (c.in-Broken.ensures.gives stream given shows).2)
     c.next_command.ensures.same c.next_command.ensures.buffer c.next_command.ensures.left)
 
 pub returns-in-Broken-clause-given : goal.returns-in-Broken-clause-given

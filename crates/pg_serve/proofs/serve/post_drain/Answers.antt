@@ -19,4 +19,4 @@ returns-clause-ran g c =
     c.in-Drained.ensures.posted) in
     let left = ap (λ (x : Hearing). x.left) c.put_drained.ensures.state ∙ ap (λ n. take n bytes) c.handed_size.ensures ∙ bytes_drained bytes c.in-Drained.out in
     let same : c.put_drained.new.self ≡ record v { left = c.put_drained.new.self.left } = search rules in
-    λ r w. turned_drained v c.put_drained.new.self r w _ _ answer c.requires.left left posted same
+    λ r w due waited is. turned_drained due waited v c.put_drained.new.self r w _ _ answer is c.requires.given c.requires.whole c.requires.left left posted same

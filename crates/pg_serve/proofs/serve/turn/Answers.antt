@@ -1,49 +1,73 @@
-use Rattle.std.proofs.Common.{take, None, Some}
-use Rattle.pg_serve.proofs.Sessions.{turned_more, turned_wrote, turned_read, turned_unread, turned_pushed, turned_any, turned_end, given_same, breaks_same, cut_not_quiet, ends_read}
+use Rattle.std.proofs.Common.{refl, sym, ◌∙◌, inr, take, None, Some, false}
+use Rattle.pg_serve.proofs.Sessions.{turned_more, turned_wrote, turned_read, turned_unread, turned_pushed, turned_any, turned_end, given_same, breaks_same, cut_not_quiet, cut_waits, drain_is_due, ends_read, ends_so, unwaited}
+use Rattle.pg_serve.specs.Serving.{due_read}
+use Rattle.pg_serve.specs.Turned.{is_quiet}
 use Rattle.pg_serve.proofs.serve.turn.Goals as goal
 
 pub returns-in-Some-clause-ran : goal.returns-in-Some-clause-ran
-returns-in-Some-clause-ran g c =
-    turned_end c.in-Some.end _ _ _ _ _ _ _ _ (cut_not_quiet c.in-Some.end c.in-Some.ensures.cut)
-    (turned_wrote _ _ _ _ _ _ c.push_left.ensures.writes c.push_left.ensures.same)
+returns-in-Some-clause-ran g c = (
+  false,
+  false,
+  unwaited c.in-Some.end,
+  turned_end c.in-Some.end _ _ _ _ _ _ _ _ _ _ _ (cut_not_quiet c.in-Some.end c.in-Some.ensures.cut)
+      (turned_wrote _ _ _ _ _ _ _ c.push_left.ensures.writes c.push_left.ensures.same),
+)
 
 pub returns-in-Some-clause-given : goal.returns-in-Some-clause-given
 returns-in-Some-clause-given g c = given_same _ _ c.push_left.ensures.same c.requires.given
 
 pub returns-in_default-read_piece-clause-ran : goal.returns-in_default-read_piece-clause-ran
-returns-in_default-read_piece-clause-ran g c =
-    turned_end _ _ _ _ _ _ _ _ _ tt
-    (turned_more _ _ _ _ _ _ _ _ _ _ _ _ _ (turned_wrote _ _ _ _ _ _ c.push_left.ensures.writes c.push_left.ensures.same)
-    (turned_unread _ _ _ _ _ c.in_default-read_piece.ensures.failed))
+returns-in_default-read_piece-clause-ran g c = (
+  false,
+  false,
+  inr refl,
+  turned_end _ _ _ _ _ _ _ _ _ _ _ _ tt
+      (turned_more _ _ _ _ _ _ _ _ _ _ _ _ _ _ _ _ _ _ (turned_wrote _ _ _ _ _ _ _ c.push_left.ensures.writes c.push_left.ensures.same)
+      (turned_unread _ _ _ _ _ _ c.in_default-read_piece.ensures.failed)),
+)
 
 pub returns-in_default-read_piece-clause-given : goal.returns-in_default-read_piece-clause-given
 returns-in_default-read_piece-clause-given g c = given_same _ _ c.push_left.ensures.same c.requires.given
 
 pub returns-in-Some-post_commands-clause-ran : goal.returns-in-Some-post_commands-clause-ran
 returns-in-Some-post_commands-clause-ran g c =
-    let piece = take c.in-Some-read_piece.size c.read_piece.new.buffer in
-    turned_end _ _ _ _ _ _ _ _ _ tt
-    (turned_more _ _ _ _ _ _ _ _ _ _ _ _ _ (turned_wrote _ _ _ _ _ _ c.push_left.ensures.writes c.push_left.ensures.same)
-    (turned_more _ _ _ _ _ _ _ _ _ _ _ _ _ (turned_read _ _ _ _ _ _ piece c.in-Some-read_piece.ensures.read.1 c.feed.ensures.state c.feed.ensures.shows)
-    (c.post_commands.ensures.ran _ _)))
+    let piece = take c.in-Some-read_piece.size c.read_piece.new.buffer in (
+      due_read false piece,
+      false,
+      inr refl,
+      turned_end _ _ _ _ _ _ _ _ _ _ _ _ tt
+          (turned_more _ _ _ _ _ _ _ _ _ _ _ _ _ _ _ _ _ _ (turned_wrote _ _ _ _ _ _ _ c.push_left.ensures.writes c.push_left.ensures.same)
+          (turned_more _ _ _ _ _ _ _ _ _ _ _ _ _ _ _ _ _ _ (turned_read _ _ _ _ _ _ _ piece c.in-Some-read_piece.ensures.read.1 c.feed.ensures.state c.feed.ensures.shows)
+          (c.post_commands.ensures.ran _ _ _))),
+    )
 
-pub returns-in-Some-Closed-clause-ran : goal.returns-in-Some-Closed-clause-ran
-returns-in-Some-Closed-clause-ran g c =
-    let piece = take c.in-Some-read_piece.size c.read_piece.new.buffer in
-    turned_end _ _ _ _ _ _ _ _ _ tt
-    (turned_more _ _ _ _ _ _ _ _ _ _ _ _ _ (turned_wrote _ _ _ _ _ _ c.push_left.ensures.writes c.push_left.ensures.same)
-    (turned_more _ _ _ _ _ _ _ _ _ _ _ _ _ (turned_read _ _ _ _ _ _ piece c.in-Some-read_piece.ensures.read.1 c.feed.ensures.state c.feed.ensures.shows)
-    (c.post_commands.ensures.ran _ _)))
+pub returns-then-is_closed-clause-ran : goal.returns-then-is_closed-clause-ran
+returns-then-is_closed-clause-ran g c =
+    let piece = take c.in-Some-read_piece.size c.read_piece.new.buffer in (
+      due_read false piece,
+      false,
+      refl,
+      turned_end _ _ _ _ _ _ _ _ _ _ _ _ tt
+          (turned_more _ _ _ _ _ _ _ _ _ _ _ _ _ _ _ _ _ _ (turned_wrote _ _ _ _ _ _ _ c.push_left.ensures.writes c.push_left.ensures.same)
+          (turned_more _ _ _ _ _ _ _ _ _ _ _ _ _ _ _ _ _ _ (turned_read _ _ _ _ _ _ _ piece c.in-Some-read_piece.ensures.read.1 c.feed.ensures.state c.feed.ensures.shows)
+          (c.post_commands.ensures.ran _ _ _))),
+    )
 
 pub returns-in-Some-push_left-clause-ran : goal.returns-in-Some-push_left-clause-ran
 returns-in-Some-push_left-clause-ran g c =
     let piece = take c.in-Some-read_piece.size c.read_piece.new.buffer in
-    turned_pushed _ _ _ _ _ _ _ _ _ _ _
-    (turned_any (Some c.in-Some-push_left.cut) _ _ _ _ _ _ _ _
-    (turned_more _ _ _ _ _ _ _ _ _ _ _ _ _ (turned_wrote _ _ _ _ _ _ c.push_left.ensures.writes c.push_left.ensures.same)
-    (turned_more _ _ _ _ _ _ _ _ _ _ _ _ _ (turned_read _ _ _ _ _ _ piece c.in-Some-read_piece.ensures.read.1 c.feed.ensures.state c.feed.ensures.shows)
-    (turned_more _ _ _ _ _ _ _ _ _ _ _ _ _ (c.post_commands.ensures.ran _ _) (c.post_drain.ensures.ran _ _)))))
-    c.push_left-2.ensures.writes c.push_left-2.ensures.same
+    let due = drain_is_due c.in-Some-read_piece.end c.in-Some-read_piece.size c.read_piece.new.buffer c.in-Some-read_piece.ensures.kind
+    c.in-Some-read_piece.ensures.read.0 c.in-Some-read_piece.ensures.some (sym c.is_closed.ensures.value ∙ c.if-is_closed.false) in (
+      false,
+      is_quiet c.in-Some-read_piece.end,
+      cut_waits c.in-Some-push_left.cut _ c.in-Some-push_left.ensures.cut,
+      turned_pushed _ _ _ _ _ _ _ _ _ _ _ _ _ _
+          (turned_any (Some c.in-Some-push_left.cut) _ _ _ _ _ _ _ _ _ _ _
+          (turned_more _ _ _ _ _ _ _ _ _ _ _ _ _ _ _ _ _ _ (turned_wrote _ _ _ _ _ _ _ c.push_left.ensures.writes c.push_left.ensures.same)
+          (turned_more _ _ _ _ _ _ _ _ _ _ _ _ _ _ _ _ _ _ (turned_read _ _ _ _ _ _ _ piece c.in-Some-read_piece.ensures.read.1 c.feed.ensures.state c.feed.ensures.shows)
+          (turned_more _ _ _ _ _ _ _ _ _ _ _ _ _ _ _ _ _ _ (c.post_commands.ensures.ran _ _ _) (c.post_drain.ensures.ran _ _ _ _ due)))))
+          c.push_left-2.ensures.writes c.push_left-2.ensures.same,
+    )
 
 pub returns-in-Some-push_left-clause-given : goal.returns-in-Some-push_left-clause-given
 returns-in-Some-push_left-clause-given g c = given_same _ _ c.push_left-2.ensures.same (given_same _ _ c.post_drain.ensures.same c.post_commands.ensures.given)
@@ -51,12 +75,18 @@ returns-in-Some-push_left-clause-given g c = given_same _ _ c.push_left-2.ensure
 pub returns-in-None-clause-ran : goal.returns-in-None-clause-ran
 returns-in-None-clause-ran g c =
     let piece = take c.in-Some-read_piece.size c.read_piece.new.buffer in
-    turned_pushed _ _ _ _ _ _ _ _ _ _ _
-    (turned_any c.in-Some-read_piece.end _ _ _ _ _ _ _ _
-    (turned_more _ _ _ _ _ _ _ _ _ _ _ _ _ (turned_wrote _ _ _ _ _ _ c.push_left.ensures.writes c.push_left.ensures.same)
-    (turned_more _ _ _ _ _ _ _ _ _ _ _ _ _ (turned_read _ _ _ _ _ _ piece c.in-Some-read_piece.ensures.read.1 c.feed.ensures.state c.feed.ensures.shows)
-    (turned_more _ _ _ _ _ _ _ _ _ _ _ _ _ (c.post_commands.ensures.ran _ _) (c.post_drain.ensures.ran _ _)))))
-    c.push_left-2.ensures.writes c.push_left-2.ensures.same
+    let due = drain_is_due c.in-Some-read_piece.end c.in-Some-read_piece.size c.read_piece.new.buffer c.in-Some-read_piece.ensures.kind
+    c.in-Some-read_piece.ensures.read.0 c.in-Some-read_piece.ensures.some (sym c.is_closed.ensures.value ∙ c.if-is_closed.false) in (
+      false,
+      is_quiet c.in-Some-read_piece.end,
+      ends_so c.in-Some-read_piece.end,
+      turned_pushed _ _ _ _ _ _ _ _ _ _ _ _ _ _
+          (turned_any c.in-Some-read_piece.end _ _ _ _ _ _ _ _ _ _ _
+          (turned_more _ _ _ _ _ _ _ _ _ _ _ _ _ _ _ _ _ _ (turned_wrote _ _ _ _ _ _ _ c.push_left.ensures.writes c.push_left.ensures.same)
+          (turned_more _ _ _ _ _ _ _ _ _ _ _ _ _ _ _ _ _ _ (turned_read _ _ _ _ _ _ _ piece c.in-Some-read_piece.ensures.read.1 c.feed.ensures.state c.feed.ensures.shows)
+          (turned_more _ _ _ _ _ _ _ _ _ _ _ _ _ _ _ _ _ _ (c.post_commands.ensures.ran _ _ _) (c.post_drain.ensures.ran _ _ _ _ due)))))
+          c.push_left-2.ensures.writes c.push_left-2.ensures.same,
+    )
 
 pub returns-in-None-clause-given : goal.returns-in-None-clause-given
 returns-in-None-clause-given g c = given_same _ _ c.push_left-2.ensures.same (given_same _ _ c.post_drain.ensures.same c.post_commands.ensures.given)

@@ -4,7 +4,7 @@ use Rattle.std.specs.Arc.{arc_value}
 use Rattle.pg_session.specs.Events.{measure, samples_at}
 use Rattle.pg_session.specs.Private.{told}
 use Rattle.pg_gateway.specs.Sharing.{share}
-use Rattle.pg_gateway.specs.Taking.{measured}
+use Rattle.pg_gateway.specs.Taking.{measured, TakesOffer}
 use Rattle.pg_gateway.proofs.Taking.{measured_none, measured_share, offer_none, offer_some, fit_at, laid_at}
 use Rattle.std.proofs.lemmas.List.{append-nil}
 use Rattle.pg_gateway.proofs.slot.SubscriberSlot.take_measured.Goals as goal
@@ -12,7 +12,9 @@ use Rattle.pg_gateway.proofs.slot.SubscriberSlot.take_measured.Goals as goal
 pub returns-then-not-hold_blocks-clause-takes : goal.returns-then-not-hold_blocks-clause-takes
 returns-then-not-hold_blocks-clause-takes c =
     let none = measured_none (arc_value c.args.frame.now) c.args.places.now c.hold_blocks.new.held.items c.self.inside.subscriber.own.grants c.hold_blocks.ensures.held (c.hold_blocks.ensures.none c.if-not-hold_blocks.true) in
-    offer_none (measured (arc_value c.args.frame.now) c.args.places.now) c.args.lost c.args.self.now (ap (λ v. share (measured (arc_value c.args.frame.now) c.args.places.now) v.subscriber.own.grants) (sym c.self.view_is) ∙ none) c.requires.awaits
+    -- (what is guessed next is not seen)
+    subst (λ v. TakesOffer (measured (arc_value c.args.frame.now) c.args.places.now) c.args.lost c.args.self.now (0, 0) v) (sym c.self.view_is)
+    (offer_none (measured (arc_value c.args.frame.now) c.args.places.now) c.args.lost c.args.self.now (ap (λ v. share (measured (arc_value c.args.frame.now) c.args.places.now) v.subscriber.own.grants) (sym c.self.view_is) ∙ none) c.requires.awaits)
 
 pub take-requires-clause-accepts : goal.take-requires-clause-accepts
 take-requires-clause-accepts c =

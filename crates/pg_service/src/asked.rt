@@ -1,0 +1,87 @@
+//! What an edit asks for, in words.
+
+use crate::journal::Whom;
+use pg_gateway::Edit;
+use pg_wire::{PmuId, PmuKey, Refusal, StreamId};
+use std::fmt;
+
+/// What an edit of a setup asks for, of a subscriber or of a source's PMU.
+#[derive(Clone, Copy, Debug, PartialEq, Eq)]
+pub enum Asked {
+    /// The PMU of the source is registered.
+    AddPmu(PmuId),
+    /// It is registered no longer.
+    DropPmu(PmuId),
+    /// The subscriber is added.
+    AddSub,
+    /// It is dropped.
+    DropSub,
+    /// It may have the PMU.
+    Grant(PmuKey),
+    /// It may have it no longer.
+    Revoke(PmuKey),
+    /// It has a stream of this IDCODE.
+    Define(StreamId),
+    /// It has it no longer.
+    Remove(StreamId),
+}
+
+impl Asked {
+    /// What this edit asks for, and of whom; `None` where it asks for counters alone.
+    pub fn of(edit: &Edit) -> Option<(Whom, Asked)> {
+        let asked = match edit {
+            Edit::AddPmu(key) => (Whom::Source(key.source), Asked::AddPmu(key.pmu)),
+            Edit::DropPmu(key) => (Whom::Source(key.source), Asked::DropPmu(key.pmu)),
+            Edit::AddSub(sub, ..) => (Whom::Subscriber(*sub), Asked::AddSub),
+            Edit::DropSub(sub) => (Whom::Subscriber(*sub), Asked::DropSub),
+            Edit::Grant(sub, key) => (Whom::Subscriber(*sub), Asked::Grant(*key)),
+            Edit::Revoke(sub, key) => (Whom::Subscriber(*sub), Asked::Revoke(*key)),
+            Edit::Define(sub, definition) => {
+                (Whom::Subscriber(*sub), Asked::Define(definition.stream))
+            }
+            Edit::Remove(sub, stream) => (Whom::Subscriber(*sub), Asked::Remove(*stream)),
+            Edit::Stats(_) | Edit::PmuStats(_) | Edit::Audit(..) => return None,
+        };
+        Some(asked)
+    }
+}
+
+/// What can't be done.
+pub(crate) fn write_asked<W: fmt::Write>(asked: Asked, f: &mut fmt::Formatter<W>) -> fmt::Result {
+    match asked {
+        Asked::AddPmu(pmu) => write!(f, "PMU {} can't be registered", pmu.get()),
+        Asked::DropPmu(pmu) => write!(f, "PMU {} can't be dropped", pmu.get()),
+        Asked::AddSub => f.write_str("can't be added"),
+        Asked::DropSub => f.write_str("can't be dropped"),
+        Asked::Grant(key) => {
+            let (source, pmu) = (key.source.get(), key.pmu.get());
+            write!(f, "PMU {source}/{pmu} can't be granted")
+        }
+        Asked::Revoke(key) => {
+            let (source, pmu) = (key.source.get(), key.pmu.get());
+            write!(f, "the grant of PMU {source}/{pmu} can't be revoked")
+        }
+        Asked::Define(stream) => write!(f, "stream {} can't be defined", stream.get()),
+        Asked::Remove(stream) => write!(f, "stream {} can't be removed", stream.get()),
+    }
+}
+
+/// Why a running gateway refuses an edit.
+pub(crate) fn why(refusal: Refusal) -> &'static str {
+    match refusal {
+        Refusal::NoMemory => "there is no memory for it",
+        Refusal::NoSuchPmu => "the PMU is not registered",
+        Refusal::PmuExists => "it is registered already",
+        Refusal::PmusFull => "256 are registered, and no more may be",
+        Refusal::NoSuchSub => "the subscriber is not there",
+        Refusal::SubExists => "it is there already",
+        Refusal::SubsFull => "64 are there, and no more may be",
+        Refusal::GrantsFull => "it has 32 grants, and no more may be",
+        Refusal::NotGranted => "it has no such grant",
+        Refusal::NoSuchStream => "it has no such stream",
+        Refusal::StreamExists => "it has such a stream already",
+        Refusal::StreamsFull => "it has 8 streams, and no more may be",
+        Refusal::BadDefinition => "its definition is outside the limits",
+        _ => "the gateway refuses it",
+    }
+}

@@ -1,0 +1,2 @@
+-- Definitions that the contracts of what the program says cite.
+pub mod Said
