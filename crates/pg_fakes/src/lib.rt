@@ -1,5 +1,5 @@
-//! A reader and a writer over memory, for tests: they tell their bytes, and can fail or block at one call. And a gate that
-//! keeps what it was posted.
+//! A reader and a writer over memory, for tests: they tell their bytes, and can fail or block at one call. A gate that keeps what it
+//! was posted. And a hand that takes all memory.
 #![tactic(auto)]
 
 ghost use Rattle.std.specs.Prelude.{◌≡◌, ◌≤◌, length, drop, Some};
@@ -9,6 +9,33 @@ use pg_ring::Drained;
 use std::alloc::Global;
 use std::io;
 use std::io::{ErrorKind, Read, Write};
+
+/// The pieces that memory is taken in, at most.
+const PIECES: usize = 40_000;
+
+/// Takes all memory that there is, down to the last byte, until the pieces that it answers are dropped. None where there is no memory for
+/// the list of them, or they are more than 40,000.
+pub fn all_memory(alloc: Global) -> Option<Vec<Vec<u8>>> {
+    let mut held = match Vec::with_capacity(alloc, PIECES) {
+        Ok(held) => held,
+        Err(_) => return None,
+    };
+    let mut size: usize = 1 << 46;
+    for _ in 0..PIECES {
+        if size == 0 {
+            return Some(held);
+        }
+        match Vec::with_capacity(alloc, size) {
+            Ok(piece) => {
+                if held.push(piece).is_err() {
+                    return None;
+                }
+            }
+            Err(_) => size /= 2,
+        }
+    }
+    None
+}
 
 /// A reader over bytes, of at most `most` at a read (0 counts as 1). Its call number `fails_at`, from 1 on, gives an error of
 /// this kind and takes nothing; 0 is no call.

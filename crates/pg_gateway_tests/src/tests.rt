@@ -2,6 +2,7 @@ use pg_audit::{PmuStats, Stats, What};
 use pg_command::Command;
 use pg_config::{SourceConfig, read_config};
 use pg_data::{DataFrame, read_data};
+use pg_fakes::all_memory;
 use pg_gateway::*;
 use pg_ring::{RingBytes, RingSize};
 use pg_stream::{Definition, HeaderText, Members};
@@ -637,26 +638,9 @@ fn fan_out_of_512(rt: HostRuntime) {
     }
 }
 
-// Takes all memory that there is, down to the last byte, until the pieces that it answers are dropped.
-fn all_memory(rt: &impl Abort, alloc: Global) -> Vec<Vec<u8>> {
-    let mut held = Vec::with_capacity(alloc, 40_000).expect(rt, "memory");
-    let mut size: usize = 1 << 46;
-    for _ in 0..40_000 {
-        if size == 0 {
-            break;
-        }
-        match Vec::with_capacity(alloc, size) {
-            Ok(piece) => assert!(rt; held.push(piece).is_ok()),
-            Err(_) => size /= 2,
-        }
-    }
-    assert!(rt; size == 0);
-    held
-}
-
 // What the gateway answers where each allocation is refused.
 fn starved(rt: &impl Abort, alloc: Global, gateway: &mut Gateway, event: Event) -> Reply {
-    let held = all_memory(rt, alloc);
+    let held = all_memory(alloc).expect(rt, "a list of it");
     let reply = gateway.step(event);
     drop(held);
     reply
@@ -683,7 +667,7 @@ fn loss_reaches_later_subscribers(rt: HostRuntime) {
     }
     let frame = frame_7(&rt, alloc, &config);
     let place: Vec<u8> = Vec::with_capacity(alloc, FRAME_7.len()).expect(&rt, "memory");
-    let held = all_memory(&rt, alloc);
+    let held = all_memory(alloc).expect(&rt, "a list of it");
     drop(place);
     let reply = gateway.step(frame);
     drop(held);

@@ -90,7 +90,8 @@ fn write_names<W: fmt::Write>(f: &mut fmt::Formatter<W>, rules: &[Rule]) -> fmt:
     Ok(())
 }
 
-/// What is wrong with a setup file: each fault, in the order of their lines, and none where `read_setup` takes the text (own rule).
+/// What is wrong with a setup file: each fault, in the order of their lines (own rule). Where `read_setup` takes the text they are the
+/// numbers of streams that are beyond a definition's ranges, which the gateway refuses.
 ///
 /// # Errors
 ///

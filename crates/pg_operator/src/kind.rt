@@ -119,13 +119,14 @@ pub(crate) const SUBSCRIBER: [Rule; 11] = [
     optional!("idle", Kind::Whole(0, 3600)),
 ];
 
-/// The keys of a stream's table. What a definition allows of its numbers is told where the gateway refuses it.
+/// The keys of a stream's table, with the ranges of a definition: a setup is read with wider ones, and the gateway refuses what is
+/// beyond these, but who has to mend a file is told what would be right.
 pub(crate) const STREAM: [Rule; 7] = [
     required!("id", Kind::Whole(1, 65534)),
-    required!("rate", Kind::Whole(0, 255)),
-    required!("base", Kind::Whole(0, u32::MAX)),
-    required!("wait", Kind::Whole(0, u32::MAX)),
-    required!("window", Kind::Whole(0, u32::MAX)),
+    required!("rate", Kind::Whole(1, 120)),
+    required!("base", Kind::Whole(1, 16_777_215)),
+    required!("wait", Kind::Whole(0, 60_000)),
+    required!("window", Kind::Whole(1, 64)),
     optional!("header", Kind::Text),
     required!("members", Kind::Members),
 ];

@@ -169,9 +169,29 @@ wait = 2
 members = [7]
 header = 5
 =>
-6: subscriber.stream.window: is missing; it has to be a whole number from 0 to 4294967295
-8: subscriber.stream.rate: is a number with a fraction, a date or a time; it has to be a whole number from 0 to 255
+6: subscriber.stream.window: is missing; it has to be a whole number from 1 to 64
+8: subscriber.stream.rate: is a number with a fraction, a date or a time; it has to be a whole number from 1 to 120
 12: subscriber.stream.header: is the number 5; it has to be a text
+----
+[[pmu]]
+id = 7
+[[subscriber]]
+id = 1
+ring = 64
+[[subscriber.stream]]
+id = 101
+rate = 121
+base = 16777216
+wait = 60001
+window = 65
+members = [7]
+rat = 30
+=>
+8: subscriber.stream.rate: is the number 121; it has to be a whole number from 1 to 120
+9: subscriber.stream.base: is the number 16777216; it has to be a whole number from 1 to 16777215
+10: subscriber.stream.wait: is the number 60001; it has to be a whole number from 0 to 60000
+11: subscriber.stream.window: is the number 65; it has to be a whole number from 1 to 64
+13: subscriber.stream.rat: is no key here; the keys here are id, rate, base, wait, window, header, members
 ----
 tick_ms = = 10
 [[pmu]]
@@ -330,5 +350,5 @@ fn wrong_setups(rt: HostRuntime) {
         }
         count = count.saturating_add(1);
     }
-    assert_eq!(rt; count, 27);
+    assert_eq!(rt; count, 28);
 }

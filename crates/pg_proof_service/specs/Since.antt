@@ -1,5 +1,5 @@
 -- A session since the Connect of its seat, and of two services.
-use Rattle.std.specs.Prelude.{◌≡◌, ℕ, List, [], ◌∷◌, ◌++◌, length, Option}
+use Rattle.std.specs.Prelude.{◌≡◌, ◌≢◌, ℕ, List, [], ◌∷◌, ◌++◌, length, Option}
 use Rattle.pg_turn.specs.Known.{Known}
 use Rattle.pg_session.specs.Events.{connect}
 use Rattle.pg_session.specs.Commands.{Hearing}
@@ -8,9 +8,10 @@ use Rattle.pg_gateway.specs.declared.event.Reply.{Reply}
 use Rattle.pg_gateway.specs.Occurrences.{occurrence, asks}
 use Rattle.pg_gateway.specs.State.{opening}
 use Rattle.pg_gateway.specs.Histories.{Legal}
-use Rattle.pg_gateway.specs.Laws.{answers_of}
-use Rattle.pg_gateway.specs.Views.{view, AllLossless}
+use Rattle.pg_gateway.specs.Laws.{after, answers_of}
+use Rattle.pg_gateway.specs.Views.{Seen, takes, view, AllLossless}
 use Rattle.pg_serve.specs.Sharing.{Call, history_of}
+use Rattle.pg_serve.specs.Onward.{calls_in}
 use Rattle.pg_serve.specs.Delivery.{events_in, OwnDrains, Delivers, HasHeard}
 
 -- a seat once others made these calls, and then it made this one
@@ -43,13 +44,30 @@ pub record SinceConnect (u : ℕ) (session : Hearing) (v v' : Known Event Reply)
 
 -- ---- two services
 
+-- Nothing of this is a Connect.
+abbrev pub SeesNoConnect : List Seen → Type 0
+SeesNoConnect [] = Unit {0}
+SeesNoConnect (x ∷ xs) = (x ≢ takes connect) × SeesNoConnect xs
+
+-- By u's view of the history the calls before end with a Connect of u, and it sees none in those since: it is the last one.
+pub record ConnectsLast (u : ℕ) (before since : List Call) : Type 0 where
+  pub earlier : List Seen
+  pub there : view u opening (events_in before) ≡ earlier ++ takes connect ∷ []
+  pub last : SeesNoConnect (view u (after (events_in before)) (events_in since))
+
 -- In each of two services a session of u was served since its Connect. Where no answer of either history tells a loss or want of
--- memory, and in each none but its seat drained u since: if u's views of the two histories up to these Connects are equal, and so
--- are its views of the whole histories, then both sockets were given the same bytes, those that are left to write among them.
+-- memory, and in each none but its seat drained u since: if u's views of the two histories are equal, and in each that Connect is the
+-- last that u sees, then both sockets were given the same bytes, those that are left to write among them. So it is too where instead
+-- u's views of the histories up to these Connects are equal.
 pub record ViewsDecide (u : ℕ) (session other : Hearing) (s s' t t' : Known Event Reply)
     (r r' w w' q q' x x' : Option (List ℕ)) : Type 0 where
   pub one : SinceConnect u session s s' r r' w w'
   pub two : SinceConnect u other t t' q q' x x'
+  pub last : AllLossless (answers_of (history_of s'.seen)) → OwnDrains u one.delivers.since
+      → AllLossless (answers_of (history_of t'.seen)) → OwnDrains u two.delivers.since
+      → ConnectsLast u one.start.seen (calls_in one.delivers.since) → ConnectsLast u two.start.seen (calls_in two.delivers.since)
+      → view u opening (events_in s'.seen) ≡ view u opening (events_in t'.seen)
+      → one.delivers.out ++ session.left ≡ two.delivers.out ++ other.left
   pub alike : AllLossless (answers_of (history_of s'.seen)) → OwnDrains u one.delivers.since
       → AllLossless (answers_of (history_of t'.seen)) → OwnDrains u two.delivers.since
       → view u opening (events_in one.start.seen) ≡ view u opening (events_in two.start.seen)

@@ -164,7 +164,7 @@ pub fn compare_services<R: Read, W: Write, T: Wait, N: Named, M: Named>(
 ) -> Result<(Session, Session), Refusal>
     ensures alike { IfOk result (λ both. DeliverAlike sub gate.old gate.new other_gate.old other_gate.new both.0.left both.1.left
         (W.contents one.old.writer) (W.contents one.new.writer) (W.contents other.old.writer) (W.contents other.new.writer)) }
-    // So it is where its views of the two histories are equal: those up to its Connects, and those of the whole.
+    // So it is where its views of the two histories are equal, and the Connects are the last that it sees in them.
     ensures views { IfOk result (λ both. ViewsDecide sub both.0 both.1 gate.old gate.new other_gate.old other_gate.new
         (R.remaining one.old.reader) (R.remaining one.new.reader) (W.contents one.old.writer) (W.contents one.new.writer)
         (R.remaining other.old.reader) (R.remaining other.new.reader) (W.contents other.old.writer) (W.contents other.new.writer)) }

@@ -3,6 +3,7 @@
 //! clocks, by state machines over any reader, writer, gate and time. All of it is a rule of this project.
 #![tactic(auto)]
 
+mod agenda;
 mod asked;
 mod board;
 mod counted;

@@ -1,7 +1,9 @@
 //! Workers that serve subscribers.
 
 ghost use Rattle.std.specs.Prelude.{◌≡◌, None, option_map, true};
+ghost use Rattle.pg_service.specs.Posts.{OwnOnly, through};
 
+use crate::agenda::Agenda;
 use crate::board::{Board, PortReport};
 use crate::counted::Counted;
 use crate::door::{Door, DoorRules, Knock};
@@ -12,7 +14,7 @@ use crate::patience::Overdue;
 use crate::sources::READS;
 use crate::stamps::{Aged, Stamps};
 use crate::switches::Switches;
-use crate::waiting::{PATIENCE_MS, Waiting, sooner};
+use crate::waiting::{Waiting, sooner};
 use crate::watched::Watched;
 use mio::net::{TcpListener, TcpStream};
 use mio::{Interest, Poll, Token};
@@ -22,13 +24,13 @@ use pg_serve::{Named, SharedGate, Work};
 use pg_status::Histogram;
 use pg_wire::SubId;
 use std::alloc::Global;
+use std::io;
 use std::io::ErrorKind;
 use std::marker::Model;
 use std::net::{IpAddr, Ipv4Addr, Net, SocketAddr};
 use std::rt::Clock;
 use std::sync::Wait;
 use std::time::{Duration, Instant};
-use std::{io, mem};
 
 /// The connections that one turn accepts at most. The others wait for the next turn.
 const ACCEPTED: u32 = 16;
@@ -127,12 +129,8 @@ pub struct PortWorker<'a, R: Wait + Net + Clock, N: Named> {
     ports: Vec<Option<Port>>,
     // How old the data frames were that its ports handed out.
     ages: Histogram,
-    // The places of ports that are served in this turn, and of those that have more to do in the next.
-    ready: Vec<usize>,
-    serving: Vec<usize>,
-    // When a subscriber is waited for no longer, or before; None where none is waited for.
-    due: Option<Instant>,
-    now: Instant,
+    // The places of ports that are served, and when a subscriber is waited for no longer.
+    agenda: Agenda,
 }
 
 impl<'a, R: Wait + Net + Clock, N: Named> Model for PortWorker<'a, R, N> {
@@ -170,10 +168,7 @@ impl<'a, R: Wait + Net + Clock, N: Named> PortWorker<'a, R, N> {
             board,
             ports: Vec::new(alloc),
             ages: Histogram::new(),
-            ready: Vec::new(alloc),
-            serving: Vec::new(alloc),
-            due: None,
-            now,
+            agenda: Agenda::new(alloc, now),
         }
     }
 
@@ -185,13 +180,12 @@ impl<'a, R: Wait + Net + Clock, N: Named> PortWorker<'a, R, N> {
     pub fn open(&mut self, mut port: Port) -> io::Result<()> {
         let free = self.ports.iter().position(|it| it.is_none());
         let place = free.unwrap_or(self.ports.len());
-        self.ready.reserve(self.ports.len() + 1)?;
-        self.serving.reserve(self.ports.len() + 1)?;
+        self.agenda.reserve(self.ports.len() + 1)?;
         self.waiting
             .poll()
             .registry()
             .register(&mut port.listener, listening(place), Interest::READABLE)?;
-        port.since = Some(self.now);
+        port.since = Some(self.agenda.now);
         match self.ports.get_mut(place) {
             Some(free) => *free = Some(port),
             None => self.ports.push(Some(port))?,
@@ -208,32 +202,12 @@ impl<'a, R: Wait + Net + Clock, N: Named> PortWorker<'a, R, N> {
         gate.into_inner()
     }
 
-    /// Reads the clock. Where it can't be read, it is as late as it was.
-    fn read_clock(&mut self) {
-        match Instant::now(self.rt) {
-            Ok(now) => self.now = now,
-            Err(_) => self.journal.note(Notice::ClockFault),
-        }
-    }
-
-    /// How long a turn waits at most.
-    fn patience(&self) -> Duration {
-        if !self.ready.is_empty() {
-            return Duration::ZERO;
-        }
-        let most = Duration::from_millis(PATIENCE_MS);
-        match self.due {
-            Some(due) => most.min(due.saturating_duration_since(self.now)),
-            None => most,
-        }
-    }
-
     /// Serves this port in this turn.
     fn mark(&mut self, place: usize, asks: bool) {
         if let Some(Some(port)) = self.ports.get_mut(place) {
             port.is_asked = port.is_asked || asks;
             // There is room for each port once.
-            if !port.is_ready && self.ready.push(place).is_ok() {
+            if !port.is_ready && self.agenda.add(place) {
                 port.is_ready = true;
             }
         }
@@ -265,7 +239,7 @@ impl<'a, R: Wait + Net + Clock, N: Named> PortWorker<'a, R, N> {
     fn report(&self, asking: u64) {
         let mut told = Vec::new(self.alloc);
         for port in self.ports.iter().flatten() {
-            if told.push(port.report(self.now)).is_err() {
+            if told.push(port.report(self.agenda.now)).is_err() {
                 self.journal.note(Notice::MailFault);
             }
         }
@@ -310,7 +284,7 @@ impl<'a, R: Wait + Net + Clock, N: Named> PortWorker<'a, R, N> {
     fn hang_up(&mut self, sub: SubId) {
         for port in self.ports.iter_mut().flatten() {
             if port.is_of(sub) && port.door.hang_up(&mut self.gate) {
-                port.part(self.now);
+                port.part(self.agenda.now);
                 let entry = port.entry(Notice::HungUp, Detail::Nothing);
                 self.journal.tell(self.rt, entry);
             }
@@ -324,21 +298,21 @@ impl<'a, R: Wait + Net + Clock, N: Named> PortWorker<'a, R, N> {
             let Some(Some(port)) = self.ports.get_mut(place) else {
                 continue;
             };
-            if let Some(overdue) = port.door.expire(&mut self.gate, self.now) {
-                port.part(self.now);
+            if let Some(overdue) = port.door.expire(&mut self.gate, self.agenda.now) {
+                port.part(self.agenda.now);
                 let entry = port.entry(notice_of(Gone::Overdue(overdue)), Detail::Nothing);
                 self.journal.tell(self.rt, entry);
             }
-            let is_retried = port.retry.is_some_and(|at| at <= self.now);
+            let is_retried = port.retry.is_some_and(|at| at <= self.agenda.now);
             if is_retried {
                 port.retry = None;
             }
-            next = sooner(next, port.due(self.now));
+            next = sooner(next, port.due(self.agenda.now));
             if is_retried {
                 self.mark(place, true);
             }
         }
-        self.due = next;
+        self.agenda.due = next;
     }
 
     /// Is due no later than this port, and serves it again where it has more to do.
@@ -347,7 +321,8 @@ impl<'a, R: Wait + Net + Clock, N: Named> PortWorker<'a, R, N> {
             self.mark(place, false);
         }
         if let Some(Some(port)) = self.ports.get(place) {
-            self.due = sooner(self.due, port.due(self.now));
+            let due = port.due(self.agenda.now);
+            self.agenda.expect(due);
         }
     }
 
@@ -362,7 +337,7 @@ impl<'a, R: Wait + Net + Clock, N: Named> PortWorker<'a, R, N> {
             &mut self.gate,
             self.journal,
             &mut self.ages,
-            self.now,
+            self.agenda.now,
         );
         if port.is_asked && port.retry.is_none() {
             is_more |= port.accept(
@@ -372,7 +347,7 @@ impl<'a, R: Wait + Net + Clock, N: Named> PortWorker<'a, R, N> {
                 place,
                 &mut self.gate,
                 self.journal,
-                self.now,
+                self.agenda.now,
             );
         }
         self.after(place, is_more);
@@ -380,13 +355,12 @@ impl<'a, R: Wait + Net + Clock, N: Named> PortWorker<'a, R, N> {
 
     /// Serves those that are ready. Those that have more to do are served again in the next turn.
     fn serve_ready(&mut self) {
-        mem::swap(&mut self.ready, &mut self.serving);
-        for at in 0..self.serving.len() {
-            if let Some(place) = self.serving.get(at).copied() {
+        self.agenda.begin();
+        for at in 0..self.agenda.served() {
+            if let Some(place) = self.agenda.serving(at) {
                 self.serve(place);
             }
         }
-        self.serving.clear();
     }
 
     /// Hands out what waits to all that have connected, but to those that are served in this turn anyway.
@@ -403,7 +377,7 @@ impl<'a, R: Wait + Net + Clock, N: Named> PortWorker<'a, R, N> {
                 &mut self.gate,
                 self.journal,
                 &mut self.ages,
-                self.now,
+                self.agenda.now,
             );
             self.after(place, is_more);
         }
@@ -447,7 +421,9 @@ impl Port {
     }
 
     /// Its connection is closed.
-    fn part(&mut self, now: Instant) {
+    fn part(&mut self, now: Instant)
+        ensures { self.new ≡ self.old }
+    {
         self.stream = None;
         self.peer = None;
         self.since = Some(now);
@@ -471,6 +447,7 @@ impl Port {
     }
 
     /// Serves who has connected, and tells whether more is to be done.
+    #[tactic(auto, using(crate::proofs::Own::own_nil))]
     fn serve<R: Wait + Clock, G: Gate>(
         &mut self,
         rt: &R,
@@ -478,7 +455,11 @@ impl Port {
         journal: &Journal,
         ages: &mut Histogram,
         now: Instant,
-    ) -> bool {
+    ) -> bool
+        ensures sub { self.new.sub ≡ self.old.sub }
+        // It posts of its own subscriber alone.
+        ensures own { OwnOnly self.old.sub (through gate.old.guarding (G.posts gate.old.gate)) (through gate.new.guarding (G.posts gate.new.gate)) }
+    {
         let Some(stream) = &self.stream else {
             return false;
         };
@@ -495,6 +476,7 @@ impl Port {
     }
 
     /// Hands out what waits for who has connected, and tells whether more is to be done.
+    #[tactic(auto, using(crate::proofs::Own::own_nil))]
     fn hand_out<R: Wait + Clock, G: Gate>(
         &mut self,
         rt: &R,
@@ -502,7 +484,11 @@ impl Port {
         journal: &Journal,
         ages: &mut Histogram,
         now: Instant,
-    ) -> bool {
+    ) -> bool
+        ensures sub { self.new.sub ≡ self.old.sub }
+        // It posts of its own subscriber alone.
+        ensures own { OwnOnly self.old.sub (through gate.old.guarding (G.posts gate.old.gate)) (through gate.new.guarding (G.posts gate.new.gate)) }
+    {
         let Some(stream) = &self.stream else {
             return false;
         };
@@ -523,7 +509,11 @@ impl Port {
     }
 
     /// Tells what was met while who has connected was served.
-    fn tell_seen<R: Wait, G: Gate>(&mut self, rt: &R, gate: &mut Watched<G>, journal: &Journal) {
+    fn tell_seen<R: Wait, G: Gate>(&mut self, rt: &R, gate: &mut Watched<G>, journal: &Journal)
+        ensures same { self.new ≡ self.old }
+        ensures gate { gate.new.gate ≡ gate.old.gate }
+        ensures guarding { gate.new.guarding ≡ gate.old.guarding }
+    {
         let seen = gate.take_seen();
         if seen.gap > 0 {
             self.gaps = self.gaps.saturating_add(seen.gap);
@@ -552,7 +542,9 @@ impl Port {
     }
 
     /// Closes the connection where it ended, and tells whether more is to be done.
-    fn leave<R: Wait>(&mut self, rt: &R, stay: Stay, journal: &Journal, now: Instant) -> bool {
+    fn leave<R: Wait>(&mut self, rt: &R, stay: Stay, journal: &Journal, now: Instant) -> bool
+        ensures same { self.new ≡ self.old }
+    {
         match stay {
             Stay::Waits => false,
             Stay::More => true,
@@ -569,7 +561,9 @@ impl Port {
     }
 
     /// Closes the connection that stood, since another takes its place.
-    fn give_way<R: Wait>(&mut self, rt: &R, journal: &Journal, now: Instant) {
+    fn give_way<R: Wait>(&mut self, rt: &R, journal: &Journal, now: Instant)
+        ensures same { self.new ≡ self.old }
+    {
         let detail = match self.peer {
             Some(peer) => Detail::At(peer),
             None => Detail::Nothing,
@@ -657,9 +651,7 @@ impl Port {
 
 impl<R: Wait + Net + Clock, N: Named> Work for PortWorker<'_, R, N> {
     fn turn(&mut self) -> bool {
-        let most = self.patience();
-        self.waiting.wait(self.rt, self.journal, most);
-        self.read_clock();
+        self.agenda.wait(self.rt, &mut self.waiting, self.journal);
         let is_woken = self.waiting.is_woken();
         if is_woken {
             self.obey_all();
@@ -669,7 +661,7 @@ impl<R: Wait + Net + Clock, N: Named> Work for PortWorker<'_, R, N> {
                 self.mark(named / 2, named % 2 == 0);
             }
         }
-        if self.due.is_some_and(|due| due <= self.now) {
+        if self.agenda.is_due() {
             self.do_due();
         }
         self.serve_ready();

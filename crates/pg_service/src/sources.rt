@@ -2,13 +2,14 @@
 
 ghost use Rattle.std.specs.Prelude.{◌≡◌, IfSome, Some, option_map, slice_get};
 
+use crate::agenda::Agenda;
 use crate::board::{Board, Reach, SourceReport};
 use crate::finder::Lookup;
 use crate::journal::{Detail, Entry, Journal, Notice, Whom};
 use crate::mail::{Mailbox, PortOrder, SourceOrder};
 use crate::plan::{Due, Phase};
 use crate::source::{SourceLine, Turn};
-use crate::waiting::{PATIENCE_MS, Waiting, sooner};
+use crate::waiting::{Waiting, sooner};
 use crate::watched::{Seen, Watched};
 use mio::net::TcpStream;
 use mio::{Interest, Poll, Token};
@@ -20,7 +21,6 @@ use pg_wire::{PmuId, Refusal};
 use std::alloc::{AllocError, Global};
 use std::io::ErrorKind;
 use std::marker::Model;
-use std::mem;
 use std::net::{Net, SocketAddr};
 use std::rt::Clock;
 use std::sync::Wait;
@@ -158,12 +158,8 @@ pub struct SourceWorker<'a, R: Wait + Net + Clock, N: Named> {
     mailbox: &'a Mailbox<SourceOrder>,
     neighbours: Neighbours<'a>,
     sources: Vec<Source>,
-    // The places of sources that are served in this turn, and of those whose reads were used up in the last.
-    ready: Vec<usize>,
-    serving: Vec<usize>,
-    // When a source is waited for no longer, or before; None where none is waited for.
-    due: Option<Instant>,
-    now: Instant,
+    // The places of sources that are served, and when a source is waited for no longer.
+    agenda: Agenda,
     clock: u64,
 }
 
@@ -201,10 +197,7 @@ impl<'a, R: Wait + Net + Clock, N: Named> SourceWorker<'a, R, N> {
             mailbox,
             neighbours,
             sources: Vec::new(alloc),
-            ready: Vec::new(alloc),
-            serving: Vec::new(alloc),
-            due: None,
-            now,
+            agenda: Agenda::new(alloc, now),
             clock: 0,
         }
     }
@@ -221,10 +214,9 @@ impl<'a, R: Wait + Net + Clock, N: Named> SourceWorker<'a, R, N> {
             silence,
             guard,
         } = dial;
-        let line = SourceLine::new(self.alloc, source, silence, guard, self.now)?;
-        self.ready.reserve(self.sources.len() + 1)?;
-        self.serving.reserve(self.sources.len() + 1)?;
-        self.due = Some(self.now);
+        let line = SourceLine::new(self.alloc, source, silence, guard, self.agenda.now)?;
+        self.agenda.reserve(self.sources.len() + 1)?;
+        self.agenda.due = Some(self.agenda.now);
         if let Some(old) = self.source_mut(source) {
             old.line = line;
             old.address = Some(address);
@@ -261,27 +253,11 @@ impl<'a, R: Wait + Net + Clock, N: Named> SourceWorker<'a, R, N> {
         self.neighbours.journal.note(notice);
     }
 
-    /// Reads the clocks. Where one can't be read, it is as late as it was.
-    fn read_clocks(&mut self) {
-        match Instant::now(self.rt) {
-            Ok(now) => self.now = now,
-            Err(_) => self.note(Notice::ClockFault),
-        }
+    /// Reads this machine's clock. Where it can't be read, it is as late as it was.
+    fn read_clock(&mut self) {
         match clock_ms(self.rt) {
             Some(clock) => self.clock = clock,
             None => self.note(Notice::ClockFault),
-        }
-    }
-
-    /// How long a turn waits at most.
-    fn patience(&self) -> Duration {
-        if !self.ready.is_empty() {
-            return Duration::ZERO;
-        }
-        let most = Duration::from_millis(PATIENCE_MS);
-        match self.due {
-            Some(due) => most.min(due.saturating_duration_since(self.now)),
-            None => most,
         }
     }
 
@@ -289,7 +265,7 @@ impl<'a, R: Wait + Net + Clock, N: Named> SourceWorker<'a, R, N> {
     fn mark(&mut self, place: usize) {
         if let Some(source) = self.sources.get_mut(place) {
             // There is room for each source once.
-            if !source.is_ready && self.ready.push(place).is_ok() {
+            if !source.is_ready && self.agenda.add(place) {
                 source.is_ready = true;
             }
         }
@@ -317,10 +293,10 @@ impl<'a, R: Wait + Net + Clock, N: Named> SourceWorker<'a, R, N> {
             }
             SourceOrder::Undial(id) => self.undial(id),
             SourceOrder::Renew(id) => {
-                let now = self.now;
+                let now = self.agenda.now;
                 if let Some(source) = self.source_mut(id) {
                     source.renew(now);
-                    self.due = Some(now);
+                    self.agenda.due = Some(now);
                 }
             }
             SourceOrder::Rest(id) => {
@@ -352,7 +328,7 @@ impl<'a, R: Wait + Net + Clock, N: Named> SourceWorker<'a, R, N> {
             if source.address.is_none() {
                 continue;
             }
-            let is_told = match source.report(self.alloc, self.now) {
+            let is_told = match source.report(self.alloc, self.agenda.now) {
                 Ok(report) => told.push(report).is_ok(),
                 Err(_) => false,
             };
@@ -377,14 +353,14 @@ impl<'a, R: Wait + Net + Clock, N: Named> SourceWorker<'a, R, N> {
                         self.waiting.poll(),
                         place,
                         address,
-                        self.now,
+                        self.agenda.now,
                     ),
                     None => {
-                        source.line.ended(self.now);
+                        source.line.ended(self.agenda.now);
                         source.entry(Notice::NoAddress, Detail::Nothing)
                     }
                 };
-                self.due = Some(self.now);
+                self.agenda.due = Some(self.agenda.now);
                 self.neighbours.journal.tell(self.rt, entry);
             }
         }
@@ -397,7 +373,7 @@ impl<'a, R: Wait + Net + Clock, N: Named> SourceWorker<'a, R, N> {
             let Some(source) = self.sources.get_mut(place) else {
                 break;
             };
-            match source.line.due(self.now) {
+            match source.line.due(self.agenda.now) {
                 Due::Nothing => {}
                 Due::Call => {
                     if let Some(entry) = source.call(
@@ -407,29 +383,29 @@ impl<'a, R: Wait + Net + Clock, N: Named> SourceWorker<'a, R, N> {
                         self.number,
                         place,
                         self.neighbours,
-                        self.now,
+                        self.agenda.now,
                     ) {
                         self.neighbours.journal.tell(self.rt, entry);
                     }
                 }
                 Due::GiveUp => {
-                    source.end(self.now);
+                    source.end(self.agenda.now);
                     let entry = source.entry(Notice::GivenUp, Detail::Nothing);
                     self.neighbours.journal.tell(self.rt, entry);
                 }
                 Due::Silent => {
-                    source.end(self.now);
+                    source.end(self.agenda.now);
                     let entry = source.entry(Notice::Silent, Detail::Nothing);
                     self.neighbours.journal.tell(self.rt, entry);
                 }
             }
-            let due = match source.line.plan().left(self.now) {
-                Some(left) => self.now.checked_add(left),
+            let due = match source.line.plan().left(self.agenda.now) {
+                Some(left) => self.agenda.now.checked_add(left),
                 None => None,
             };
             next = sooner(next, due);
         }
-        self.due = next;
+        self.agenda.due = next;
     }
 
     /// Serves the source at this place, whose socket is ready or whose reads were used up.
@@ -439,19 +415,19 @@ impl<'a, R: Wait + Net + Clock, N: Named> SourceWorker<'a, R, N> {
         };
         source.is_ready = false;
         if let Phase::Calling = source.line.plan().phase() {
-            if let Some(entry) = source.finish_call(self.now) {
+            if let Some(entry) = source.finish_call(self.agenda.now) {
                 self.neighbours.journal.tell(self.rt, entry);
             }
-            self.due = Some(self.now);
+            self.agenda.due = Some(self.agenda.now);
         }
-        let Some((turn, seen)) = source.serve(&mut self.gate, self.now, self.clock) else {
+        let Some((turn, seen)) = source.serve(&mut self.gate, self.agenda.now, self.clock) else {
             return;
         };
         if seen.made > 0 {
             self.neighbours.wake_ports();
         }
         if seen.events > 0 {
-            source.heard = Some(self.now);
+            source.heard = Some(self.agenda.now);
         }
         source.far = source.far.saturating_add(seen.far);
         source.tell_seen(self.rt, self.neighbours.journal, &seen);
@@ -460,7 +436,7 @@ impl<'a, R: Wait + Net + Clock, N: Named> SourceWorker<'a, R, N> {
             Turn::More => self.mark(place),
             Turn::Ended(end) => {
                 let entry = source.entry(Notice::SourceEnded, Detail::Ended(end));
-                self.due = Some(self.now);
+                self.agenda.due = Some(self.agenda.now);
                 self.neighbours.journal.tell(self.rt, entry);
             }
         }
@@ -468,13 +444,12 @@ impl<'a, R: Wait + Net + Clock, N: Named> SourceWorker<'a, R, N> {
 
     /// Serves those that are ready. Those whose reads are used up are served again in the next turn.
     fn serve_ready(&mut self) {
-        mem::swap(&mut self.ready, &mut self.serving);
-        for at in 0..self.serving.len() {
-            if let Some(place) = self.serving.get(at).copied() {
+        self.agenda.begin();
+        for at in 0..self.agenda.served() {
+            if let Some(place) = self.agenda.serving(at) {
                 self.serve(place);
             }
         }
-        self.serving.clear();
     }
 }
 
@@ -712,9 +687,9 @@ fn clock_ms<R: Clock>(rt: &R) -> Option<u64> {
 
 impl<R: Wait + Net + Clock, N: Named> Work for SourceWorker<'_, R, N> {
     fn turn(&mut self) -> bool {
-        let most = self.patience();
-        self.waiting.wait(self.rt, self.neighbours.journal, most);
-        self.read_clocks();
+        self.agenda
+            .wait(self.rt, &mut self.waiting, self.neighbours.journal);
+        self.read_clock();
         if self.waiting.is_woken() {
             self.obey_all();
         }
@@ -723,7 +698,7 @@ impl<R: Wait + Net + Clock, N: Named> Work for SourceWorker<'_, R, N> {
                 self.mark(place);
             }
         }
-        if self.due.is_some_and(|due| due <= self.now) {
+        if self.agenda.is_due() {
             self.do_due();
         }
         self.serve_ready();

@@ -1,6 +1,7 @@
 use pg_command::Command;
 use pg_config::{SourceConfig, read_config};
 use pg_data::{DataFrame, read_data};
+use pg_fakes::all_memory;
 use pg_ring::{RingBytes, RingSize};
 use pg_session::*;
 use pg_stream::{Definition, HeaderText, Members};
@@ -352,23 +353,6 @@ fn standing_of_two(rt: HostRuntime) {
     stands(&rt, &sub, 0, 0, 1, false);
 }
 
-// Takes all memory that there is, down to the last byte, until the pieces that it answers are dropped.
-fn all_memory(rt: &impl Abort, alloc: Global) -> Vec<Vec<u8>> {
-    let mut held = Vec::with_capacity(alloc, 40_000).expect(rt, "memory");
-    let mut size: usize = 1 << 46;
-    for _ in 0..40_000 {
-        if size == 0 {
-            break;
-        }
-        match Vec::with_capacity(alloc, size) {
-            Ok(piece) => assert!(rt; held.push(piece).is_ok()),
-            Err(_) => size /= 2,
-        }
-    }
-    assert!(rt; size == 0);
-    held
-}
-
 // Row take-without-memory: a block that completes no slot takes its place, and the reply is the one with memory.
 #[test]
 fn take_without_memory(rt: HostRuntime) {
@@ -382,7 +366,7 @@ fn take_without_memory(rt: HostRuntime) {
     assert!(&rt; sub.copies(&event).is_ok());
     assert!(&rt; sub.accepts(&event));
     assert!(&rt; sub.ready(&event));
-    let held = all_memory(&rt, alloc);
+    let held = all_memory(alloc).expect(&rt, "a list of it");
     let reply = sub.take(event, false);
     drop(held);
     done(&rt, reply, 0);

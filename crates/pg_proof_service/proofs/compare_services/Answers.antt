@@ -1,4 +1,5 @@
 use Rattle.pg_proof_service.proofs.compare_services.Goals as goal
+use Rattle.pg_proof_service.proofs.Lasting.{same_before}
 
 pub returns-clause-alike : goal.returns-clause-alike
 returns-clause-alike g c =
@@ -11,5 +12,8 @@ returns-clause-views g c =
     record {
       one = one;
       two = two;
+      last = λ full own full' own' connects connects' whole.
+          c.deliveries_agree.ensures.views _ _ _ _ _ _ _ _ _ _ _ one.delivers two.delivers full own full' own'
+          (same_before _ _ _ _ _ _ _ one.delivers.seen two.delivers.seen connects connects' whole) whole;
       alike = c.deliveries_agree.ensures.views _ _ _ _ _ _ _ _ _ _ _ one.delivers two.delivers;
     }

@@ -1,0 +1,95 @@
+//! Whom a worker serves in a turn, and how long it waits before.
+
+use crate::journal::{Journal, Notice};
+use crate::waiting::{PATIENCE_MS, Waiting, sooner};
+use std::alloc::{AllocError, Global};
+use std::mem;
+use std::rt::Clock;
+use std::time::{Duration, Instant};
+
+/// The places, of sources or of ports, that a worker serves in this turn and in the next, and when something is due at one of them.
+#[derive(Drop)]
+pub(crate) struct Agenda {
+    // Those that are served in the next turn, and those of this one.
+    ready: Vec<usize>,
+    serving: Vec<usize>,
+    /// When something is due, or before; None where nothing is.
+    pub(crate) due: Option<Instant>,
+    /// The clock, as it was read last.
+    pub(crate) now: Instant,
+}
+
+impl Agenda {
+    /// Nothing is to be served, and nothing is due.
+    pub(crate) fn new(alloc: Global, now: Instant) -> Agenda {
+        Agenda {
+            ready: Vec::new(alloc),
+            serving: Vec::new(alloc),
+            due: None,
+            now,
+        }
+    }
+
+    /// There is room for so many places, each once.
+    ///
+    /// # Errors
+    ///
+    /// There is no memory for it.
+    pub(crate) fn reserve(&mut self, places: usize) -> Result<(), AllocError> {
+        self.ready.reserve(places)?;
+        self.serving.reserve(places)
+    }
+
+    /// Adds a place that is not among those that are ready, and tells whether there was room.
+    pub(crate) fn add(&mut self, place: usize) -> bool {
+        self.ready.push(place).is_ok()
+    }
+
+    /// Waits for what comes first: a socket that is ready, a wake, or what is due. Then reads the clock: where it can't be read, it is
+    /// as late as it was.
+    pub(crate) fn wait<R: Clock>(&mut self, rt: &R, waiting: &mut Waiting, journal: &Journal) {
+        waiting.wait(rt, journal, self.patience());
+        match Instant::now(rt) {
+            Ok(now) => self.now = now,
+            Err(_) => journal.note(Notice::ClockFault),
+        }
+    }
+
+    /// How long a turn waits at most.
+    fn patience(&self) -> Duration {
+        if !self.ready.is_empty() {
+            return Duration::ZERO;
+        }
+        let most = Duration::from_millis(PATIENCE_MS);
+        match self.due {
+            Some(due) => most.min(due.saturating_duration_since(self.now)),
+            None => most,
+        }
+    }
+
+    /// Whether something is due by now.
+    pub(crate) fn is_due(&self) -> bool {
+        self.due.is_some_and(|due| due <= self.now)
+    }
+
+    /// Something is due at this time, or nothing is.
+    pub(crate) fn expect(&mut self, due: Option<Instant>) {
+        self.due = sooner(self.due, due);
+    }
+
+    /// Those that are ready are served from now on; who is added while they are waits for the next turn.
+    pub(crate) fn begin(&mut self) {
+        self.serving.clear();
+        mem::swap(&mut self.ready, &mut self.serving);
+    }
+
+    /// How many are served in this turn.
+    pub(crate) fn served(&self) -> usize {
+        self.serving.len()
+    }
+
+    /// Those that are served in this turn, one after another.
+    pub(crate) fn serving(&self, at: usize) -> Option<usize> {
+        self.serving.get(at).copied()
+    }
+}
