@@ -1,6 +1,6 @@
 #!/bin/sh
 # Times a call of a turnstile beside a plain mutex of the standard library round the same counter. It proves and builds a
-# program over a copy of pg_turn in a scratch folder (about three minutes), runs it, and prints for each measurement the
+# program over copies of pg_turn and pg_turn_law in a scratch folder (about three minutes), runs it, and prints for each measurement the
 # median of nine and their range, in nanoseconds a call, all threads taken together. Then it counts by strace the system calls of
 # 1,000 calls and of 100,000, by one thread. It fails where the totals are wrong, where a call that nobody contends costs more
 # than twice the mutex, and where it makes a system call.
@@ -10,8 +10,8 @@ scratch=$(mktemp -d)
 trap 'rm -rf "$scratch"' EXIT
 mkdir "$scratch/crates"
 cp "$bench/../HANDLES" "$scratch/"
-printf 'pg_turn: atomic_table\nturn_cost: pg_turn\n' > "$scratch/crates.txt"
-cp -R "$bench/../crates/pg_turn" "$scratch/crates/"
+printf 'pg_turn: atomic_table\npg_turn_law: pg_turn\nturn_cost: pg_turn pg_turn_law\n' > "$scratch/crates.txt"
+cp -R "$bench/../crates/pg_turn" "$bench/../crates/pg_turn_law" "$scratch/crates/"
 # The gate reads every file *.rt and *.antt of the repository as a crate's, so the program lies under other names.
 program="$scratch/crates/turn_cost"
 mkdir -p "$program/src" "$program/specs" "$program/proofs/turn_often" "$program/proofs/measure"

@@ -88,7 +88,7 @@ def keys():
 def lines():
     verbs = re.findall(r'"(\w+)"', between(source("pg_operator", "verb"), "const VERBS", "];"))
     ways = re.findall(r'"(\w+)" => Way::', source("pg_operator", "steer"))
-    own = re.findall(r'"(\w+)" => return Ok\(Asked::', source("pg_run", "operator"))
+    own = re.findall(r'"(\w+)" => return Ok\(Asked::', source("pg_console", "console"))
     table = rows(section("docs/OPERATING.md", "## Lines"))[1:]
     told = {span.split(" ")[0] for cells in table for span in spans(cells[0])}
     words = source("pdcgw", "help")

@@ -10,9 +10,9 @@ use crate::setting::{FIRST_STREAM, SECOND_STREAM, source_id, sub_id};
 use crate::showing::Asked;
 use crate::stage::Stage;
 use mio::net::TcpListener as PortListener;
+use pg_console::{Console, Counter, EditsAlone, Told};
 use pg_demo_core::{Course, SOURCES, demo_settings};
 use pg_limits::Allow;
-use pg_run::{Console, Counter, EditsAlone, Told};
 use pg_serve::{Named, Seat, Shared, SharedGate, Work};
 use pg_service::{
     Address, Dial, DoorRules, Mailbox, Neighbours, Port, PortOrder, PortWorker, SourceOrder,

@@ -2,7 +2,7 @@
 
 use mio::unix::SourceFd;
 use mio::{Events, Interest, Poll, Token};
-use pg_run::{Console, EditsAlone, answer_lines};
+use pg_console::{Console, EditsAlone, answer_lines};
 use pg_serve::{Named, SharedGate};
 use pg_service::Watched;
 use std::alloc::{AllocError, Global};

@@ -1,4 +1,5 @@
 //! The course of a demo: where it stands next, by what is known.
+use crate::asserts::same;
 use pg_demo_core::{Course, Facts, Phase};
 use std::test::*;
 
@@ -53,7 +54,7 @@ fn next_phases(rt: HostRuntime) {
         assert_eq!(rt; course.step(facts, at), want, "{from:?} {past}");
         // The time counts anew where it stands elsewhere.
         let since = if want == from { 5_000 } else { at };
-        assert_eq!(rt; (course.phase, course.since), (want, since));
+        same(&rt, (course.phase, course.since), (want, since));
     }
-    assert_eq!(rt; Course::new(None, 7).phase, Phase::Calling);
+    same(&rt, Course::new(None, 7).phase, Phase::Calling);
 }

@@ -1,4 +1,5 @@
 //! What came at a subscriber, compared with what was sent: all right, and each thing that can be wrong.
+use crate::asserts::same;
 use pg_demo_core::{Frame, Owed, Wrong};
 use pg_tools::Stamp;
 use std::alloc::Global;
@@ -37,10 +38,10 @@ fn all_come(rt: HostRuntime) {
     let mut owed = owing(&rt, rt.alloc());
     assert!(rt; !owed.is_whole());
     for slot in [1, 2, 3] {
-        assert_eq!(rt; owed.came(stamp(slot), &BLOCKS), None);
+        same(&rt, owed.came(stamp(slot), &BLOCKS), None);
     }
     assert!(rt; owed.is_whole());
-    assert_eq!(rt; owed.right, 3);
+    same(&rt, owed.right, 3);
     // A frame that is sent later is owed again.
     expect(&rt, rt.alloc(), &mut owed, 4);
     assert!(rt; !owed.is_whole());
@@ -50,20 +51,21 @@ fn all_come(rt: HostRuntime) {
 fn nothing_comes(rt: HostRuntime) {
     let owed = owing(&rt, rt.alloc());
     assert!(rt; !owed.is_whole());
-    assert_eq!(rt; owed.waiting.len(), 3);
+    same(&rt, owed.waiting.len(), 3);
     assert!(rt; Owed::new(rt.alloc()).is_whole());
 }
 
 #[test]
 fn a_frame_is_missing(rt: HostRuntime) {
     let mut owed = owing(&rt, rt.alloc());
-    assert_eq!(rt; owed.came(stamp(1), &BLOCKS), None);
-    assert_eq!(rt;
+    same(&rt, owed.came(stamp(1), &BLOCKS), None);
+    same(
+        &rt,
         owed.came(stamp(3), &BLOCKS),
-        Some(Wrong::Missing(stamp(2)))
+        Some(Wrong::Missing(stamp(2))),
     );
     assert!(rt; !owed.is_whole());
-    assert_eq!(rt; owed.wrong, Some(Wrong::Missing(stamp(2))));
+    same(&rt, owed.wrong, Some(Wrong::Missing(stamp(2))));
 }
 
 #[test]
@@ -72,16 +74,18 @@ fn a_byte_is_changed(rt: HostRuntime) {
         let mut owed = owing(&rt, rt.alloc());
         let mut blocks = BLOCKS;
         blocks[place] ^= 0x40;
-        assert_eq!(rt;
+        same(
+            &rt,
             owed.came(stamp(1), &blocks),
-            Some(Wrong::Changed(stamp(1)))
+            Some(Wrong::Changed(stamp(1))),
         );
-        assert_eq!(rt;
+        same(
+            &rt,
             owed.came(stamp(2), &BLOCKS),
-            Some(Wrong::Missing(stamp(1)))
+            Some(Wrong::Missing(stamp(1))),
         );
         // What was wrong first is kept.
-        assert_eq!(rt; owed.wrong, Some(Wrong::Changed(stamp(1))));
+        same(&rt, owed.wrong, Some(Wrong::Changed(stamp(1))));
         assert!(rt; !owed.is_whole());
     }
 }
@@ -89,9 +93,10 @@ fn a_byte_is_changed(rt: HostRuntime) {
 #[test]
 fn a_block_is_cut(rt: HostRuntime) {
     let mut owed = owing(&rt, rt.alloc());
-    assert_eq!(rt;
+    same(
+        &rt,
         owed.came(stamp(1), &BLOCKS[..6]),
-        Some(Wrong::Changed(stamp(1)))
+        Some(Wrong::Changed(stamp(1))),
     );
     assert!(rt; !owed.is_whole());
 }
@@ -99,10 +104,14 @@ fn a_block_is_cut(rt: HostRuntime) {
 #[test]
 fn a_frame_comes_twice(rt: HostRuntime) {
     let mut owed = owing(&rt, rt.alloc());
-    assert_eq!(rt; owed.came(stamp(1), &BLOCKS), None);
-    assert_eq!(rt; owed.came(stamp(1), &BLOCKS), Some(Wrong::Unsent(stamp(1))));
-    assert_eq!(rt; owed.came(stamp(2), &BLOCKS), None);
-    assert_eq!(rt; owed.came(stamp(3), &BLOCKS), None);
+    same(&rt, owed.came(stamp(1), &BLOCKS), None);
+    same(
+        &rt,
+        owed.came(stamp(1), &BLOCKS),
+        Some(Wrong::Unsent(stamp(1))),
+    );
+    same(&rt, owed.came(stamp(2), &BLOCKS), None);
+    same(&rt, owed.came(stamp(3), &BLOCKS), None);
     // All have come, and one of them twice.
     assert!(rt; owed.waiting.is_empty() && !owed.is_whole());
 }
@@ -110,9 +119,13 @@ fn a_frame_comes_twice(rt: HostRuntime) {
 #[test]
 fn a_frame_was_not_sent(rt: HostRuntime) {
     let mut owed = Owed::new(rt.alloc());
-    assert_eq!(rt; owed.came(stamp(1), &BLOCKS), Some(Wrong::Unsent(stamp(1))));
+    same(
+        &rt,
+        owed.came(stamp(1), &BLOCKS),
+        Some(Wrong::Unsent(stamp(1))),
+    );
     expect(&rt, rt.alloc(), &mut owed, 1);
-    assert_eq!(rt; owed.came(stamp(1), &BLOCKS), None);
+    same(&rt, owed.came(stamp(1), &BLOCKS), None);
     assert!(rt; !owed.is_whole());
 }
 
@@ -126,7 +139,11 @@ fn a_filler_comes(rt: HostRuntime) {
         let mut owed = owing(&rt, rt.alloc());
         let mut blocks = Vec::from_slice(rt.alloc(), &first).expect(&rt, "memory");
         blocks.extend_from_slice(&second).expect(&rt, "memory");
-        assert_eq!(rt; owed.came(stamp(1), &blocks), Some(Wrong::Filler(stamp(1))));
+        same(
+            &rt,
+            owed.came(stamp(1), &blocks),
+            Some(Wrong::Filler(stamp(1))),
+        );
         assert!(rt; !owed.is_whole());
     }
 }

@@ -1,4 +1,5 @@
 //! What both subscribers are owed of frames that the demo's sources send.
+use crate::asserts::same;
 use pg_command::write_command;
 use pg_demo_core::{Accounts, Verdict, Wrong, demo_settings, frame_len};
 use pg_tools::{Moment, Source, Stamp};
@@ -44,7 +45,7 @@ fn owing(rt: &impl Abort, alloc: Global) -> (Accounts, Vec<u8>, Vec<u8>) {
 fn frame_at<'a>(rt: &impl Abort, frames: &'a Vec<u8>, place: usize) -> (Stamp, &'a [u8]) {
     let mut found = frames.chunks_exact(38).skip(place);
     let frame = found.next().expect(rt, "a frame");
-    assert_eq!(rt; frame.len(), 38);
+    same(rt, frame.len(), 38);
     let soc = u32::from_be_bytes([frame[6], frame[7], frame[8], frame[9]]);
     let frac = u32::from_be_bytes([0, frame[11], frame[12], frame[13]]);
     (Stamp { soc, frac }, &frame[14..36])
@@ -55,11 +56,11 @@ fn come(rt: &impl Abort, alloc: Global, accounts: &mut Accounts, one: &Vec<u8>, 
     for place in 0..10usize {
         let (stamp, left) = frame_at(rt, one, place);
         let (also, right) = frame_at(rt, other, place);
-        assert_eq!(rt; stamp, also);
+        same(rt, stamp, also);
         let mut both = Vec::from_slice(alloc, left).expect(rt, "memory");
         both.extend_from_slice(right).expect(rt, "memory");
-        assert_eq!(rt; accounts.first.came(stamp, &both), None);
-        assert_eq!(rt; accounts.second.came(stamp, right), None);
+        same(rt, accounts.first.came(stamp, &both), None);
+        same(rt, accounts.second.came(stamp, right), None);
     }
 }
 
@@ -67,19 +68,20 @@ fn come(rt: &impl Abort, alloc: Global, accounts: &mut Accounts, one: &Vec<u8>, 
 fn all_slots_come(rt: HostRuntime) {
     let alloc = rt.alloc();
     let (mut accounts, one, other) = owing(&rt, alloc);
-    assert_eq!(rt; (one.len(), other.len()), (380, 380));
-    assert_eq!(rt; accounts.waiting(), 10);
+    same(&rt, (one.len(), other.len()), (380, 380));
+    same(&rt, accounts.waiting(), 10);
     assert!(rt; matches!(accounts.verdict(101, 102), Verdict::Lost(101, 10, _)));
     come(&rt, alloc, &mut accounts, &one, &other);
-    assert_eq!(rt; accounts.waiting(), 0);
-    assert_eq!(rt; accounts.verdict(101, 102), Verdict::Whole(10, 10));
+    same(&rt, accounts.waiting(), 0);
+    same(&rt, accounts.verdict(101, 102), Verdict::Whole(10, 10));
     assert!(rt; accounts.verdict(101, 102).is_good());
     // One frame more at the second subscriber.
     let (stamp, block) = frame_at(&rt, &other, 9);
     accounts.second.came(stamp, block);
-    assert_eq!(rt;
+    same(
+        &rt,
         accounts.verdict(101, 102),
-        Verdict::Wrong(102, Wrong::Unsent(stamp))
+        Verdict::Wrong(102, Wrong::Unsent(stamp)),
     );
     assert!(rt; !accounts.verdict(101, 102).is_good());
 }
@@ -94,13 +96,15 @@ fn exchanged_blocks(rt: HostRuntime) {
     assert!(rt; left != right);
     let mut both = Vec::from_slice(alloc, right).expect(&rt, "memory");
     both.extend_from_slice(left).expect(&rt, "memory");
-    assert_eq!(rt;
+    same(
+        &rt,
         accounts.first.came(stamp, &both),
-        Some(Wrong::Changed(stamp))
+        Some(Wrong::Changed(stamp)),
     );
-    assert_eq!(rt;
+    same(
+        &rt,
         accounts.second.came(stamp, left),
-        Some(Wrong::Changed(stamp))
+        Some(Wrong::Changed(stamp)),
     );
 }
 
@@ -115,13 +119,15 @@ fn fillers(rt: HostRuntime) {
     for _ in 0..20 {
         both.push(0).expect(&rt, "memory");
     }
-    assert_eq!(rt;
+    same(
+        &rt,
         accounts.first.came(stamp, &both),
-        Some(Wrong::Filler(stamp))
+        Some(Wrong::Filler(stamp)),
     );
-    assert_eq!(rt;
+    same(
+        &rt,
         accounts.verdict(101, 102),
-        Verdict::Wrong(101, Wrong::Filler(stamp))
+        Verdict::Wrong(101, Wrong::Filler(stamp)),
     );
 }
 
@@ -130,11 +136,11 @@ fn fillers(rt: HostRuntime) {
 fn out_of_step(rt: HostRuntime) {
     let alloc = rt.alloc();
     let mut accounts = Accounts::new(alloc);
-    assert_eq!(rt; accounts.verdict(101, 102), Verdict::NotBegun);
+    same(&rt, accounts.verdict(101, 102), Verdict::NotBegun);
     let one = frames(&rt, alloc, 0, 340_000);
     let other = frames(&rt, alloc, 1, 300_000);
     accounts
         .expect(&one, len_of(&rt, 0), &other, len_of(&rt, 1))
         .expect(&rt, "memory");
-    assert_eq!(rt; accounts.verdict(101, 102), Verdict::OutOfStep);
+    same(&rt, accounts.verdict(101, 102), Verdict::OutOfStep);
 }

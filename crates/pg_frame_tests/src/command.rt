@@ -1,3 +1,4 @@
+use crate::asserts::same;
 use pg_command::*;
 use pg_wire::{PmuId, Refusal, check_bytewise, is_frame};
 use std::test::*;
@@ -29,8 +30,8 @@ fn commands_read(rt: HostRuntime) {
             stream: 101,
             word: number,
         };
-        assert!(rt; read_command(&frame) == Ok(want));
-        assert!(rt; Word::of(number) == Some(word));
+        same(&rt, read_command(&frame), Ok(want));
+        same(&rt, Word::of(number), Some(word));
     }
 }
 
@@ -45,8 +46,16 @@ fn commands_written(rt: HostRuntime) {
         0x02, 0x42, 0xDD,
     ];
     let source = PmuId::new(7).expect(&rt, "7 is no reserved number");
-    assert!(rt; write_command(source, 0, Word::SendCfgTwo.number()) == send_config);
-    assert!(rt; write_command(source, 0, Word::StartData.number()) == start_data);
+    same(
+        &rt,
+        write_command(source, 0, Word::SendCfgTwo.number()),
+        send_config,
+    );
+    same(
+        &rt,
+        write_command(source, 0, Word::StartData.number()),
+        start_data,
+    );
 }
 
 #[test]
@@ -56,7 +65,7 @@ fn breaks_and_sizes(rt: HostRuntime) {
         0x6A,
     ];
     assert!(rt; is_frame(&empty));
-    assert!(rt; read_command(&empty) == Err(Refusal::BadLength));
+    same(&rt, read_command(&empty), Err(Refusal::BadLength));
     // Two bytes more behind the word, and the right CHK.
     for (word, want) in [
         (2, Err(Refusal::BadLength)),
@@ -80,7 +89,7 @@ fn breaks_and_sizes(rt: HostRuntime) {
             .extend_from_slice(&sum.to_be_bytes())
             .expect(&rt, "memory");
         assert!(rt; is_frame(&frame));
-        assert!(rt; read_command(&frame) == want);
+        same(&rt, read_command(&frame), want);
     }
     // A data frame of source 7.
     let measured = [
@@ -88,5 +97,5 @@ fn breaks_and_sizes(rt: HostRuntime) {
         0x00, 0x10, 0x00, 0x20, 0x00, 0x00, 0x00, 0x00, 0x00, 0x7F, 0xA7,
     ];
     assert!(rt; is_frame(&measured));
-    assert!(rt; read_command(&measured) == Err(Refusal::WrongType));
+    same(&rt, read_command(&measured), Err(Refusal::WrongType));
 }

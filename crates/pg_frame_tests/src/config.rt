@@ -1,5 +1,6 @@
 ghost use Rattle.std.specs.Prelude.{◌≤◌};
 
+use crate::asserts::same;
 use pg_config::*;
 use pg_wire::{Kind, Refusal, StreamId, check, is_frame};
 use std::alloc::{AllocError, Global};
@@ -87,9 +88,9 @@ fn limits_and_refusals(rt: HostRuntime) {
     let longest = read(&rt, alloc, &with_phasors(alloc, 98).expect(&rt, "memory")).expect(
         &rt, "memory",
     );
-    assert_eq!(rt; longest.config.parts.len(), 1);
-    assert_eq!(rt; longest.config.parts[0].phasors, 98);
-    assert_eq!(rt; longest.config.parts[0].config_len(), 1_990);
+    same(&rt, longest.config.parts.len(), 1);
+    same(&rt, longest.config.parts[0].phasors, 98);
+    same(&rt, longest.config.parts[0].config_len(), 1_990);
     let longer = with_phasors(alloc, 99).expect(&rt, "memory");
     assert!(rt; matches!(read(&rt, alloc, &longer), Err(Refusal::ConfigTooLarge)));
     // FORMAT: polar phasors, and then phasors as floating point.
@@ -131,9 +132,9 @@ fn link_refusals_and_triggers(rt: HostRuntime) {
     let mut other = PMU7_CONFIG;
     other[37] = 8;
     let announced = read(&rt, alloc, &other).expect(&rt, "memory");
-    assert_eq!(rt; announced.config.source.get(), 7);
-    assert_eq!(rt; announced.config.parts.len(), 1);
-    assert_eq!(rt; announced.config.parts[0].id(), 8);
+    same(&rt, announced.config.source.get(), 7);
+    same(&rt, announced.config.parts.len(), 1);
+    same(&rt, announced.config.parts[0].id(), 8);
 }
 
 #[test]
@@ -142,13 +143,13 @@ fn shared_frame(rt: HostRuntime) {
     let announced = read(&rt, alloc, &of_three(alloc, 11).expect(&rt, "memory")).expect(
         &rt, "memory",
     );
-    assert_eq!(rt; announced.config.source.get(), 9);
-    assert_eq!(rt; announced.config.parts.len(), 3);
+    same(&rt, announced.config.source.get(), 9);
+    same(&rt, announced.config.parts.len(), 3);
     for (i, id, config_len, block_len) in [(0, 7, 50, 10), (1, 8, 290, 8), (2, 11, 50, 10)] {
         let part = &announced.config.parts[i];
-        assert_eq!(rt; part.id(), id);
-        assert_eq!(rt; part.config_len(), config_len);
-        assert_eq!(rt; part.block_len(), block_len);
+        same(&rt, part.id(), id);
+        same(&rt, part.config_len(), config_len);
+        same(&rt, part.block_len(), block_len);
     }
     let twice = of_three(alloc, 7).expect(&rt, "memory");
     assert!(rt; matches!(read(&rt, alloc, &twice), Err(Refusal::DuplicatePmu)));
@@ -159,18 +160,18 @@ fn first_path(rt: HostRuntime) {
     let alloc = rt.alloc();
     let announced = read(&rt, alloc, &PMU7_CONFIG).expect(&rt, "memory");
     assert!(rt; matches!(announced.kind, Kind::CfgTwo));
-    assert_eq!(rt; announced.config.source.get(), 7);
-    assert_eq!(rt; announced.config.parts.len(), 1);
+    same(&rt, announced.config.source.get(), 7);
+    same(&rt, announced.config.parts.len(), 1);
     let part = &announced.config.parts[0];
-    assert_eq!(rt; part.base, 1_000_000);
-    assert_eq!(rt; part.rate, 30);
-    assert_eq!(rt; part.block.as_slice(), &PMU7_CONFIG[20..70]);
+    same(&rt, part.base, 1_000_000);
+    same(&rt, part.rate, 30);
+    same(&rt, part.block.as_slice(), &PMU7_CONFIG[20..70]);
     let stream = StreamId::new(101).expect(&rt, "reserved");
     let parts = announced.config.parts.as_slice();
     let reply = write_config(alloc, Kind::CfgTwo, stream, 0, 1_000_000, 30, 1, parts).expect(
         &rt, "memory",
     );
-    assert_eq!(rt; reply.as_slice(), CONFIG_REPLY.as_slice());
+    same(&rt, reply.as_slice(), CONFIG_REPLY.as_slice());
     // Another CFGCNT, and then another station.
     let mut bytes = PMU7_CONFIG;
     bytes[69] = 5;
@@ -188,19 +189,19 @@ fn first_path(rt: HostRuntime) {
 fn frame_in_pieces(rt: HostRuntime) {
     let alloc = rt.alloc();
     let announced = read(&rt, alloc, &PMU7_CONFIG).expect(&rt, "memory");
-    assert_eq!(rt; announced.config.parts.len(), 1);
+    same(&rt, announced.config.parts.len(), 1);
     let part = &announced.config.parts[0];
-    assert_eq!(rt; part.config_len(), 50);
+    same(&rt, part.config_len(), 50);
     let stream = StreamId::new(101).expect(&rt, "reserved");
     let mut frame = start_config(alloc, Kind::CfgTwo, stream, 0, 1_000_000, 1, 50).expect(
         &rt, "memory",
     );
-    assert_eq!(rt; frame.as_slice(), &CONFIG_REPLY[..20]);
+    same(&rt, frame.as_slice(), &CONFIG_REPLY[..20]);
     assert!(rt; frame.capacity() >= 74);
     part.add_to(&mut frame, 1);
-    assert_eq!(rt; frame.as_slice(), &CONFIG_REPLY[..70]);
+    same(&rt, frame.as_slice(), &CONFIG_REPLY[..70]);
     end_config(&mut frame, 30);
-    assert_eq!(rt; frame.as_slice(), CONFIG_REPLY.as_slice());
+    same(&rt, frame.as_slice(), CONFIG_REPLY.as_slice());
 }
 
 #[test]
@@ -209,12 +210,12 @@ fn count_wrap_and_empty_config(rt: HostRuntime) {
     let reply = write_config(rt.alloc(), Kind::CfgTwo, stream, 0, 1_000_000, 30, 0, &[]).expect(
         &rt, "memory",
     );
-    assert_eq!(rt; reply.as_slice(), EMPTY_CONFIG.as_slice());
+    same(&rt, reply.as_slice(), EMPTY_CONFIG.as_slice());
 }
 
 #[test]
 fn header_and_quality(rt: HostRuntime) {
     let stream = StreamId::new(101).expect(&rt, "reserved");
     let header = write_header(rt.alloc(), stream, 0, b"Hello").expect(&rt, "memory");
-    assert_eq!(rt; header.as_slice(), HEADER.as_slice());
+    same(&rt, header.as_slice(), HEADER.as_slice());
 }

@@ -1,6 +1,7 @@
 ghost use Rattle.std.specs.Prelude.{◌≡◌, IfOk, length, pos};
 ghost use Rattle.std.specs.Arc.{arc_value};
 
+use crate::asserts::same;
 use pg_config::{PmuConfig, SourceConfig};
 use pg_data::*;
 use pg_wire::{PmuId, Refusal, check, is_frame};
@@ -35,10 +36,11 @@ fn part(rt: &impl Abort, alloc: Global, block: &[u8]) -> Result<Arc<PmuConfig>, 
     let digitals = u16::from_be_bytes([block[24], block[25]]);
     assert!(rt; id != 0);
     assert!(rt; id != 65535);
-    assert!(rt; format / 2 % 8 == 0);
-    assert_eq!(rt;
+    same(rt, format / 2 % 8, 0);
+    same(
+        rt,
         block.len(),
-        30 + 20 * usize::from(phasors) + 20 * usize::from(analogs) + 260 * usize::from(digitals)
+        30 + 20 * usize::from(phasors) + 20 * usize::from(analogs) + 260 * usize::from(digitals),
     );
     let part = PmuConfig {
         base: 1_000_000,
@@ -114,7 +116,7 @@ fn read(
 {
     assert!(rt; is_frame(frame));
     assert!(rt; frame.len() >= 16);
-    assert!(rt; frame[1] / 16 == 0);
+    same(rt, frame[1] / 16, 0);
     read_data(alloc, config, frame)
 }
 
@@ -138,74 +140,94 @@ fn first_path(rt: HostRuntime) -> Result<(), Fail> {
     let alloc = rt.alloc();
     let config = config_7(&rt, alloc)?;
     let bytes = framed(alloc, &DATA_7)?;
-    assert_eq!(rt; bytes.len(), 26);
-    assert_eq!(rt; &bytes[24..], [0x7F, 0xA7].as_slice());
+    same(&rt, bytes.len(), 26);
+    same(&rt, &bytes[24..], [0x7F, 0xA7].as_slice());
     let frame = read(&rt, alloc, &config, &bytes)?;
-    assert_eq!(rt;
+    same(
+        &rt,
         (frame.source.get(), frame.soc, frame.quality, frame.frac),
-        (7, 100, 0, 33_333)
+        (7, 100, 0, 33_333),
     );
-    assert_eq!(rt;
+    same(
+        &rt,
         frame.block(0),
-        [0, 0, 0x10, 0, 0x20, 0, 0, 0, 0, 0].as_slice()
+        [0, 0, 0x10, 0, 0x20, 0, 0, 0, 0, 0].as_slice(),
     );
-    assert_eq!(rt;
+    same(
+        &rt,
         (
             frame.count(),
             frame.base(),
             frame.stat(0),
-            frame.is_changed()
+            frame.is_changed(),
         ),
-        (1, 1_000_000, 0, false)
+        (1, 1_000_000, 0, false),
     );
-    assert_eq!(rt; (frame.key(0).source.get(), frame.key(0).pmu.get()), (7, 7));
+    same(
+        &rt,
+        (frame.key(0).source.get(), frame.key(0).pmu.get()),
+        (7, 7),
+    );
     Ok(())
 }
 
 // PMUs 7, 8 and 11 of source 9 in one frame of 44 bytes.
 #[test]
-fn shared_frame(rt: HostRuntime) -> Result<(), Fail> {
+fn shared_frame(rt: HostRuntime) {
     let alloc = rt.alloc();
     let mut pmu_11 = PMU_7;
     pmu_11[17] = 11;
-    let source = PmuId::new(9).ok_or("reserved")?;
-    let a = part(&rt, alloc, &PMU_7)?;
-    let b = part(&rt, alloc, &block_8(alloc)?)?;
-    let c = part(&rt, alloc, &pmu_11)?;
-    let config = three_parts(&rt, alloc, source, a, b, c)?;
+    let source = PmuId::new(9).expect(&rt, "reserved");
+    let a = part(&rt, alloc, &PMU_7).expect(&rt, "memory");
+    let b = part(&rt, alloc, &block_8(alloc).expect(&rt, "memory")).expect(&rt, "memory");
+    let c = part(&rt, alloc, &pmu_11).expect(&rt, "memory");
+    let config = three_parts(&rt, alloc, source, a, b, c).expect(&rt, "memory");
     let mut bytes = Vec::from_slice(
         alloc,
         &[
             0xAA, 0x02, 0x00, 0x2C, 0x00, 0x09, 0x00, 0x00, 0x00, 0x64, 0x00, 0x00, 0x82, 0x35,
         ],
-    )?;
-    bytes.extend_from_slice(&[0, 0, 0x10, 0, 0x20, 0, 0, 0, 0, 0])?;
-    bytes.extend_from_slice(&[0, 0, 0, 0, 0, 0, 0, 1])?;
-    bytes.extend_from_slice(&[0, 0, 0x30, 0, 0x40, 0, 0, 0, 0, 0])?;
-    let mut bytes = framed(alloc, &bytes)?;
-    assert_eq!(rt; bytes.len(), 44);
-    assert_eq!(rt; &bytes[42..], [0x74, 0xB9].as_slice());
-    let frame = read(&rt, alloc, &config, &bytes)?;
-    assert_eq!(rt;
+    )
+    .expect(&rt, "memory");
+    bytes
+        .extend_from_slice(&[0, 0, 0x10, 0, 0x20, 0, 0, 0, 0, 0])
+        .expect(&rt, "memory");
+    bytes
+        .extend_from_slice(&[0, 0, 0, 0, 0, 0, 0, 1])
+        .expect(&rt, "memory");
+    bytes
+        .extend_from_slice(&[0, 0, 0x30, 0, 0x40, 0, 0, 0, 0, 0])
+        .expect(&rt, "memory");
+    let mut bytes = framed(alloc, &bytes).expect(&rt, "memory");
+    same(&rt, bytes.len(), 44);
+    same(&rt, &bytes[42..], [0x74, 0xB9].as_slice());
+    let frame = read(&rt, alloc, &config, &bytes).expect(&rt, "memory");
+    same(
+        &rt,
         frame.block(0),
-        [0, 0, 0x10, 0, 0x20, 0, 0, 0, 0, 0].as_slice()
+        [0, 0, 0x10, 0, 0x20, 0, 0, 0, 0, 0].as_slice(),
     );
-    assert_eq!(rt; frame.block(1), [0, 0, 0, 0, 0, 0, 0, 1].as_slice());
-    assert_eq!(rt;
+    same(&rt, frame.block(1), [0, 0, 0, 0, 0, 0, 0, 1].as_slice());
+    same(
+        &rt,
         frame.block(2),
-        [0, 0, 0x30, 0, 0x40, 0, 0, 0, 0, 0].as_slice()
+        [0, 0, 0x30, 0, 0x40, 0, 0, 0, 0, 0].as_slice(),
     );
-    assert_eq!(rt;
+    same(
+        &rt,
         (frame.key(2).source.get(), frame.key(2).pmu.get()),
-        (9, 11)
+        (9, 11),
     );
     assert!(rt; !frame.is_changed());
     // Bit 10 of the last block's STAT alone is set.
     bytes.truncate(42);
     bytes[32] = 0x04;
-    let changed = framed(alloc, &bytes)?;
-    assert!(rt; read(&rt, alloc, &config, &changed)?.is_changed());
-    Ok(())
+    let changed = framed(alloc, &bytes).expect(&rt, "memory");
+    assert!(rt;
+        read(&rt, alloc, &config, &changed)
+            .expect(&rt, "memory")
+            .is_changed()
+    );
 }
 
 // A data frame of source 7 by PMU 7's configuration: its IDCODE, numerator and body, and what is read.
@@ -235,22 +257,26 @@ fn refused(
 fn order_of_refusals(rt: HostRuntime) -> Result<(), Fail> {
     let alloc = rt.alloc();
     let (below, base) = ([0x0F, 0x42, 0x3F], [0x0F, 0x42, 0x40]);
-    assert_eq!(rt; refused(&rt, alloc, 7, below, &[0; 10])?, None);
-    assert_eq!(rt;
+    same(&rt, refused(&rt, alloc, 7, below, &[0; 10])?, None);
+    same(
+        &rt,
         refused(&rt, alloc, 7, base, &[0; 10])?,
-        Some(Refusal::BadFraction)
+        Some(Refusal::BadFraction),
     );
-    assert_eq!(rt;
+    same(
+        &rt,
         refused(&rt, alloc, 7, base, &[0; 12])?,
-        Some(Refusal::BadLength)
+        Some(Refusal::BadLength),
     );
-    assert_eq!(rt;
+    same(
+        &rt,
         refused(&rt, alloc, 7, below, &[0; 8])?,
-        Some(Refusal::BadLength)
+        Some(Refusal::BadLength),
     );
-    assert_eq!(rt;
+    same(
+        &rt,
         refused(&rt, alloc, 8, base, &[0; 12])?,
-        Some(Refusal::WrongId)
+        Some(Refusal::WrongId),
     );
     Ok(())
 }
@@ -260,10 +286,10 @@ fn fillers(rt: HostRuntime) -> Result<(), Fail> {
     let alloc = rt.alloc();
     let mut out = Vec::with_capacity(alloc, 18)?;
     let pmu_7 = part(&rt, alloc, &PMU_7)?;
-    assert!(rt; pmu_7.block_len() == 10);
+    same(&rt, pmu_7.block_len(), 10);
     filler_into(&pmu_7, &mut out);
     let pmu_8 = part(&rt, alloc, &block_8(alloc)?)?;
-    assert!(rt; pmu_8.block_len() == 8);
+    same(&rt, pmu_8.block_len(), 8);
     filler_into(&pmu_8, &mut out);
     let seven = [0x80, 0, 0x80, 0, 0x80, 0, 0x80, 0, 0x80, 0];
     let eight = [0x80, 0, 0x80, 0, 0x80, 0, 0, 0];

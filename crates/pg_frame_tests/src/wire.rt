@@ -1,3 +1,4 @@
+use crate::asserts::same;
 use pg_wire::*;
 use std::test::*;
 
@@ -21,9 +22,9 @@ const LINK_COMMAND: [u8; 18] = [
 
 #[test]
 fn check_values(rt: HostRuntime) {
-    assert_eq!(rt; check(b"123456789"), 0x29B1);
-    assert_eq!(rt; check(b""), 0xFFFF);
-    assert_eq!(rt; check(&MEASURED[..24]), 0x7FA7);
+    same(&rt, check(b"123456789"), 0x29B1);
+    same(&rt, check(b""), 0xFFFF);
+    same(&rt, check(&MEASURED[..24]), 0x7FA7);
     // Both ways of taking it agree, whatever is left over behind the last eight bytes.
     let mut bytes = [0x5A; 300];
     for i in 0..bytes.len() {
@@ -44,7 +45,7 @@ fn deframer_pieces(rt: HostRuntime) {
     deframer.feed(&SEND_CONFIG[17..]);
     assert!(rt; matches!(deframer.next(), Taken::Frame(frame) if frame == SEND_CONFIG.as_slice()));
     assert!(rt; matches!(deframer.next(), Taken::More));
-    assert_eq!(rt; deframer.room(), CAPACITY);
+    same(&rt, deframer.room(), CAPACITY);
     // Two frames and nine bytes of a third, in one piece.
     let mut piece = [0; 45];
     for i in 0..piece.len() {
@@ -57,7 +58,7 @@ fn deframer_pieces(rt: HostRuntime) {
         );
     }
     assert!(rt; matches!(deframer.next(), Taken::More));
-    assert_eq!(rt; deframer.room(), 65_526);
+    same(&rt, deframer.room(), 65_526);
 }
 
 #[test]
@@ -127,7 +128,7 @@ fn heads_read_and_written(rt: HostRuntime) {
         quality: 0,
         frac: 0,
     };
-    assert_eq!(rt; read_head(&SEND_CONFIG), command);
+    same(&rt, read_head(&SEND_CONFIG), command);
     let measured = Head {
         kind: Kind::Measured,
         size: 26,
@@ -135,21 +136,21 @@ fn heads_read_and_written(rt: HostRuntime) {
         frac: 33_333,
         ..command
     };
-    assert_eq!(rt; read_head(&MEASURED), measured);
+    same(&rt, read_head(&MEASURED), measured);
     let to_source = Head {
         id: 7,
         soc: 0,
         quality: 15,
         ..command
     };
-    assert_eq!(rt; read_head(&LINK_COMMAND), to_source);
+    same(&rt, read_head(&LINK_COMMAND), to_source);
     for (head, want) in [(&command, &SEND_CONFIG), (&to_source, &LINK_COMMAND)] {
         assert!(rt; head.size == 18 && head.version == 2 && head.frac == 0);
         let mut frame = start_frame(rt.alloc(), head).expect(&rt, "memory");
         frame.extend_from_slice(&[0, 5]).expect(&rt, "memory");
         assert!(rt; frame.len() == 16 && frame.capacity() >= 18);
         end_frame(&mut frame);
-        assert!(rt; frame.as_slice() == want.as_slice());
+        same(&rt, frame.as_slice(), want.as_slice());
     }
 }
 
@@ -198,13 +199,14 @@ fn numbers_and_names(rt: HostRuntime) {
         (Refusal::WriteFault, 40, "WriteFault"),
     ];
     for (refusal, number, name) in table {
-        assert_eq!(rt; refusal.number(), number);
-        assert_eq!(rt; refusal.name(), name);
-        assert_eq!(rt;
+        same(&rt, refusal.number(), number);
+        same(&rt, refusal.name(), name);
+        same(
+            &rt,
             format!(in rt.alloc(); "{refusal}")
                 .expect(&rt, "memory")
                 .as_str(),
-            name
+            name,
         );
     }
 }

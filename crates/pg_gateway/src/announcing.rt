@@ -20,47 +20,9 @@ use circular_buffer::HeapCircularBuffer;
 use indexmap::IndexMap;
 use pg_config::{PmuConfig, SourceConfig};
 use pg_registry::Registry;
+use pg_session::copy_parts;
 use pg_wire::{PmuKey, Refusal, SubId};
 use std::sync::Arc;
-
-/// Lays a copy of a configuration behind those that lie there. The one refusal is `NoMemory`.
-fn lay_config(
-    config: &Arc<PmuConfig>,
-    copies: &mut HeapCircularBuffer<Arc<PmuConfig>>,
-) -> Result<(), Refusal>
-    requires room { length copies.old.items < copies.old.capacity }
-    ensures laid { OnOk result (map arc_value copies.new.items ≡ map arc_value copies.old.items ++ arc_value config.now ∷ []) }
-    ensures long { OnOk result (length copies.new.items ≡ length copies.old.items + 1) }
-    ensures capacity { copies.new.capacity ≡ copies.old.capacity }
-    ensures memory { IfErr result (λ refusal. refusal ≡ Refusal.NoMemory) }
-{
-    let copy = Arc::try_clone(config)?;
-    let Ok(()) = copies.try_push_back(copy) else {
-        unreachable!();
-    };
-    Ok(())
-}
-
-/// Lays a copy of what a source says of each of those PMUs, in the place of what lay there. The one refusal is `NoMemory`; some
-/// copies may then lie there.
-fn copy_parts(
-    config: &SourceConfig,
-    places: &[usize],
-    copies: &mut HeapCircularBuffer<Arc<PmuConfig>>,
-) -> Result<(), Refusal>
-    requires rising { AreRising 0 (length config.now.parts) places.now }
-    requires room { copies.old.capacity ≡ 16 }
-    ensures laid { OnOk result (map arc_value copies.new.items ≡ map config_of (announced_at config.now places.now)) }
-    ensures capacity { copies.new.capacity ≡ copies.old.capacity }
-    ensures memory { IfErr result (λ refusal. refusal ≡ Refusal.NoMemory) }
-{
-    copies.clear();
-    let _count = config.count();
-    for place in places {
-        lay_config(&config.parts[*place], copies)?;
-    }
-    Ok(())
-}
 
 /// Makes all copies that an announcement needs: of what each of those PMUs announced, for the registry, and those that the
 /// subscribers' shares need. Nothing that they show changes.
@@ -91,6 +53,7 @@ pub(crate) fn copy_announced(
     ensures room { 16 ≤ vec_capacity held.new }
     ensures capacity { copies.new.capacity ≡ 16 }
 {
+    copies.clear();
     copy_parts(config, places, copies)?;
     lay_copies(subs, event, places, held)?;
     Ok(())

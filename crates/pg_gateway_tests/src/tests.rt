@@ -1,3 +1,4 @@
+use crate::asserts::same;
 use pg_audit::{PmuStats, Stats, What};
 use pg_command::Command;
 use pg_config::{SourceConfig, read_config};
@@ -121,7 +122,7 @@ fn measured(
     let bytes = framed(rt, alloc, &[&head, &soc, &numerator, block]);
     assert!(rt; is_frame(&bytes));
     assert!(rt; bytes.len() >= 16);
-    assert!(rt; bytes[1] / 16 == 0);
+    same(rt, bytes[1] / 16, 0);
     Event::Measure(read_data(alloc, config, &bytes).expect(rt, "a data frame"))
 }
 
@@ -190,14 +191,14 @@ fn counts(rt: &impl Abort, reply: Reply) -> (u64, u64) {
 // The event is done, with this many frames made and kept.
 fn done(rt: &impl Abort, gateway: &mut Gateway, event: Event, frames: u64) {
     let (made, kept) = counts(rt, gateway.step(event));
-    assert!(rt; made == frames);
-    assert!(rt; kept == frames);
+    same(rt, made, frames);
+    same(rt, kept, frames);
 }
 
 // The event is refused so.
 fn refused(rt: &impl Abort, gateway: &mut Gateway, event: Event, expected: Refusal) {
     match gateway.step(event) {
-        Reply::Refused(refusal) => assert!(rt; refusal == expected),
+        Reply::Refused(refusal) => same(rt, refusal, expected),
         _ => panic!(rt; "not refused"),
     }
 }
@@ -219,8 +220,8 @@ fn drains(
     match out {
         Ok(out) => {
             assert!(rt; out.len <= buf.len());
-            assert!(rt; &buf[..out.len] == expected);
-            assert!(rt; out.gap == gaps);
+            same(rt, &buf[..out.len], expected);
+            same(rt, out.gap, gaps);
         }
         Err(_) => panic!(rt; "refused"),
     }
@@ -244,8 +245,8 @@ fn standing(rt: &impl Abort, gateway: &mut Gateway, sub: u16, place: u8) -> Stan
 // So many frames and bytes wait for a subscriber.
 fn waits(rt: &impl Abort, gateway: &mut Gateway, sub: u16, frames: u64, bytes: u64) {
     let standing = standing(rt, gateway, sub, 0);
-    assert!(rt; standing.frames == frames);
-    assert!(rt; standing.bytes == bytes);
+    same(rt, standing.frames, frames);
+    same(rt, standing.bytes, bytes);
 }
 
 // The stream at a place is this one, on or off, with so many effective members of so many.
@@ -265,7 +266,7 @@ fn stands(
         effective,
         members,
     };
-    assert!(rt; standing(rt, gateway, sub, place).stream == Some(expected));
+    same(rt, standing(rt, gateway, sub, place).stream, Some(expected));
 }
 
 fn pmu_stats(rt: &impl Abort, gateway: &mut Gateway, pmu: u16) -> PmuStats {
@@ -322,17 +323,17 @@ fn announcements_are_not_counted(rt: HostRuntime) {
     let alloc = rt.alloc();
     let config = source_7(&rt, alloc);
     let mut gateway = with_pmu_7(&rt, alloc, &config);
-    assert!(&rt; pmu_stats(&rt, &mut gateway, 7).taken == 0);
+    same(&rt, pmu_stats(&rt, &mut gateway, 7).taken, 0);
     done(&rt, &mut gateway, frame_7(&rt, alloc, &config), 0);
-    assert!(&rt; pmu_stats(&rt, &mut gateway, 7).taken == 1);
+    same(&rt, pmu_stats(&rt, &mut gateway, 7).taken, 1);
     done(&rt, &mut gateway, Event::Announce(config), 0);
     done(&rt, &mut gateway, Event::Tick(200), 0);
     let announced = source_7(&rt, alloc);
     let far = frame_7(&rt, alloc, &announced);
     refused(&rt, &mut gateway, far, Refusal::FarClock);
     let stats = pmu_stats(&rt, &mut gateway, 7);
-    assert!(&rt; stats.taken == 1);
-    assert!(&rt; stats.by_reason[21] == 1);
+    same(&rt, stats.taken, 1);
+    same(&rt, stats.by_reason[21], 1);
 }
 
 // Row registry-and-grants.
@@ -484,9 +485,9 @@ fn standing_leaves_no_trace(rt: HostRuntime) {
     let mut gateway = with_two_streams(&rt, alloc, &config);
     let before = stats(&rt, &mut gateway, 1);
     stands(&rt, &mut gateway, 1, 1, 102, false, 1, 1);
-    assert!(&rt; stats(&rt, &mut gateway, 1) == before);
+    same(&rt, stats(&rt, &mut gateway, 1), before);
     match gateway.step(Event::Audit(subscriber(&rt, 1), 0)) {
-        Reply::Audit(Some(entry)) => assert!(&rt; entry.what == What::Define),
+        Reply::Audit(Some(entry)) => same(&rt, entry.what, What::Define),
         _ => panic!(&rt; "no entry"),
     }
 }
@@ -671,10 +672,10 @@ fn loss_reaches_later_subscribers(rt: HostRuntime) {
     drop(place);
     let reply = gateway.step(frame);
     drop(held);
-    assert!(&rt; counts(&rt, reply) == (3, 1));
-    assert!(&rt; losses(&rt, &mut gateway, 1) == (0, 0));
-    assert!(&rt; losses(&rt, &mut gateway, 2) == (1, 1));
-    assert!(&rt; losses(&rt, &mut gateway, 3) == (1, 1));
+    same(&rt, counts(&rt, reply), (3, 1));
+    same(&rt, losses(&rt, &mut gateway, 1), (0, 0));
+    same(&rt, losses(&rt, &mut gateway, 2), (1, 1));
+    same(&rt, losses(&rt, &mut gateway, 3), (1, 1));
     done(
         &rt,
         &mut gateway,
@@ -703,17 +704,17 @@ fn reply_without_memory(rt: HostRuntime) {
         word: 5,
     };
     match starved(&rt, alloc, &mut gateway, Event::Command(sub, asked)) {
-        Reply::Refused(refusal) => assert!(&rt; refusal == Refusal::NoMemory),
+        Reply::Refused(refusal) => same(&rt, refusal, Refusal::NoMemory),
         _ => panic!(&rt; "not refused"),
     }
     match gateway.step(Event::Audit(sub, 0)) {
         Reply::Audit(Some(entry)) => {
-            assert!(&rt; entry.what.number() == 8);
-            assert!(&rt; entry.result_number() == 1);
+            same(&rt, entry.what.number(), 8);
+            same(&rt, entry.result_number(), 1);
         }
         _ => panic!(&rt; "no entry"),
     }
-    assert!(&rt; stats(&rt, &mut gateway, 1).by_reason[1] == 1);
+    same(&rt, stats(&rt, &mut gateway, 1).by_reason[1], 1);
     drains(&rt, alloc, &mut gateway, 1, &[], 0);
     command(&rt, &mut gateway, 1, 101, 5);
     drains(&rt, alloc, &mut gateway, 1, &EMPTY_REPLY, 0);
@@ -742,8 +743,8 @@ fn with_open_slot(rt: &impl Abort, alloc: Global) -> Gateway {
 fn loses_in_a_flush(rt: &impl Abort, alloc: Global, event: Event, expected: &[u8]) {
     let mut gateway = with_open_slot(rt, alloc);
     let reply = starved(rt, alloc, &mut gateway, event);
-    assert!(rt; counts(rt, reply) == (1, 0));
-    assert!(rt; losses(rt, &mut gateway, 1) == (1, 1));
+    same(rt, counts(rt, reply), (1, 0));
+    same(rt, losses(rt, &mut gateway, 1), (1, 1));
     lists(rt, alloc, &mut gateway, expected);
 }
 

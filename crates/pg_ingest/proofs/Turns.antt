@@ -21,7 +21,8 @@ use Rattle.pg_gateway.specs.Posting.{Posted as Call, Notes}
 use Rattle.pg_ingest.specs.Begun.{Begins}
 use Rattle.pg_ingest.specs.Runs.{Step, begins, reads, posts, stepping, after_steps, events_told, event_posted, wires, Ran, RanOn}
 use Rattle.pg_ingest.specs.Ends.{AreFed, is_cut, pieces_in, LastRead, break_after, Why, Ends}
-use Rattle.pg_ingest.specs.Turning.{EndsTurn, EndsRead, OnlyBegins, TellsAll, IsStuck}
+use Rattle.pg_ingest.specs.Transfers.{EndsRead, IsStuck}
+use Rattle.pg_ingest.specs.Turning.{EndsTurn, OnlyBegins, TellsAll}
 use Rattle.pg_ingest.proofs.Known.{appends_nil, notes_nil}
 use Rattle.pg_ingest.proofs.Telling.{told_in-append}
 use Rattle.pg_ingest.proofs.Stepping.{Bytes, Calls, after-append, from_wrote, from_step, from_more, from_begun, from_told, from_ignored}

@@ -12,6 +12,8 @@ pub mod Links
 pub mod Runs
 pub mod Ends
 pub mod Served
+-- one read, and one write of what is left
+pub mod Transfers
 -- only private contracts and proofs use these
 pub mod Reading
 pub mod Pendings

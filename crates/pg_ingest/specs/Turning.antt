@@ -1,10 +1,8 @@
 -- How the parts of a turn end.
 use Rattle.std.specs.Prelude.{◌≡◌, ◌≢◌, ◌≤◌, ℕ, true, false, List, [], ◌∷◌, map, length, Option, Some, None}
-use Rattle.std.specs.Io.KnownBytes.{IsAtEnd}
 use Rattle.pg_wire.specs.declared.refusal.Refusal.{Refusal}
 use Rattle.pg_command.specs.declared.word.Word.{Word}
 use Rattle.pg_ingest.specs.declared.run.End.{End}
-use Rattle.pg_ingest.specs.declared.run.End.TheVariants.{Closed, Quiet, Stalled, Fault}
 use Rattle.pg_ingest.specs.Items.{Item, break_in}
 use Rattle.pg_ingest.specs.Shown.{LinkPast, IsAllTold}
 use Rattle.pg_ingest.specs.Runs.{Step, begins, posts, after_steps}
@@ -17,20 +15,6 @@ EndsTurn None left r past steps =
 EndsTurn (Some end) left r past steps =
     IsAllTold (after_steps past steps) × (length (pieces_in steps) ≤ 1) × (is_cut end ≡ false → (piece : List ℕ) × LastRead piece steps)
     × Why end left r past steps × (is_cut end ≡ true → break_in past.stream ≡ None → break_after past steps ≡ None)
-
--- a write was cut short
-abbrev pub IsStuck : End → List ℕ → Type 0
-IsStuck Closed left = ⊥
-IsStuck Quiet left = ⊥
-IsStuck Stalled left = left ≢ []
-IsStuck (Fault n) left = (n ≡ 40) × (left ≢ [])
-
--- a read gave so many bytes, and no more come now
-abbrev pub EndsRead : End → ℕ → Option (List ℕ) → Type 0
-EndsRead Closed size r = (size ≡ 0) × IsAtEnd r
-EndsRead Quiet size r = size ≡ 0
-EndsRead Stalled size r = ⊥
-EndsRead (Fault n) size r = (n ≡ 39) × (size ≡ 0)
 
 -- nothing was done but that commands were begun
 abbrev pub OnlyBegins : List Step → Type 0

@@ -7,6 +7,7 @@ mod link;
 mod pending;
 mod run;
 mod told;
+mod transfer;
 
 pub use laws::{
     calls_are_one_run, calls_serve_the_source, command_is_owed, told_goes_on, told_is_a_function,
@@ -14,3 +15,4 @@ pub use laws::{
 };
 pub use link::{Link, LinkEvent};
 pub use run::{End, run_link};
+pub use transfer::{read_piece, write_bytes};

@@ -1,19 +1,20 @@
 //! The loop of a link over any reader, writer and gate.
 
-ghost use Rattle.std.specs.Prelude.{◌≡◌, ◌<◌, ◌≤◌, ℕ, List, [], length, false, Option, Some, None, IfSome, take};
-ghost use Rattle.std.specs.Io.KnownBytes.{Consumes};
+ghost use Rattle.std.specs.Prelude.{◌≡◌, ◌<◌, ℕ, List, [], length, false, Option, Some, None, IfSome};
 ghost use Rattle.pg_wire.specs.Held.{IsBreak};
 ghost use Rattle.pg_gateway.specs.Posting.{Posted};
 ghost use Rattle.pg_ingest.specs.Ends.{is_cut};
-ghost use Rattle.pg_ingest.specs.Turning.{EndsTurn, EndsRead, IsStuck, OnlyBegins, TellsAll};
+ghost use Rattle.pg_ingest.specs.Transfers.{IsStuck};
+ghost use Rattle.pg_ingest.specs.Turning.{EndsTurn, OnlyBegins, TellsAll};
 ghost use Rattle.pg_ingest.specs.Runs.{wires, Ran, RanOn};
 ghost use Rattle.pg_ingest.specs.Served.{IsCall};
 ghost use Rattle.pg_ingest.specs.Shown.{LinkPast, ShowsLink, word_due};
 
 use crate::link::{Link, LinkEvent};
+use crate::transfer::{read_piece, write_bytes};
 use pg_gateway::{Event, Gate};
 use pg_wire::Refusal;
-use std::io::{ErrorKind, Read, Write};
+use std::io::{Read, Write};
 
 /// How a call of `run_link` ended (own rule).
 #[derive(Clone, Copy, Debug, PartialEq, Eq)]
@@ -36,17 +37,9 @@ fn push_left<W: Write>(link: &mut Link, writer: &mut W) -> Option<End>
     ensures same { link.new ≡ record link.old { left = link.new.left } }
     ensures stuck { IfSome result (λ end. IsStuck end link.new.left) }
 {
-    'rest: while !link.left().is_empty() {
-        match writer.write(link.left()) {
-            Ok(0) => return Some(End::Fault(40)),
-            Ok(size) => link.send(size),
-            Err(error) => match error.kind() {
-                ErrorKind::WouldBlock => return Some(End::Stalled),
-                _ => return Some(End::Fault(40)),
-            },
-        }
-    }
-    None
+    let (size, cut) = write_bytes(writer, link.left());
+    link.send(size);
+    cut
 }
 
 /// Writes what is left of a command, and then all commands that are owed.
@@ -89,26 +82,6 @@ fn post_events<G: Gate>(link: &mut Link, gate: &mut G) -> Option<Refusal>
             LinkEvent::Ended(refusal) => return Some(refusal),
             LinkEvent::More => return None,
         }
-    }
-}
-
-/// Reads once: how many bytes came, and how the call ends where no more come now.
-fn read_piece<R: Read>(reader: &mut R, buffer: &mut [u8]) -> (usize, Option<End>)
-    requires some { 0 < length buffer.old }
-    requires few { length buffer.old ≤ 4096 }
-    ensures some { result.1 ≡ None → 0 < result.0 }
-    ensures small { result.0 ≤ 4096 }
-    ensures within { result.0 ≤ length buffer.new }
-    ensures read { Consumes (R.remaining reader.old) (R.remaining reader.new) (take result.0 buffer.new) }
-    ensures end { IfSome result.1 (λ end. EndsRead end result.0 (R.remaining reader.new)) }
-{
-    match reader.read(buffer) {
-        Ok(0) => (0, Some(End::Closed)),
-        Ok(size) => (size, None),
-        Err(error) => match error.kind() {
-            ErrorKind::WouldBlock => (0, Some(End::Quiet)),
-            _ => (0, Some(End::Fault(39))),
-        },
     }
 }
 

@@ -2,6 +2,7 @@ ghost use Rattle.std.specs.Prelude.{map, Some};
 ghost use Rattle.pg_gateway.specs.Posting.{Posted};
 ghost use Rattle.pg_gateway.specs.Occurrences.{occurrence, told};
 
+use crate::asserts::same;
 use pg_fakes::{FakeGate, FakeReader, FakeWriter};
 use pg_gateway::{Event, Gate, Reply};
 use pg_ingest::*;
@@ -67,16 +68,16 @@ fn feed(rt: &impl Abort, link: &mut Link, bytes: &[u8]) {
 fn gives(rt: &impl Abort, link: &mut Link, frame: &[u8], want: Seen, owed: Option<[u8; 18]>) {
     feed(rt, link, frame);
     feed(rt, link, &check(frame).to_be_bytes());
-    assert_eq!(rt; next_seen(link), want);
-    assert_eq!(rt; next_seen(link), Seen::More);
-    assert!(rt; link.next_out() == owed);
+    same(rt, next_seen(link), want);
+    same(rt, next_seen(link), Seen::More);
+    same(rt, link.next_out(), owed);
     assert!(rt; link.next_out().is_none());
 }
 
 #[test]
 fn data_waits_for_configuration(rt: HostRuntime) -> Result<(), Fail> {
     let mut link = link_7(rt.alloc())?;
-    assert!(rt; link.next_out() == Some(SEND_CONFIG));
+    same(&rt, link.next_out(), Some(SEND_CONFIG));
     gives(&rt, &mut link, &DATA_7, Seen::Ignored(18), None);
     // A block's IDCODE may be any.
     let mut other_block = CONFIG_7;
@@ -95,7 +96,7 @@ fn data_waits_for_configuration(rt: HostRuntime) -> Result<(), Fail> {
 fn refusals_and_triggers(rt: HostRuntime) -> Result<(), Fail> {
     let alloc = rt.alloc();
     let mut link = link_7(alloc)?;
-    assert!(rt; link.next_out() == Some(SEND_CONFIG));
+    same(&rt, link.next_out(), Some(SEND_CONFIG));
     let (mut two, mut none, mut no_base, mut first) = (CONFIG_7, CONFIG_7, CONFIG_7, CONFIG_7);
     two[19] = 2;
     none[19] = 0;
@@ -120,15 +121,16 @@ fn refusals_and_triggers(rt: HostRuntime) -> Result<(), Fail> {
     gives(&rt, &mut link, &changing, Seen::Measured, None);
     gives(&rt, &mut link, &DATA_7, Seen::Measured, Some(SEND_CONFIG));
     let reasons = link.stats().by_reason;
-    assert_eq!(rt;
+    same(
+        &rt,
         (
             link.stats().taken,
             reasons[7],
             reasons[8],
             reasons[14],
-            reasons[38]
+            reasons[38],
         ),
-        (4, 1, 3, 1, 1)
+        (4, 1, 3, 1, 1),
     );
     Ok(())
 }
@@ -139,16 +141,16 @@ fn breaks_and_resets(rt: HostRuntime) -> Result<(), Fail> {
     let mut link = link_7(rt.alloc())?;
     feed(&rt, &mut link, &CONFIG_7);
     feed(&rt, &mut link, &[0, 0, 0xAB]);
-    assert_eq!(rt; next_seen(&mut link), Seen::Ignored(5));
-    assert_eq!(rt; next_seen(&mut link), Seen::Ended(2));
+    same(&rt, next_seen(&mut link), Seen::Ignored(5));
+    same(&rt, next_seen(&mut link), Seen::Ended(2));
     feed(&rt, &mut link, &DATA_7);
-    assert_eq!(rt; next_seen(&mut link), Seen::Ended(2));
-    assert!(rt; link.next_out() == Some(SEND_CONFIG));
+    same(&rt, next_seen(&mut link), Seen::Ended(2));
+    same(&rt, link.next_out(), Some(SEND_CONFIG));
     link.reset();
-    assert!(rt; link.next_out() == Some(SEND_CONFIG));
+    same(&rt, link.next_out(), Some(SEND_CONFIG));
     gives(&rt, &mut link, &CONFIG_7, Seen::Announced, Some(START_DATA));
     let reasons = link.stats().by_reason;
-    assert_eq!(rt; (link.stats().taken, reasons[2], reasons[5]), (1, 0, 1));
+    same(&rt, (link.stats().taken, reasons[2], reasons[5]), (1, 0, 1));
     Ok(())
 }
 
@@ -269,7 +271,7 @@ fn run_stored(rt: &impl Abort, alloc: Global, streams: Streams) -> (End, usize, 
         .iter()
         .filter(|event| matches!(event, Event::Measure(_)))
         .count();
-    assert_eq!(rt; announced + measured, gate.calls.len());
+    same(rt, announced + measured, gate.calls.len());
     (end, writer.taken.len(), (announced, measured))
 }
 
@@ -277,20 +279,25 @@ fn run_stored(rt: &impl Abort, alloc: Global, streams: Streams) -> (End, usize, 
 #[test]
 fn loops_over_memory(rt: HostRuntime) {
     let alloc = rt.alloc();
-    assert_eq!(rt; run_stored(&rt, alloc, WHOLE), (End::Closed, 36, (1, 1)));
+    same(
+        &rt,
+        run_stored(&rt, alloc, WHOLE),
+        (End::Closed, 36, (1, 1)),
+    );
     let quiet = Streams {
         read_fails: 3,
         kind: ErrorKind::WouldBlock,
         ..WHOLE
     };
-    assert_eq!(rt; run_stored(&rt, alloc, quiet), (End::Quiet, 36, (1, 1)));
+    same(&rt, run_stored(&rt, alloc, quiet), (End::Quiet, 36, (1, 1)));
     let endless = Streams {
         read_most: 1,
         ..WHOLE
     };
-    assert_eq!(rt;
+    same(
+        &rt,
         run_stored(&rt, alloc, endless),
-        (End::Fault(39), 18, (0, 0))
+        (End::Fault(39), 18, (0, 0)),
     );
 }
 
@@ -303,9 +310,10 @@ fn failing_streams(rt: HostRuntime) {
             read_fails: k,
             ..WHOLE
         };
-        assert_eq!(rt;
+        same(
+            &rt,
             run_stored(&rt, alloc, failing),
-            (End::Fault(39), written, posted)
+            (End::Fault(39), written, posted),
         );
     }
     for (k, written, announced) in [
@@ -320,21 +328,27 @@ fn failing_streams(rt: HostRuntime) {
             write_fails: k,
             ..WHOLE
         };
-        assert_eq!(rt;
+        same(
+            &rt,
             run_stored(&rt, alloc, failing),
-            (End::Fault(40), written, (announced, 0))
+            (End::Fault(40), written, (announced, 0)),
         );
         failing.kind = ErrorKind::WouldBlock;
-        assert_eq!(rt;
+        same(
+            &rt,
             run_stored(&rt, alloc, failing),
-            (End::Stalled, written, (announced, 0))
+            (End::Stalled, written, (announced, 0)),
         );
     }
     let closed = Streams {
         write_most: 0,
         ..WHOLE
     };
-    assert_eq!(rt; run_stored(&rt, alloc, closed), (End::Fault(40), 0, (0, 0)));
+    same(
+        &rt,
+        run_stored(&rt, alloc, closed),
+        (End::Fault(40), 0, (0, 0)),
+    );
 }
 
 #[test]
@@ -349,11 +363,12 @@ fn gate_tells_its_posts(rt: HostRuntime) {
     };
     let mut reader: &[u8] = &bytes;
     let mut written = Vec::new(alloc);
-    assert_eq!(rt;
+    same(
+        &rt,
         run_link(&mut link, &mut reader, &mut written, &mut gate, 10),
-        End::Closed
+        End::Closed,
     );
-    assert_eq!(rt; gate.calls.len(), 2);
+    same(&rt, gate.calls.len(), 2);
     assert!(rt; matches!(gate.post(Event::Tick(0)), Reply::Done { made: 0, kept: 0 }));
 }
 
@@ -373,14 +388,14 @@ fn gate_hands_out_chunks(rt: HostRuntime) {
         let room = Vec::from_slice(alloc, &[0, 0]).expect(&rt, "memory");
         match gate.post(Event::Drain(sub, room)) {
             Reply::Drained { buf, out } => {
-                assert_eq!(rt; buf.len(), 2);
+                same(&rt, buf.len(), 2);
                 assert!(rt; buf.starts_with(want));
-                assert!(rt; out.map(|handed| handed.len) == Ok(want.len()));
+                same(&rt, out.map(|handed| handed.len), Ok(want.len()));
             }
             _ => panic!(rt; "no drain"),
         }
     }
-    assert_eq!(rt; (gate.drains, gate.calls.len()), (3, 3));
+    same(&rt, (gate.drains, gate.calls.len()), (3, 3));
 }
 
 // What a reset link first tells of these bytes, and how it goes on.
@@ -400,9 +415,10 @@ fn hostile_bytes(rt: HostRuntime) {
         let mut frame = framed(&rt, alloc, &[body]);
         for i in 0..frame.len() {
             assert!(rt; i < frame.len());
-            assert_eq!(rt;
+            same(
+                &rt,
                 first_two(&rt, &mut link, &frame[..i]),
-                (Seen::More, Seen::More)
+                (Seen::More, Seen::More),
             );
             frame[i] ^= 0x80;
             let want = match i {
@@ -416,14 +432,16 @@ fn hostile_bytes(rt: HostRuntime) {
         }
     }
     let longest = [0xAA, 0x32, 0xFF, 0xFF];
-    assert_eq!(rt;
+    same(
+        &rt,
         first_two(&rt, &mut link, &longest),
-        (Seen::More, Seen::More)
+        (Seen::More, Seen::More),
     );
     let mut flood = Vec::new(alloc);
     flood.resize(65_535, 0xAA).expect(&rt, "memory");
-    assert_eq!(rt;
+    same(
+        &rt,
         first_two(&rt, &mut link, &flood),
-        (Seen::Ended(3), Seen::Ended(3))
+        (Seen::Ended(3), Seen::Ended(3)),
     );
 }

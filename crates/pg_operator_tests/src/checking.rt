@@ -1,5 +1,6 @@
 //! What a person is told that has a setup checked.
 
+use crate::asserts::same;
 use pg_check::check_setup;
 use pg_wire::Refusal;
 use std::test::*;
@@ -83,21 +84,21 @@ s.toml: subscriber 1: refused SubExists: a table before it has this number; each
 fn checked_setups(rt: HostRuntime) {
     let alloc = rt.alloc();
     let report = check_setup(alloc, "s.toml", RIGHT).expect(&rt, "a setup");
-    assert_eq!(rt; report.as_str(), REPORT);
+    same(&rt, report.as_str(), REPORT);
     match check_setup(alloc, "s.toml", REFUSED) {
         Ok(_) => panic!(rt; "taken"),
         Err(trouble) => {
-            assert_eq!(rt; trouble.refusal, Refusal::PmuExists);
-            assert_eq!(rt; trouble.told.as_str(), REASONS);
+            same(&rt, trouble.refusal, Refusal::PmuExists);
+            same(&rt, trouble.told.as_str(), REASONS);
         }
     }
     match check_setup(alloc, "s.toml", "tick_ms = 0\npmu = []\nsubscriber = []\n") {
         Ok(_) => panic!(rt; "taken"),
         Err(trouble) => {
-            assert_eq!(rt; trouble.refusal, Refusal::BadSetup);
+            same(&rt, trouble.refusal, Refusal::BadSetup);
             let told =
                 "s.toml:1: tick_ms: is the number 0; it has to be a whole number from 1 to 1000\n";
-            assert_eq!(rt; trouble.told.as_str(), told);
+            same(&rt, trouble.told.as_str(), told);
         }
     }
 }

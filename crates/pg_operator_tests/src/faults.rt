@@ -1,6 +1,7 @@
 //! What a person is told of a wrong setup file: each case is the file, and behind a line `=>` the lines that are told. Cases are
 //! parted by a line of hyphens. Where nothing stands behind `=>` the file is right.
 
+use crate::asserts::same;
 use pg_operator::{Fault, read_setup, setup_faults};
 use pg_wire::Refusal;
 use std::alloc::Global;
@@ -342,7 +343,7 @@ fn wrong_setups(rt: HostRuntime) {
     for case in CASES.split("----\n") {
         let (text, wanted) = case.split_once("=>\n").expect(&rt, "a case");
         let faults = setup_faults(alloc, text).expect(&rt, "memory");
-        assert_eq!(rt; told(&rt, alloc, &faults).as_str(), wanted);
+        same(&rt, told(&rt, alloc, &faults).as_str(), wanted);
         // What is told and what is read agree.
         match read_setup(alloc, text) {
             Ok(_) => assert!(rt; faults.is_empty()),
@@ -350,5 +351,5 @@ fn wrong_setups(rt: HostRuntime) {
         }
         count = count.saturating_add(1);
     }
-    assert_eq!(rt; count, 28);
+    same(&rt, count, 28);
 }

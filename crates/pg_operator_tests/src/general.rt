@@ -1,5 +1,6 @@
 //! The keys of a setup file itself: what they are read as.
 
+use crate::asserts::same;
 use crate::tests::keys_in_lines;
 use pg_operator::{LogLevel, Setup, read_setup};
 use pg_wire::Refusal;
@@ -77,7 +78,7 @@ fn told(rt: &impl Abort, alloc: Global, keys: &str) -> Result<String, Fail> {
     match read_setup(alloc, file.as_str()) {
         Ok(setup) => Ok(general_told(alloc, &setup)?),
         Err(refusal) => {
-            assert_eq!(rt; refusal, Refusal::BadSetup);
+            same(rt, refusal, Refusal::BadSetup);
             Ok(String::new(alloc))
         }
     }
@@ -86,7 +87,7 @@ fn told(rt: &impl Abort, alloc: Global, keys: &str) -> Result<String, Fail> {
 #[test]
 fn general_keys(rt: HostRuntime) -> Result<(), Fail> {
     let alloc = rt.alloc();
-    assert_eq!(rt; GENERAL.split('\n').count(), 41);
+    same(&rt, GENERAL.split('\n').count(), 41);
     for row in GENERAL.split('\n') {
         let (keys, want) = row.split_once(" => ").ok_or("a row")?;
         assert_eq!(rt; told(&rt, alloc, keys)?.as_str(), want, "at {row}");
@@ -121,7 +122,11 @@ fn longest_path(rt: HostRuntime) -> Result<(), Fail> {
         } else {
             String::new(alloc)
         };
-        assert_eq!(rt; told(&rt, alloc, keys.as_str())?.as_str(), want.as_str());
+        same(
+            &rt,
+            told(&rt, alloc, keys.as_str())?.as_str(),
+            want.as_str(),
+        );
     }
     Ok(())
 }

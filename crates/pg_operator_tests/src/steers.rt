@@ -1,5 +1,6 @@
 //! Lines about sources and ports, as an operator writes them.
 
+use crate::asserts::same;
 use pg_operator::{Steer, parse_steer};
 use pg_wire::{PmuId, SubId};
 use std::net::{Ipv4Addr, SocketAddrV4};
@@ -28,7 +29,7 @@ fn lines_steer(rt: HostRuntime) {
     ];
     for (line, steer) in rows {
         let read = parse_steer(alloc, line).expect(&rt, "memory");
-        assert!(rt; read == Some(steer));
+        same(&rt, read, Some(steer));
     }
 }
 

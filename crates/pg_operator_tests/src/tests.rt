@@ -1,3 +1,4 @@
+use crate::asserts::same;
 use pg_gateway::Edit;
 use pg_operator::{Setup, parse_line, read_setup, words};
 use pg_wire::{PmuKey, Refusal};
@@ -125,13 +126,13 @@ define 1 1 1 1 1 1 none 1 2 3 4 5 6 7 8 9 10 11 12 13 14 15 16 17 18 19 20 21 22
 
 #[test]
 fn lines_and_setup_lines(rt: HostRuntime) -> Result<(), Fail> {
-    assert_eq!(rt; LINES.split('\n').count(), 74);
+    same(&rt, LINES.split('\n').count(), 74);
     for row in LINES.split('\n') {
         let (line, want) = row.split_once(" => ").ok_or("a row")?;
         let got = match parse_line(rt.alloc(), line) {
             Ok(edit) => told(rt.alloc(), &edit)?,
             Err(refusal) => {
-                assert_eq!(rt; refusal, Refusal::BadLine);
+                same(&rt, refusal, Refusal::BadLine);
                 String::new(rt.alloc())
             }
         };
@@ -168,9 +169,10 @@ fn lines_and_setup_file(rt: HostRuntime) -> Result<(), Fail> {
         Ok(setup) => setup_told(rt.alloc(), &setup)?,
         Err(_) => String::new(rt.alloc()),
     };
-    assert_eq!(rt;
+    same(
+        &rt,
         got.as_str(),
-        "addpmu 7/7; addsub 1 64 16777216; grant 1 7/7; define 1 101 30 1000000 2 4 0 7/7; link 7 127.0.0.1:4712; port 1 4800; 10 1 1"
+        "addpmu 7/7; addsub 1 64 16777216; grant 1 7/7; define 1 101 30 1000000 2 4 0 7/7; link 7 127.0.0.1:4712; port 1 4800; 10 1 1",
     );
     Ok(())
 }
@@ -622,13 +624,13 @@ ring=4\n\
 
 #[test]
 fn setup_files(rt: HostRuntime) -> Result<(), Fail> {
-    assert_eq!(rt; FILES.split("\n====\n").count(), 53);
+    same(&rt, FILES.split("\n====\n").count(), 53);
     for file in FILES.split("\n====\n") {
         let (text, want) = file.split_once("=>").ok_or("a file")?;
         let got = match read_setup(rt.alloc(), text) {
             Ok(setup) => setup_told(rt.alloc(), &setup)?,
             Err(refusal) => {
-                assert_eq!(rt; refusal, Refusal::BadSetup);
+                same(&rt, refusal, Refusal::BadSetup);
                 String::new(rt.alloc())
             }
         };
@@ -661,7 +663,7 @@ fn frames_in_hexadecimal(rt: HostRuntime) -> Result<(), Fail> {
                 );
             }
             Err(refusal) => {
-                assert_eq!(rt; refusal, Refusal::BadLine);
+                same(&rt, refusal, Refusal::BadLine);
                 assert_eq!(rt; 0, len, "at {word}");
             }
         }
@@ -730,12 +732,12 @@ fn link_told(rt: &impl Abort, alloc: Global, text: &str) -> Result<String, Fail>
     )?;
     match read_setup(alloc, file.as_str()) {
         Ok(setup) => {
-            assert_eq!(rt; setup.links.len(), 1);
+            same(rt, setup.links.len(), 1);
             let link = setup.links.as_slice().first().ok_or("a link")?;
             Ok(String::from_str(alloc, link.1.as_str())?)
         }
         Err(refusal) => {
-            assert_eq!(rt; refusal, Refusal::BadSetup);
+            same(rt, refusal, Refusal::BadSetup);
             Ok(String::new(alloc))
         }
     }
@@ -745,10 +747,10 @@ fn link_told(rt: &impl Abort, alloc: Global, text: &str) -> Result<String, Fail>
 fn hosts_that_are_called(rt: HostRuntime) -> Result<(), Fail> {
     let alloc = rt.alloc();
     let (good, bad) = CALLS.split_once("\n====\n").ok_or("two parts")?;
-    assert_eq!(rt; good.split('\n').count(), 13);
-    assert_eq!(rt; bad.split('\n').count(), 35);
+    same(&rt, good.split('\n').count(), 13);
+    same(&rt, bad.split('\n').count(), 35);
     for text in good.split('\n') {
-        assert_eq!(rt; link_told(&rt, alloc, text)?.as_str(), text);
+        same(&rt, link_told(&rt, alloc, text)?.as_str(), text);
     }
     for text in bad.split('\n') {
         assert_eq!(rt; link_told(&rt, alloc, text)?.as_str(), "", "{text}");
@@ -922,9 +924,9 @@ pub(crate) fn keys_in_lines(alloc: Global, keys: &str) -> Result<String, Fail> {
 fn file_told(rt: &impl Abort, alloc: Global, file: &str, of_doors: bool) -> Result<String, Fail> {
     match read_setup(alloc, file) {
         Ok(setup) => {
-            assert_eq!(rt; setup.doors.len(), setup.ports.len());
+            same(rt, setup.doors.len(), setup.ports.len());
             for (door, port) in setup.doors.as_slice().iter().zip(setup.ports.as_slice()) {
-                assert_eq!(rt; door.sub.get(), port.0.get());
+                same(rt, door.sub.get(), port.0.get());
             }
             if of_doors {
                 doors_told(alloc, &setup)
@@ -933,7 +935,7 @@ fn file_told(rt: &impl Abort, alloc: Global, file: &str, of_doors: bool) -> Resu
             }
         }
         Err(refusal) => {
-            assert_eq!(rt; refusal, Refusal::BadSetup);
+            same(rt, refusal, Refusal::BadSetup);
             Ok(String::new(alloc))
         }
     }
@@ -942,7 +944,7 @@ fn file_told(rt: &impl Abort, alloc: Global, file: &str, of_doors: bool) -> Resu
 #[test]
 fn rules_of_sources(rt: HostRuntime) -> Result<(), Fail> {
     let alloc = rt.alloc();
-    assert_eq!(rt; SOURCES.split('\n').count(), 40);
+    same(&rt, SOURCES.split('\n').count(), 40);
     for row in SOURCES.split('\n') {
         let (keys, want) = row.split_once(" => ").ok_or("a row")?;
         let keys = keys_in_lines(alloc, keys)?;
@@ -959,7 +961,7 @@ fn rules_of_sources(rt: HostRuntime) -> Result<(), Fail> {
 #[test]
 fn rules_of_ports(rt: HostRuntime) -> Result<(), Fail> {
     let alloc = rt.alloc();
-    assert_eq!(rt; DOORS.split('\n').count(), 70);
+    same(&rt, DOORS.split('\n').count(), 70);
     for row in DOORS.split('\n') {
         let (keys, want) = row.split_once(" => ").ok_or("a row")?;
         let keys = keys_in_lines(alloc, keys)?;

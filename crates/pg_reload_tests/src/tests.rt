@@ -1,3 +1,4 @@
+use crate::asserts::same;
 use pg_gateway::{Edit, Event, Gate, Gateway, Reply};
 use pg_operator::{Setup, read_setup};
 use pg_reload::{Changes, Order, Port, Restart, changes_between};
@@ -330,20 +331,20 @@ fn check_rows<R: Abort>(rt: &R, alloc: Global, old: &str, rows: &str) -> Result<
 
 #[test]
 fn reload_rows(rt: HostRuntime) -> Result<(), Fail> {
-    assert_eq!(rt; ROWS.split('\n').count(), 40);
+    same(&rt, ROWS.split('\n').count(), 40);
     check_rows(&rt, rt.alloc(), OLD, ROWS)
 }
 
 #[test]
 fn reload_ports(rt: HostRuntime) -> Result<(), Fail> {
-    assert_eq!(rt; PORT_ROWS.split('\n').count(), 15);
+    same(&rt, PORT_ROWS.split('\n').count(), 15);
     check_rows(&rt, rt.alloc(), PORTS, PORT_ROWS)
 }
 
 #[test]
 fn reload_general(rt: HostRuntime) -> Result<(), Fail> {
-    assert_eq!(rt; GENERAL_ROWS.split('\n').count(), 19);
+    same(&rt, GENERAL_ROWS.split('\n').count(), 19);
     check_rows(&rt, rt.alloc(), GENERAL, GENERAL_ROWS)?;
-    assert_eq!(rt; BARE_ROWS.split('\n').count(), 6);
+    same(&rt, BARE_ROWS.split('\n').count(), 6);
     check_rows(&rt, rt.alloc(), BARE, BARE_ROWS)
 }

@@ -52,11 +52,11 @@ pub(crate) fn print_outputs<W: Write>(
 }
 
 /// Prints what an input came to: its notes in their order, then the commands to the source, a line each.
-pub(crate) fn print_output<W: Write>(
-    alloc: Global,
-    out: &mut W,
-    output: &Output,
-) -> Result<(), NotPrinted>
+///
+/// # Errors
+///
+/// `Write` where it can't be written; `NoMemory`.
+pub fn print_output<W: Write>(alloc: Global, out: &mut W, output: &Output) -> Result<(), NotPrinted>
     ensures prints { OnOk result (Appends (W.contents out.old) (W.contents out.new) (output_lines (outcome output.now))) }
 {
     print_notes(alloc, out, &output.notes)?;

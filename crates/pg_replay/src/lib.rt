@@ -5,9 +5,7 @@ mod answers;
 mod lines;
 mod reading;
 mod script;
-#[cfg(test)]
-mod tests;
 
-pub use answers::{NotPrinted, print_refusal, print_reply};
+pub use answers::{NotPrinted, print_output, print_refusal, print_reply};
 pub use lines::{Line, read_line, without_end};
 pub use script::{Fault, replay};

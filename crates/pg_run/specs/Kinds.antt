@@ -1,6 +1,6 @@
 -- Which seat a worker gives back at its end.
 use Rattle.std.specs.Prelude.{◌≡◌, Option, Some, None, is_some, true}
-use Rattle.pg_run.specs.Joining.{Place}
+use Rattle.pg_console.specs.Joining.{Place}
 use Rattle.pg_run.specs.declared.workers.Worker.{Worker}
 use Rattle.pg_run.specs.declared.workers.Worker.TheVariants as worker
 

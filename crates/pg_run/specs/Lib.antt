@@ -1,4 +1,3 @@
 -- Definitions that the contracts of the running program cite.
 pub mod Limits
-pub mod Joining
 pub mod Kinds

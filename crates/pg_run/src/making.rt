@@ -2,12 +2,12 @@
 
 ghost use Rattle.std.specs.Prelude.{◌≡◌, IfOk};
 
-use crate::clerk::Counter;
 use crate::opening::{Openings, opened};
-use crate::operator::{Desk, Operator, Told};
+use crate::operator::{Desk, Operator};
 use crate::reloading::InForce;
 use crate::serving::{Plan, Waits};
 use crate::workers::{Worker, share_ports, share_sources, told_as};
+use pg_console::{Counter, Told};
 use pg_operator::Setup;
 use pg_serve::{Named, Seat, Shared, SharedGate};
 use pg_service::{

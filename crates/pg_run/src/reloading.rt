@@ -1,11 +1,11 @@
 //! The line `reload`: the setup file is read again, and what changed is done.
 
-use crate::operator::{Console, Told};
-use crate::running::{dial_by, rules_of};
+use crate::running::{dial_by, door_rules, rules_of};
 use crate::workers::told_as;
 use log::LevelFilter;
 use mio::net::TcpListener as PortListener;
 use pg_check::check_setup;
+use pg_console::{Console, Told};
 use pg_gateway::{Gate, Reply};
 use pg_operator::{LogLevel, Setup, SourceRules, read_setup};
 use pg_reload::{Call, Changes, Order, Port, Restart, changes_between};
@@ -106,8 +106,8 @@ impl<R: Net + Clock> InForce<'_, R> {
             orders,
             restarts,
         } = changes;
-        let told = console.told;
-        let mut report = Report::new(console.alloc);
+        let told = console.told();
+        let mut report = Report::new(console.alloc());
         for edit in edits {
             let asked = Asked::of(&edit);
             let reply = console.post_edit(rt, gate, edit);
@@ -224,7 +224,7 @@ impl<R: Net + Clock> InForce<'_, R> {
                 let Port { port, rules } = port;
                 let address = SocketAddr::from((rules.address, port));
                 match self.bind(address) {
-                    Ok(listener) => told.open(rt, rules, listener),
+                    Ok(listener) => told.open(rt, rules.sub, door_rules(rules), listener),
                     Err(error) => {
                         let journal = told.neighbours.journal;
                         report.not_bound(rt, journal, rules.sub, address, error);
@@ -263,9 +263,9 @@ impl<R: Net + Clock> InForce<'_, R> {
         console: &mut Console<'_, W>,
         gate: &mut Watched<G>,
     ) -> Result<(), Fault> {
-        let alloc = console.alloc;
-        let journal = console.told.neighbours.journal;
-        let Some(new) = self.read(alloc, &mut console.out)? else {
+        let alloc = console.alloc();
+        let journal = console.told().neighbours.journal;
+        let Some(new) = self.read(alloc, console.out_mut())? else {
             journal.tell(
                 rt,
                 Entry::new(Notice::NotReloaded, Whom::Nobody, Detail::Nothing),
@@ -284,14 +284,14 @@ impl<R: Net + Clock> InForce<'_, R> {
                     rt,
                     Entry::new(Notice::Reloaded, Whom::Nobody, Detail::Nothing),
                 );
-                report.print(&mut console.out)
+                report.print(console.out_mut())
             }
             Err(refusal) => {
                 journal.tell(
                     rt,
                     Entry::new(Notice::NotReloaded, Whom::Nobody, Detail::Nothing),
                 );
-                print_refusal(&mut console.out, "refused", refusal)?;
+                print_refusal(console.out_mut(), "refused", refusal)?;
                 Ok(())
             }
         }

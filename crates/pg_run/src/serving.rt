@@ -1,13 +1,13 @@
 //! The service, from its first worker to its last.
 
 ghost use Rattle.std.specs.Prelude.{◌≡◌, IfOk};
-ghost use Rattle.pg_run.specs.Joining.{Begins};
+ghost use Rattle.pg_console.specs.Joining.{Begins};
 
 use crate::making::{Makings, Place, make_workers};
 use crate::opening::Openings;
-use crate::operator::{Desk, Told};
-use crate::sharing::serve_by;
+use crate::operator::Desk;
 use crate::workers::{Worker, mailbox, mailboxes};
+use pg_console::{Told, serve_by};
 use pg_serve::{Named, Seat, Shared};
 use pg_service::{
     Board, Dial, Journal, Lookup, Mailbox, Neighbours, Port, PortOrder, Registered, SourceOrder,

@@ -1,9 +1,9 @@
 //! Lines about the sources and ports of the running service.
 
-use crate::operator::{Console, Steering};
 use crate::reloading::{InForce, write_all};
-use crate::running::{dial_to, door_of};
+use crate::running::{dial_to, door_of, door_rules};
 use crate::workers::told_as;
+use pg_console::{Console, Steering};
 use pg_gateway::{Event, Gate, Reply};
 use pg_limits::Allow;
 use pg_operator::{PortRules, Steer};
@@ -33,10 +33,9 @@ impl<R: Net + Clock> InForce<'_, R> {
             return Err(Refusal::NoSuchPmu);
         }
         let address = Address::Known(SocketAddr::V4(address));
-        console.told.undial(rt, source);
-        console
-            .told
-            .dial(rt, dial_to(source, address, &self.rules_of(rt, source)));
+        let told = console.told();
+        told.undial(rt, source);
+        told.dial(rt, dial_to(source, address, &self.rules_of(rt, source)));
         Ok(())
     }
 
@@ -87,20 +86,24 @@ impl<R: Net + Clock> InForce<'_, R> {
         if let Reply::Refused(refusal) = gate.post(Event::Stats(sub)) {
             return Ok(Err(refusal));
         }
-        let rules = match self.port_rules(rt, console.alloc, sub, host) {
+        let rules = match self.port_rules(rt, console.alloc(), sub, host) {
             Ok(rules) => rules,
             Err(refusal) => return Ok(Err(refusal)),
         };
         let address = SocketAddr::from((host, port));
         match self.bind(address) {
             Ok(listener) => {
-                console.told.close(rt, sub);
-                console.told.open(rt, rules, listener);
+                let told = console.told();
+                told.close(rt, sub);
+                told.open(rt, sub, door_rules(rules), listener);
                 Ok(Ok(()))
             }
             Err(error) => {
                 let (number, why) = (sub.get(), system_words(error.kind()));
-                write_all(writeln!(console.out, "subscriber {number}: port {address}: {why}"))?;
+                write_all(writeln!(
+                    console.out_mut(),
+                    "subscriber {number}: port {address}: {why}"
+                ))?;
                 Ok(Err(told_as(error)))
             }
         }
@@ -127,17 +130,17 @@ impl<R: Net + Clock> Steering for InForce<'_, R> {
         let mut done = Ok(());
         match steer {
             Steer::Dial(source, address) => done = self.dial(rt, console, source, address),
-            Steer::Undial(source) => console.told.undial(rt, source),
+            Steer::Undial(source) => console.told().undial(rt, source),
             Steer::Listen(sub, port, host) => {
                 done = self.listen(rt, console, gate, sub, port, host)?;
             }
-            Steer::Unlisten(sub) => console.told.close(rt, sub),
-            Steer::Disconnect(sub) => console.told.hang_up(rt, sub),
+            Steer::Unlisten(sub) => console.told().close(rt, sub),
+            Steer::Disconnect(sub) => console.told().hang_up(rt, sub),
         }
         match done {
-            Ok(()) => write_all(writeln!(console.out, "done 0 0")),
+            Ok(()) => write_all(writeln!(console.out_mut(), "done 0 0")),
             Err(refusal) => {
-                print_refusal(&mut console.out, "refused", refusal)?;
+                print_refusal(console.out_mut(), "refused", refusal)?;
                 Ok(())
             }
         }

@@ -4,10 +4,9 @@ ghost use Rattle.std.specs.Prelude.{◌≡◌, ◌≢◌};
 ghost use Rattle.std.specs.IoError.{error_kind};
 ghost use Rattle.pg_run.specs.Kinds.{Gives};
 
-use crate::clerk::Counter;
 use crate::operator::Operator;
 use crate::reloading::InForce;
-use crate::sharing::Seated;
+use pg_console::{Counter, Seated};
 use pg_serve::{Named, Seat, Work};
 use pg_service::{
     Dial, Finder, Logger, Mailbox, Port, PortWorker, Rota, SourceWorker, Ticker, Waiting,

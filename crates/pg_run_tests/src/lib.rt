@@ -2,14 +2,12 @@
 #![tactic(auto)]
 
 #[cfg(test)]
-mod chain;
+mod asserts;
 #[cfg(test)]
-mod lines;
+mod chain;
 #[cfg(test)]
 mod peers;
 #[cfg(test)]
 mod reloads;
-#[cfg(test)]
-mod sharing;
 #[cfg(test)]
 mod windows;

@@ -1,6 +1,7 @@
 //! The line `reload`, and those about sources and ports, on a running service over loopback: what is asked for is done, and a
 //! neighbour gets the bytes that he gets from a service beside, which runs on by the first setup.
 
+use crate::asserts::same;
 use crate::peers::{
     PATIENCE, command, config, data, ends, free_port, get, listen, pmu, second, stream, subscriber,
 };
@@ -167,7 +168,7 @@ impl<P: Net<Listener = TcpListener, Stream = TcpStream> + Abort> Peers<'_, P> {
     /// Reloads this text, which is answered so, while subscriber 1 gets what it gets without.
     fn change(&mut self, neighbour: &Neighbour, text: &str, answer: &str) -> io::Result<()> {
         let told = self.reload(text)?;
-        assert_eq!(self.rt; str::from_utf8(&told).unwrap_or("no text"), answer);
+        same(self.rt, str::from_utf8(&told).unwrap_or("no text"), answer);
         let is_same = self.is_same(neighbour)?;
         assert!(self.rt; is_same);
         Ok(())
@@ -190,22 +191,17 @@ impl<P: Net<Listener = TcpListener, Stream = TcpStream> + Abort> Peers<'_, P> {
         let grants = subscriber(alloc, 20, places.twenty, 16, "9, 7")?;
         let (old, seven) = (stream(alloc, 2000, 30, 9)?, stream(alloc, 2001, 30, 7)?);
         let others = format!(in alloc; "{grants}{old}{seven}")?;
-        let text = setup(alloc, places, places.nine, others.as_str())?;
-        self.change(neighbour, text.as_str(), "reloaded: 2 edits, 0 orders\n")?;
+        self.change_to(neighbour, others.as_str(), "reloaded: 2 edits, 0 orders\n")?;
         let changed = stream(alloc, 2000, 15, 9)?;
         let others = format!(in alloc; "{grants}{seven}{changed}")?;
-        let text = setup(alloc, places, places.nine, others.as_str())?;
-        self.change(neighbour, text.as_str(), "reloaded: 2 edits, 0 orders\n")?;
+        self.change_to(neighbour, others.as_str(), "reloaded: 2 edits, 0 orders\n")?;
         let grants = subscriber(alloc, 20, places.twenty, 16, "9")?;
         let others = format!(in alloc; "{grants}{changed}")?;
-        let text = setup(alloc, places, places.nine, others.as_str())?;
-        self.change(neighbour, text.as_str(), "reloaded: 2 edits, 0 orders\n")?;
+        self.change_to(neighbour, others.as_str(), "reloaded: 2 edits, 0 orders\n")?;
         let grants = subscriber(alloc, 20, places.twenty, 32, "9")?;
         let others = format!(in alloc; "{grants}{changed}")?;
-        let text = setup(alloc, places, places.nine, others.as_str())?;
-        self.change(neighbour, text.as_str(), "reloaded: 4 edits, 0 orders\n")?;
-        let is_over = is_hung_up(&sub)?;
-        assert!(self.rt; is_over);
+        self.change_to(neighbour, others.as_str(), "reloaded: 4 edits, 0 orders\n")?;
+        self.is_over(&sub)?;
         Ok(())
     }
 
@@ -218,22 +214,18 @@ impl<P: Net<Listener = TcpListener, Stream = TcpStream> + Abort> Peers<'_, P> {
         let own = stream(alloc, 300, 30, 8)?;
         let eight = pmu(alloc, 8, places.eight)?;
         let others = format!(in alloc; "{grants}{changed}{eight}{third}{own}")?;
-        let text = setup(alloc, places, places.nine, others.as_str())?;
-        self.change(neighbour, text.as_str(), "reloaded: 4 edits, 2 orders\n")?;
+        self.change_to(neighbour, others.as_str(), "reloaded: 4 edits, 2 orders\n")?;
         let source = self.take_call(&self.eight, 8)?;
         let sub = self.subscribe(places.third, 300)?;
         self.hand_over(&source, 8, &sub)?;
         // Source 8 is called no longer, though its PMU stays.
         let others = format!(in alloc; "{grants}{changed}[[pmu]]\nid = 8\n{third}{own}")?;
-        let text = setup(alloc, places, places.nine, others.as_str())?;
-        self.change(neighbour, text.as_str(), "reloaded: 0 edits, 1 orders\n")?;
-        let is_over = is_hung_up(&source)?;
-        assert!(self.rt; is_over);
+        self.change_to(neighbour, others.as_str(), "reloaded: 0 edits, 1 orders\n")?;
+        self.is_over(&source)?;
         self.move_port(neighbour, others.as_str())?;
         let grants = subscriber(alloc, 20, places.later, 32, "9")?;
         let others = format!(in alloc; "{grants}{changed}")?;
-        let text = setup(alloc, places, places.nine, others.as_str())?;
-        self.change(neighbour, text.as_str(), "reloaded: 2 edits, 1 orders\n")?;
+        self.change_to(neighbour, others.as_str(), "reloaded: 2 edits, 1 orders\n")?;
         let is_over = is_hung_up(&sub)?;
         assert!(self.rt; is_over && self.subscribe(places.third, 300).is_err());
         // What was not named stands: subscriber 20 at its new port.
@@ -250,8 +242,7 @@ impl<P: Net<Listener = TcpListener, Stream = TcpStream> + Abort> Peers<'_, P> {
         let new = subscriber(alloc, 20, places.later, 32, "9")?;
         let rest = others.strip_prefix(old.as_str()).unwrap_or(others);
         let others = format!(in alloc; "{new}{rest}")?;
-        let text = setup(alloc, places, places.nine, others.as_str())?;
-        self.change(neighbour, text.as_str(), "reloaded: 0 edits, 2 orders\n")?;
+        self.change_to(neighbour, others.as_str(), "reloaded: 0 edits, 2 orders\n")?;
         assert!(self.rt; self.subscribe(places.twenty, 2000).is_err());
         drop(self.subscribe(places.later, 2000)?);
         Ok(())
@@ -263,15 +254,13 @@ impl<P: Net<Listener = TcpListener, Stream = TcpStream> + Abort> Peers<'_, P> {
         self.steer(neighbour, "revoke 20 9", "done 0 0\n")?;
         let grants = subscriber(alloc, 20, places.later, 32, "7")?;
         let others = format!(in alloc; "{grants}{table}header = \"west\"\n")?;
-        let text = setup(alloc, places, places.nine, others.as_str())?;
         let told =
             "subscriber 20: the grant of PMU 9/9 can't be revoked: it has no such grant (35 NotGranted)\n\
             refused 35 NotGranted\nreloaded: 3 edits, 0 orders\n";
-        self.change(neighbour, text.as_str(), told)?;
+        self.change_to(neighbour, others.as_str(), told)?;
         let grants = subscriber(alloc, 20, places.later, 32, "9")?;
         let others = format!(in alloc; "{grants}{table}")?;
-        let text = setup(alloc, places, places.nine, others.as_str())?;
-        self.change(neighbour, text.as_str(), "reloaded: 4 edits, 0 orders\n")
+        self.change_to(neighbour, others.as_str(), "reloaded: 4 edits, 0 orders\n")
     }
 
     /// The rules of subscriber 20's port change, so that it is closed and opened; source 9 gets a PMU and other rules, so that it is
@@ -281,35 +270,28 @@ impl<P: Net<Listener = TcpListener, Stream = TcpStream> + Abort> Peers<'_, P> {
         let sub = self.subscribe(places.later, 2000)?;
         let plain = subscriber(alloc, 20, places.later, 32, "9")?;
         let others = format!(in alloc; "{plain}takeover = true\n{table}")?;
-        let text = setup(alloc, places, places.nine, others.as_str())?;
-        self.change(neighbour, text.as_str(), "reloaded: 0 edits, 2 orders\n")?;
-        let is_over = is_hung_up(&sub)?;
-        assert!(self.rt; is_over);
+        self.change_to(neighbour, others.as_str(), "reloaded: 0 edits, 2 orders\n")?;
+        self.is_over(&sub)?;
         let first = self.subscribe(places.later, 2000)?;
         let second = self.subscribe(places.later, 2000)?;
-        let is_over = is_hung_up(&first)?;
-        assert!(self.rt; is_over);
+        self.is_over(&first)?;
         let more = "[[pmu]]\nid = 10\nsource = 9\nsilence = 5\n";
         let others = format!(in alloc; "{others}{more}")?;
-        let text = setup(alloc, places, places.nine, others.as_str())?;
-        self.change(neighbour, text.as_str(), "reloaded: 1 edits, 2 orders\n")?;
+        self.change_to(neighbour, others.as_str(), "reloaded: 1 edits, 2 orders\n")?;
         let nine = self.take_call(&self.nine, 9)?;
         self.hand_over(&nine, 9, &second)?;
         let others = format!(in alloc; "{plain}{table}")?;
-        let text = setup(alloc, places, places.nine, others.as_str())?;
-        self.change(neighbour, text.as_str(), "reloaded: 1 edits, 4 orders\n")
+        self.change_to(neighbour, others.as_str(), "reloaded: 1 edits, 4 orders\n")
     }
 
     /// Subscriber 20 is dropped by a line: his connection ends, and his port refuses until he is added again.
     fn drop_subscriber(&mut self, neighbour: &Neighbour) -> io::Result<()> {
         let sub = self.subscribe(self.places.later, 2000)?;
         self.steer(neighbour, "dropsub 20", "done 0 0\n")?;
-        let is_over = is_hung_up(&sub)?;
-        assert!(self.rt; is_over);
+        self.is_over(&sub)?;
         let here = SocketAddr::from((Ipv4Addr::LOCALHOST, self.places.later));
         let refused = TcpStream::connect(self.rt, here)?;
-        let is_over = is_hung_up(&refused)?;
-        assert!(self.rt; is_over);
+        self.is_over(&refused)?;
         self.steer(neighbour, "addsub 20 32", "done 0 0\n")?;
         self.steer(neighbour, "grant 20 9", "done 0 0\n")?;
         let define = "define 20 2000 15 1000000 1 4 none 9";
@@ -347,6 +329,19 @@ impl<P: Net<Listener = TcpListener, Stream = TcpStream> + Abort> Peers<'_, P> {
         self.change(neighbour, slower.as_str(), told)
     }
 
+    /// What the file names besides PMUs 7 and 9 and subscriber 1 becomes this, which is told so.
+    fn change_to(&mut self, neighbour: &Neighbour, others: &str, told: &str) -> io::Result<()> {
+        let text = setup(self.alloc, self.places, self.places.nine, others)?;
+        self.change(neighbour, text.as_str(), told)
+    }
+
+    /// The peer hangs up.
+    fn is_over(&self, stream: &TcpStream) -> io::Result<()> {
+        let is_over = is_hung_up(stream)?;
+        assert!(self.rt; is_over);
+        Ok(())
+    }
+
     /// Asks for something about a source or a port, which is answered so, while subscriber 1 gets what it gets without.
     fn steer(&mut self, neighbour: &Neighbour, line: &str, answer: &str) -> io::Result<()> {
         let asked = format!(in self.alloc; "{line}\n")?;
@@ -355,7 +350,7 @@ impl<P: Net<Listener = TcpListener, Stream = TcpStream> + Abort> Peers<'_, P> {
         for _ in answer.lines() {
             told.extend_from_slice(&self.line()?)?;
         }
-        assert_eq!(self.rt; str::from_utf8(&told).unwrap_or("no text"), answer);
+        same(self.rt, str::from_utf8(&told).unwrap_or("no text"), answer);
         let is_same = self.is_same(neighbour)?;
         assert!(self.rt; is_same);
         Ok(())
@@ -384,8 +379,7 @@ impl<P: Net<Listener = TcpListener, Stream = TcpStream> + Abort> Peers<'_, P> {
         let (alloc, places) = (self.alloc, self.places);
         let sub = self.subscribe(places.later, 2000)?;
         self.steer(neighbour, "disconnect 20", "done 0 0\n")?;
-        let is_over = is_hung_up(&sub)?;
-        assert!(self.rt; is_over);
+        self.is_over(&sub)?;
         let line = format!(in alloc; "listen 20 {} 127.0.0.1", places.twenty)?;
         self.steer(neighbour, line.as_str(), "done 0 0\n")?;
         assert!(self.rt; self.subscribe(places.later, 2000).is_err());
@@ -397,8 +391,7 @@ impl<P: Net<Listener = TcpListener, Stream = TcpStream> + Abort> Peers<'_, P> {
         self.steer(neighbour, line.as_str(), "done 0 0\n")?;
         let nine = self.take_call(&self.nine, 9)?;
         self.steer(neighbour, "undial 9", "done 0 0\n")?;
-        let is_over = is_hung_up(&nine)?;
-        assert!(self.rt; is_over);
+        self.is_over(&nine)?;
         self.be_refused(neighbour)
     }
 

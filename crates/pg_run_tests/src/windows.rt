@@ -1,6 +1,7 @@
 //! The control socket and the page of a running service over loopback: what they tell is the same and what the service did, and
 //! whoever misuses them costs a subscriber no frame.
 
+use crate::asserts::same;
 use crate::peers::{
     PATIENCE, command, config, data, ends, free_port, get, listen, pmu, second, stream, subscriber,
 };
@@ -84,7 +85,7 @@ impl<P: Net<Listener = TcpListener, Stream = TcpStream> + Abort + Clock + Wait> 
         let before = Instant::now(self.rt)?;
         (&*source).write_all(&frame)?;
         let got = get(self.alloc, sub, 26)?;
-        assert_eq!(self.rt; got.get(14..24), frame.get(14..24));
+        same(self.rt, got.get(14..24), frame.get(14..24));
         Ok(Instant::now(self.rt)?.saturating_duration_since(before))
     }
 

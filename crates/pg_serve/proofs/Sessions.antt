@@ -1,5 +1,5 @@
 -- Runs of a session's loop, put together.
-use Rattle.std.proofs.Common.{◌≡◌, ◌≢◌, ◌∙◌, sym, subst, ap, ap₂, refl, arith, ℕ, zero, suc, ◌<◌, ◌≤◌, Bool, ◌||◌, length, List, [], ◌∷◌, ◌++◌, map, append-nil, append_assoc, Option, Some, None, true, false, take, inl, inr, Result, Ok, Err}
+use Rattle.std.proofs.Common.{◌≡◌, ◌≢◌, ◌∙◌, sym, subst, ap, ap₂, refl, arith, ℕ, zero, suc, ◌<◌, ◌≤◌, Bool, ◌||◌, length, List, [], ◌∷◌, ◌++◌, map, append-nil, append_assoc, Option, Some, None, true, false, take, inl, inr, Result, Ok, Err, ◌==◌}
 use Rattle.std.specs.Prelude.{◌⊎◌, MatchOption, IfSome}
 use Rattle.std.specs.List.{flat_map}
 use Rattle.std.specs.Io.KnownBytes.{Consumes}
@@ -23,9 +23,10 @@ use Rattle.pg_gateway.specs.Occurrences.{Answer, tells}
 use Rattle.pg_gateway.specs.Posting.{Posted, Notes}
 use Rattle.pg_ingest.specs.declared.run.End.{End}
 use Rattle.pg_ingest.specs.declared.run.End.TheVariants.{Closed, Quiet, Stalled, Fault}
-use Rattle.pg_ingest.proofs.Known.{notes_nil, notes_more, appends_nil, appends_more, consumes_nil, consumes_more}
+use Rattle.pg_ingest.proofs.Known.{notes_nil, notes_more, appends_nil, appends_more, consumes_nil, consumes_more, consumes_zero}
 use Rattle.pg_ingest.specs.Ends.{is_cut}
-use Rattle.pg_serve.specs.Turned.{HasGivenAll, Writes, IsReadEnd, DrainsLast, due_after, Turned, EndsSo, TurnedTo, is_closed, is_quiet}
+use Rattle.pg_ingest.specs.Transfers.{EndsRead, IsStuck}
+use Rattle.pg_serve.specs.Turned.{HasGivenAll, Writes, DrainsLast, due_after, Turned, EndsSo, TurnedTo, has_failed, is_closed, is_quiet}
 use Rattle.pg_serve.specs.Serving.{Post, passes, drains, hangs_up, Call, posted_by, command_in, passed_by, handed_by, bytes_answered, Doing, reads, waits, posts, read_by, call_by, due_read, due_by, InOrder, has_wait, WaitsAt, Follows, AreWritten, RanFrom, Ran, HasNoHangup, IsLast, EndsWith, Served, BreaksBy, EndsBy}
 
 abbrev Bytes : Type 0
@@ -490,6 +491,45 @@ turned_drained due waited v v' r w p p' a is all whole empty left posted same st
 }
 
 -- when a drain is due
+-- A read ends a call only where the reader has ended or would block.
+abbrev pub IsReadEnd : Option End → Type 0
+IsReadEnd None = Unit {0}
+IsReadEnd (Some Closed) = Unit {0}
+IsReadEnd (Some Quiet) = Unit {0}
+IsReadEnd (Some Stalled) = ⊥
+IsReadEnd (Some (Fault n)) = ⊥
+
+pub read_end : (end : Option End) (size : ℕ) (r : Bytes) → IfSome end (λ e. EndsRead e size r) → has_failed end ≡ false → IsReadEnd end
+read_end None size r is works = tt
+read_end (Some Closed) size r is works = tt
+read_end (Some Quiet) size r is works = tt
+read_end (Some Stalled) size r is works = absurd is
+read_end (Some (Fault n)) size r is works = absurd (let x : true ≡ false = works in cc)
+
+-- a read that failed gave nothing
+pub failed_gives_nothing : (end : Option End) (size : ℕ) (buffer : List ℕ) (r r' : Bytes) → IfSome end (λ e. EndsRead e size r') → has_failed end ≡ true
+    → Consumes r r' (take size buffer) → Consumes r r' []
+failed_gives_nothing None size buffer r r' is failed read = absurd (let x : false ≡ true = failed in cc)
+failed_gives_nothing (Some Closed) size buffer r r' is failed read = absurd (let x : false ≡ true = failed in cc)
+failed_gives_nothing (Some Quiet) size buffer r r' is failed read = absurd (let x : false ≡ true = failed in cc)
+failed_gives_nothing (Some Stalled) size buffer r r' is failed read = absurd is
+failed_gives_nothing (Some (Fault n)) size buffer r r' is failed read = consumes_zero r r' size buffer is.1 read
+
+-- a write that was cut short
+pub stuck_is_cut : (end : Option End) (left : List ℕ) → IfSome end (λ e. IsStuck e left) → IfSome end (λ e. is_cut e ≡ true)
+stuck_is_cut None left is = tt
+stuck_is_cut (Some Closed) left is = absurd is
+stuck_is_cut (Some Quiet) left is = absurd is
+stuck_is_cut (Some Stalled) left is = refl
+stuck_is_cut (Some (Fault n)) left is = ap (λ m. m == 40) is.0
+
+pub stuck_ends : (end : Option End) (v : Hearing) → IfSome end (λ e. IsStuck e v.left) → IfSome end (λ e. EndsBy e v)
+stuck_ends None v is = tt
+stuck_ends (Some Closed) v is = absurd is
+stuck_ends (Some Quiet) v is = absurd is
+stuck_ends (Some Stalled) v is = is
+stuck_ends (Some (Fault n)) v is = inr (inl is)
+
 pub drain_is_due : (end : Option End) (size : ℕ) (buffer : List ℕ) → IsReadEnd end → size ≤ length buffer → (end ≡ None → 0 < size) → is_closed end ≡ false
     → (due_read false (take size buffer) || is_quiet end) ≡ true
 drain_is_due None size [] kind within came going = absurd (omega (arith, came refl, within))

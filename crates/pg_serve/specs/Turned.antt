@@ -17,14 +17,6 @@ HasGivenAll v = (stream : List ℕ) (given : List Item) → ShowsHearing v strea
 abbrev pub Writes : List ℕ → List ℕ → Option (List ℕ) → Option (List ℕ) → Type 0
 Writes left left' w w' = (out : List ℕ) × Appends w w' out × (out ++ left' ≡ left)
 
--- A read ends a call only where the reader has ended or would block.
-abbrev pub IsReadEnd : Option End → Type 0
-IsReadEnd None = Unit {0}
-IsReadEnd (Some Closed) = Unit {0}
-IsReadEnd (Some Quiet) = Unit {0}
-IsReadEnd (Some Stalled) = ⊥
-IsReadEnd (Some (Fault n)) = ⊥
-
 -- Where turns end as Quiet, their last post is a drain.
 abbrev pub DrainsLast : Option End → List Call → Type 0
 DrainsLast None calls = Unit {0}
@@ -74,6 +66,14 @@ is_closed (Some Closed) = true
 is_closed (Some Quiet) = false
 is_closed (Some Stalled) = false
 is_closed (Some (Fault n)) = false
+
+-- a read failed
+abbrev pub has_failed : Option End → Bool
+has_failed None = false
+has_failed (Some Closed) = false
+has_failed (Some Quiet) = false
+has_failed (Some Stalled) = false
+has_failed (Some (Fault n)) = true
 
 -- the reader would block
 abbrev pub is_quiet : Option End → Bool

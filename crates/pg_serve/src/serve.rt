@@ -1,18 +1,18 @@
 //! The loop of a session over any reader, writer and gate.
 
 ghost use Rattle.std.specs.Prelude.{◌≡◌, ◌<◌, ◌≤◌, ◌||◌, ℕ, Bool, List, [], length, take, Option, Some, None, IfSome, IfNone, true, false};
-ghost use Rattle.std.specs.Io.KnownBytes.{Consumes, IsAtEnd};
+ghost use Rattle.std.specs.Io.KnownBytes.{IsAtEnd};
 ghost use Rattle.pg_session.specs.Ready.{handed_len};
 ghost use Rattle.pg_ingest.specs.Ends.{is_cut};
 ghost use Rattle.pg_serve.specs.Serving.{Served, BreaksBy, EndsBy};
-ghost use Rattle.pg_serve.specs.Turned.{HasGivenAll, is_closed, Turned, TurnedTo, Writes, IsReadEnd, HangsUp};
+ghost use Rattle.pg_serve.specs.Turned.{HasGivenAll, has_failed, is_closed, Turned, TurnedTo, Writes, HangsUp};
 
 use pg_gateway::{Event, Gate, Reply};
-use pg_ingest::End;
+use pg_ingest::{End, read_piece, write_bytes};
 use pg_ring::Drained;
 use pg_session::{Next, Session};
 use pg_wire::Refusal;
-use std::io::{ErrorKind, Read, Write};
+use std::io::{Read, Write};
 
 /// Writes what is left of what a drain handed out.
 fn push_left<W: Write>(session: &mut Session, writer: &mut W) -> Option<End>
@@ -22,17 +22,9 @@ fn push_left<W: Write>(session: &mut Session, writer: &mut W) -> Option<End>
     ensures cut { IfSome result (λ end. is_cut end ≡ true) }
     ensures ends { IfSome result (λ end. EndsBy end session.new) }
 {
-    'rest: while !session.left().is_empty() {
-        match writer.write(session.left()) {
-            Ok(0) => return Some(End::Fault(40)),
-            Ok(size) => session.send(size),
-            Err(error) => match error.kind() {
-                ErrorKind::WouldBlock => return Some(End::Stalled),
-                _ => return Some(End::Fault(40)),
-            },
-        }
-    }
-    None
+    let (size, cut) = write_bytes(writer, session.left());
+    session.send(size);
+    cut
 }
 
 /// Posts the commands of a subscriber's frames that are whole, and tells whether its bytes broke behind them.
@@ -83,22 +75,15 @@ fn post_drain<G: Gate>(session: &mut Session, gate: &mut G)
     session.put_drained(buf, handed_size(out));
 }
 
-/// Reads once: how many bytes came, and how the call ends where none can come. None where the read failed.
-fn read_piece<R: Read>(reader: &mut R, buffer: &mut [u8]) -> Option<(usize, Option<End>)>
-    requires room { 0 < length buffer.old }
-    ensures read { IfSome result (λ came. (came.0 ≤ length buffer.new)
-        × Consumes (R.remaining reader.old) (R.remaining reader.new) (take came.0 buffer.new)) }
-    ensures kind { IfSome result (λ came. IsReadEnd came.1) }
-    ensures some { IfSome result (λ came. came.1 ≡ None → 0 < came.0) }
-    ensures ended { IfSome result (λ came. came.1 ≡ Some End.Closed → IsAtEnd (R.remaining reader.new)) }
-    ensures failed { IfNone result (Consumes (R.remaining reader.old) (R.remaining reader.new) []) }
+/// Whether a read failed.
+fn has_failed(end: Option<End>) -> bool
+    ensures { result ≡ has_failed end }
 {
-    match reader.read(buffer) {
-        Ok(0) => Some((0, Some(End::Closed))),
-        Ok(size) => Some((size, None)),
-        Err(error) => match error.kind() {
-            ErrorKind::WouldBlock => Some((0, Some(End::Quiet))),
-            _ => None,
+    match end {
+        None => false,
+        Some(end) => match end {
+            End::Fault(_) => true,
+            End::Closed | End::Quiet | End::Stalled => false,
         },
     }
 }
@@ -143,9 +128,10 @@ fn turn<R: Read, W: Write, G: Gate>(
     let mut piece = [0u8; 4096];
     let most = session.room().min(4096);
     let buffer = &mut piece[..most];
-    let Some((size, end)) = read_piece(reader, buffer) else {
+    let (size, end) = read_piece(reader, buffer);
+    if has_failed(end) {
         return Some(End::Fault(39));
-    };
+    }
     session.feed(&buffer[..size]);
     if let Some(refusal) = post_commands(session, gate) {
         return Some(End::Fault(refusal.number()));

@@ -1,4 +1,5 @@
 //! Sessions over memory: their subscribers' bytes come from a slice, and a gateway or a seat at a shared one takes their posts.
+use crate::asserts::same;
 use pg_audit::Stats;
 use pg_command::Command;
 use pg_fakes::{FakeReader, FakeWriter};
@@ -141,7 +142,11 @@ pub(crate) fn hear(
 ) {
     let mut out = writer(alloc, 0, ErrorKind::Other);
     let mut input = reader(bytes, 4096, 2, ErrorKind::WouldBlock);
-    assert_eq!(rt; run_link(link, &mut input, &mut out, gate, 10), End::Quiet);
+    same(
+        rt,
+        run_link(link, &mut input, &mut out, gate, 10),
+        End::Quiet,
+    );
 }
 
 fn session(rt: &impl Abort, alloc: Global) -> Session {
@@ -164,13 +169,14 @@ fn stored_run_at_a_seat(rt: HostRuntime) {
         (&[], 0, End::Closed),
     ] {
         let mut input = reader(input, 4096, blocks_at, ErrorKind::WouldBlock);
-        assert_eq!(&rt;
+        same(
+            &rt,
             serve_session(&mut session, &mut input, &mut out, &mut gate, 10),
-            end
+            end,
         );
         hear(&rt, alloc, &mut gate, &mut link, &DATA_7);
     }
-    assert!(&rt; out.taken.as_slice() == HANDED.as_slice());
+    same(&rt, out.taken.as_slice(), HANDED.as_slice());
     // It hung up, and its seat goes on at the gateway.
     let gateway = gate.gateway();
     let connect = Event::Connect(subscriber(&rt, 1));
@@ -202,33 +208,36 @@ fn failing_streams(rt: HostRuntime) {
         let mut session = session(&rt, alloc);
         let mut input = reader(&COMMANDS, most, read_at, kind);
         let mut out = writer(alloc, write_at, kind);
-        assert_eq!(&rt;
+        same(
+            &rt,
             serve_session(&mut session, &mut input, &mut out, &mut gate, 10),
-            end
+            end,
         );
         assert!(&rt; HANDED.starts_with(&out.taken));
-        assert_eq!(&rt; out.taken.len(), written);
+        same(&rt, out.taken.len(), written);
         if end == End::Stalled {
-            assert_eq!(&rt;
+            same(
+                &rt,
                 serve_session(&mut session, &mut input, &mut out, &mut gate, 10),
-                End::Closed
+                End::Closed,
             );
             assert!(&rt; HANDED.starts_with(&out.taken));
-            assert_eq!(&rt; out.taken.len(), 74);
+            same(&rt, out.taken.len(), 74);
         }
         let stop = Command {
             stream: 101,
             word: 1,
         };
         let hung_up = end != End::Quiet;
-        assert_eq!(&rt;
+        same(
+            &rt,
             refused(&rt, &mut gate, Event::Command(subscriber(&rt, 1), stop)) == 33,
-            hung_up
+            hung_up,
         );
         if hung_up {
             done(&rt, &mut gate, Event::Connect(subscriber(&rt, 1)));
         }
-        assert_eq!(&rt; drained(&rt, alloc, &mut gate, 1), 0);
+        same(&rt, drained(&rt, alloc, &mut gate, 1), 0);
     }
 }
 
@@ -254,12 +263,13 @@ fn reads_of_a_call(rt: HostRuntime) {
         let mut session = session(&rt, alloc);
         let mut input = reader(&bytes, most, 0, ErrorKind::Other);
         let mut out = writer(alloc, 0, ErrorKind::Other);
-        assert_eq!(&rt;
+        same(
+            &rt,
             serve_session(&mut session, &mut input, &mut out, &mut gate, turns),
-            End::Fault(39)
+            End::Fault(39),
         );
-        assert_eq!(&rt; input.calls, reads);
-        assert_eq!(&rt; input.left.len(), left);
+        same(&rt, input.calls, reads);
+        same(&rt, input.left.len(), left);
     }
 }
 
@@ -297,11 +307,12 @@ fn no_drain_at_an_end(rt: HostRuntime) {
         let mut session = session(&rt, alloc);
         let mut input = reader(bytes, 4096, read_at, kind);
         let mut out = writer(alloc, 0, kind);
-        assert_eq!(&rt;
+        same(
+            &rt,
             serve_session(&mut session, &mut input, &mut out, &mut gate, 10),
-            end
+            end,
         );
-        assert_eq!(&rt; out.taken.len(), written);
+        same(&rt, out.taken.len(), written);
     }
 }
 
@@ -344,8 +355,8 @@ fn hostile_bytes(rt: HostRuntime) {
         *byte = first;
     }
     send(&rt, alloc, &mut gate, &long);
-    assert!(&rt; counters(&rt, &mut gate, 2) == before);
-    assert_eq!(&rt; drained(&rt, alloc, &mut gate, 2), 74);
+    same(&rt, counters(&rt, &mut gate, 2), before);
+    same(&rt, drained(&rt, alloc, &mut gate, 2), 74);
 }
 
 // The commands of a subscriber come, and its configuration is handed out.

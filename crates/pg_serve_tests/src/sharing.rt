@@ -1,6 +1,7 @@
 //! A gateway that two threads share.
 ghost use Rattle.std.specs.Prelude.{◌≡◌};
 
+use crate::asserts::same;
 use pg_command::Command;
 use pg_gateway::{Event, Gateway, Reply};
 use pg_ring::{RingBytes, RingSize};
@@ -66,7 +67,7 @@ fn refused<R: Wait + Abort>(
 {
     let (seat, reply) = gateway.post(rt, seat, event);
     match reply {
-        Reply::Refused(refusal) => assert!(rt; refusal.number() == expected),
+        Reply::Refused(refusal) => same(rt, refusal.number(), expected),
         _ => panic!(rt; "not refused"),
     }
     seat

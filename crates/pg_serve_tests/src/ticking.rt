@@ -2,6 +2,7 @@
 //! can't say that no other seat made one.
 ghost use Rattle.std.specs.Prelude.{◌≡◌};
 
+use crate::asserts::same;
 use crate::serving::{CONFIG_7, DATA_7, done, hear, subscriber};
 use pg_command::Command;
 use pg_gateway::{Event, Gate, Gateway, Reply};
@@ -123,7 +124,7 @@ fn tick<'a, R: Abort + Wait>(
     let (seat, reply) = gateway.post(rt, gate.into_seat(), Event::Tick(soc));
     assert!(rt; makes(&reply, frames));
     let mut gate = SeatGate::new(rt, gateway, seat);
-    assert!(rt; handed(rt, alloc, &mut gate).as_slice() == out);
+    same(rt, handed(rt, alloc, &mut gate).as_slice(), out);
     gate
 }
 
@@ -154,7 +155,11 @@ fn ticks_by<R: Abort + Wait, N: Named>(rt: &R, alloc: Global, gateway: &Shared, 
     for (soc, frames) in [(100, 0), (101, 0), (102, 1), (102, 0)] {
         assert!(rt; makes(&gate.post(Event::Tick(soc)), frames));
     }
-    assert!(rt; handed(rt, alloc, &mut gate).as_slice() == FRAME.as_slice());
+    same(
+        rt,
+        handed(rt, alloc, &mut gate).as_slice(),
+        FRAME.as_slice(),
+    );
 }
 
 #[test]

@@ -1,4 +1,5 @@
 //! Workers run at once, and each makes its turns.
+use crate::asserts::same;
 use pg_serve::{Work, run_workers};
 use std::rt::Clock;
 use std::sync::atomic::{AtomicBool, Ordering};
@@ -46,9 +47,9 @@ fn workers_run_at_once(rt: HostRuntime) {
         workers.push(worker).expect(&rt, "memory");
     }
     let back = run_workers(&rt, rt.alloc(), workers, 10, &stop).expect(&rt, "threads");
-    assert_eq!(rt; back.len(), 2);
+    same(&rt, back.len(), 2);
     for worker in &back {
-        assert_eq!(rt; worker.met, 3);
+        same(&rt, worker.met, 3);
     }
 }
 
@@ -90,9 +91,9 @@ fn workers_end(rt: HostRuntime) {
                 .expect(&rt, "memory");
         }
         let back = run_workers(&rt, rt.alloc(), workers, turns, &stop).expect(&rt, "threads");
-        assert_eq!(rt; back.len(), 2);
+        same(&rt, back.len(), 2);
         assert!(rt; back[0].name == 1 && back[1].name == 2);
-        assert!(rt; [back[0].made, back[1].made] == made);
+        same(&rt, [back[0].made, back[1].made], made);
     }
 }
 

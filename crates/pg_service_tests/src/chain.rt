@@ -1,4 +1,5 @@
 //! A gateway behind a gateway, over memory: the second is started before the first has a PMU, and gets its data all the same.
+use crate::asserts::same;
 use crate::frames::{CONFIG_7, DATA_7, after, done, gateway, source, subscriber};
 use pg_fakes::{FakeReader, FakeWriter};
 use pg_gateway::{Event, Gateway};
@@ -70,11 +71,11 @@ impl Chain {
 
     /// The second calls the first.
     fn connect(&mut self, rt: &(impl Abort + Eprint), now: Instant) {
-        assert_eq!(rt; self.line.due(now), Due::Call);
+        same(rt, self.line.due(now), Due::Call);
         self.line.called(now);
         let host = Ipv4Addr::new(127, 0, 0, 1);
         let knock = self.door.knock(self.alloc, &mut self.first, host, now);
-        assert_eq!(rt; knock, Knock::Welcome { replaced: false });
+        same(rt, knock, Knock::Welcome { replaced: false });
         self.line.made(now);
     }
 }
@@ -115,18 +116,18 @@ fn gateway_behind_a_gateway(rt: HostRuntime) {
     chain.connect(&rt, start);
     // The first has no configuration to tell yet: its CFG-2 is no event for the second.
     for _ in 0..4 {
-        assert_eq!(rt; chain.exchange(start), 0);
+        same(&rt, chain.exchange(start), 0);
     }
     // So the second calls again once it has waited as long as it may.
     let late = after(&rt, start, 10_000);
-    assert_eq!(rt; chain.line.due(late), Due::Silent);
+    same(&rt, chain.line.due(late), Due::Silent);
     chain.line.ended(late);
     let mut budget = Budget::new(Counted::new(fake(b"")), 1);
     let mut out = Counted::new(writer(alloc));
     let stay = chain
         .door
         .serve(&mut budget, &mut out, &mut chain.first, late);
-    assert_eq!(rt; stay, Stay::Gone(Gone::Ended(End::Closed)));
+    same(&rt, stay, Stay::Gone(Gone::Ended(End::Closed)));
     // By now the first's own source has announced.
     let mut link = Link::new(alloc, source(&rt, 7)).expect(&rt, "memory");
     let mut to = writer(alloc);
@@ -134,18 +135,18 @@ fn gateway_behind_a_gateway(rt: HostRuntime) {
     run_link(&mut link, &mut from, &mut to, &mut chain.first, 10);
     let again = after(&rt, late, 1_000);
     chain.connect(&rt, again);
-    assert_eq!(rt; chain.exchange(again), 0);
-    assert_eq!(rt; chain.exchange(again), 1);
+    same(&rt, chain.exchange(again), 0);
+    same(&rt, chain.exchange(again), 1);
     // It has asked for data; what comes from the first's source is handed on.
     let mut from = Budget::new(fake(DATA_7), 1);
     run_link(&mut link, &mut from, &mut to, &mut chain.first, 10);
-    assert_eq!(rt; chain.exchange(again), 0);
-    assert_eq!(rt; chain.exchange(again), 1);
+    same(&rt, chain.exchange(again), 0);
+    same(&rt, chain.exchange(again), 1);
     let due = chain.line.due(after(&rt, again, 9_999));
-    assert_eq!(rt; due, Due::Nothing);
+    same(&rt, due, Due::Nothing);
     let mut dry = Budget::new(fake(b""), 0);
     let (turn, _) = chain
         .line
         .serve(&mut dry, &mut to, &mut chain.second, again, 0);
-    assert_eq!(rt; turn, Turn::More);
+    same(&rt, turn, Turn::More);
 }

@@ -1,4 +1,5 @@
 //! Subscribers over memory: who may connect, who is served what, and who is hung up when.
+use crate::asserts::same;
 use crate::frames::{
     COMMANDS_101, CONFIG_7, DATA_7, HANDED_101, add_ring, after, data_of, done, gateway, source,
     subscriber,
@@ -69,7 +70,7 @@ fn enter(
     now: Instant,
 ) {
     let knock = door.knock(alloc, gate, host(), now);
-    assert_eq!(rt; knock, Knock::Welcome { replaced: false });
+    same(rt, knock, Knock::Welcome { replaced: false });
 }
 
 /// A host that `allow` does not name is turned away before anything is posted: the subscriber can connect after it.
@@ -92,12 +93,12 @@ fn foreign_host(rt: HostRuntime) {
         },
     );
     let foreign = door.knock(alloc, &mut gate, Ipv4Addr::new(10, 0, 0, 8), now);
-    assert_eq!(rt; foreign, Knock::Foreign);
+    same(&rt, foreign, Knock::Foreign);
     assert!(rt; door.guest().is_none());
     enter(&rt, alloc, &mut door, &mut gate, now);
     // Nor does it take the place of who has connected.
     let foreign = door.knock(alloc, &mut gate, Ipv4Addr::new(10, 0, 0, 8), now);
-    assert_eq!(rt; foreign, Knock::Foreign);
+    same(&rt, foreign, Knock::Foreign);
     assert!(rt; door.guest().is_some());
 }
 
@@ -115,10 +116,10 @@ fn one_connection(rt: HostRuntime) {
         refusal: Refusal::Busy,
         replaced: false,
     };
-    assert_eq!(rt; first.knock(alloc, &mut gate, host(), now), busy);
+    same(&rt, first.knock(alloc, &mut gate, host(), now), busy);
     assert!(rt; first.guest().is_some());
     let again = second.knock(alloc, &mut gate, host(), now);
-    assert_eq!(rt; again, Knock::Welcome { replaced: true });
+    same(&rt, again, Knock::Welcome { replaced: true });
     assert!(rt; first.hang_up(&mut gate));
     assert!(rt; !first.hang_up(&mut gate));
     enter(&rt, alloc, &mut first, &mut gate, now);
@@ -138,7 +139,7 @@ fn dropped_subscriber(rt: HostRuntime) {
         refusal: Refusal::NoSuchSub,
         replaced: false,
     };
-    assert_eq!(rt; door.knock(alloc, &mut gate, host(), now), refused);
+    same(&rt, door.knock(alloc, &mut gate, host(), now), refused);
     crate::frames::add_sub(&rt, alloc, &mut gate, 20, 2000);
     enter(&rt, alloc, &mut door, &mut gate, now);
 }
@@ -160,17 +161,21 @@ fn own_stream(rt: HostRuntime) {
     let mut other = writer(alloc, 0);
     // Stream 101 is no stream of subscriber 20.
     let stay = second.serve(&mut reader(COMMANDS_101, 1), &mut other, &mut gate, now);
-    assert_eq!(rt; stay, Stay::More);
+    same(&rt, stay, Stay::More);
     let stay = first.serve(&mut reader(COMMANDS_101, 1), &mut out, &mut gate, now);
-    assert_eq!(rt; stay, Stay::More);
+    same(&rt, stay, Stay::More);
     run_link(&mut link, &mut reader(DATA_7, 1), &mut to, &mut gate, 10);
-    assert_eq!(rt; first.hand_out(&mut out, &mut gate, now), Stay::Waits);
-    assert_eq!(rt; second.hand_out(&mut other, &mut gate, now), Stay::Waits);
-    assert!(rt; out.inner.taken.as_slice() == HANDED_101);
+    same(&rt, first.hand_out(&mut out, &mut gate, now), Stay::Waits);
+    same(
+        &rt,
+        second.hand_out(&mut other, &mut gate, now),
+        Stay::Waits,
+    );
+    same(&rt, out.inner.taken.as_slice(), HANDED_101);
     assert!(rt; other.inner.taken.is_empty());
     // The end of its bytes is the end of its connection, and of no other.
     let stay = first.serve(&mut reader(b"", 16), &mut out, &mut gate, now);
-    assert_eq!(rt; stay, Stay::Gone(Gone::Ended(End::Closed)));
+    same(&rt, stay, Stay::Gone(Gone::Ended(End::Closed)));
     assert!(rt; first.guest().is_none() && second.guest().is_some());
     enter(&rt, alloc, &mut first, &mut gate, now);
 }
@@ -188,8 +193,8 @@ fn stalled_subscriber(rt: HostRuntime) {
     // Its first write takes 60 bytes, its second none.
     let mut out = writer(alloc, 2);
     let stay = door.serve(&mut reader(COMMANDS_101, 1), &mut out, &mut gate, start);
-    assert_eq!(rt; stay, Stay::Waits);
-    assert_eq!(rt; out.moved, 60);
+    same(&rt, stay, Stay::Waits);
+    same(&rt, out.moved, 60);
     assert!(rt; door.expire(&mut gate, after(&rt, start, 29_999)).is_none());
     // A socket that takes nothing is not asked, and a byte that is taken begins the 30 seconds anew.
     let at = after(&rt, start, 20_000);
@@ -199,7 +204,7 @@ fn stalled_subscriber(rt: HostRuntime) {
     let stay = door.serve(&mut reader(b"", 0), &mut out, &mut gate, at);
     assert!(rt; stay == Stay::Waits && out.inner.calls == 3);
     let gone = door.expire(&mut gate, after(&rt, start, 30_000));
-    assert_eq!(rt; gone, Some(Overdue::Stalled));
+    same(&rt, gone, Some(Overdue::Stalled));
     assert!(rt; door.guest().is_none());
     enter(&rt, alloc, &mut door, &mut gate, start);
 }
@@ -222,7 +227,7 @@ fn idle_subscriber(rt: HostRuntime) {
     door.serve(&mut reader(&COMMANDS_101[..1], 1), &mut out, &mut gate, at);
     assert!(rt; door.expire(&mut gate, after(&rt, start, 8_999)).is_none());
     let gone = door.expire(&mut gate, after(&rt, start, 9_000));
-    assert_eq!(rt; gone, Some(Overdue::Idle));
+    same(&rt, gone, Some(Overdue::Idle));
 }
 
 /// What waits is handed out in one turn, though a drain holds no more than 16,384 bytes: 700 frames of 26 bytes.
@@ -243,6 +248,6 @@ fn drained_until_empty(rt: HostRuntime) {
         let frame = data_of(&rt, alloc, second);
         run_link(&mut link, &mut reader(&frame, 1), &mut to, &mut gate, 10);
     }
-    assert_eq!(rt; door.hand_out(&mut out, &mut gate, now), Stay::Waits);
-    assert_eq!(rt; out.inner.taken.len(), 74 + 700 * 26);
+    same(&rt, door.hand_out(&mut out, &mut gate, now), Stay::Waits);
+    same(&rt, out.inner.taken.len(), 74 + 700 * 26);
 }

@@ -3,6 +3,7 @@
 
 ghost use Rattle.std.specs.Prelude.{◌≡◌};
 
+use crate::asserts::same;
 use crate::frames::{COMMANDS_101, CONFIG_7, DATA_7, key, source, subscriber};
 use crate::loopback::{CONFIG_9, DATA_9, set_up};
 use crate::turns::{comes, here, is_over, rules};
@@ -107,19 +108,19 @@ fn flood_by_source<
     (&flood).write_all(CONFIG_7).expect(rt, "a write");
     (&quiet).write_all(CONFIG_9).expect(rt, "a write");
     worker.turn();
-    assert_eq!(rt; journal.count(Notice::Announced), 2);
+    same(rt, journal.count(Notice::Announced), 2);
     send_times(rt, alloc, &flood, DATA_7, 2_600);
     (&quiet).write_all(DATA_9).expect(rt, "a write");
     worker.turn();
     let (seat, of_nine) = taken(rt, shared, seat, 9);
     let (seat, of_seven) = taken(rt, shared, seat, 7);
-    assert_eq!(rt; of_nine, 1);
-    assert_eq!(rt; usize::try_from(of_seven), Ok(READ / 26));
+    same(rt, of_nine, 1);
+    same(rt, usize::try_from(of_seven), Ok(READ / 26));
     // What is left is served in the next turn.
     worker.turn();
     let (_, of_seven) = taken(rt, shared, seat, 7);
-    assert_eq!(rt; of_seven, 2_600);
-    assert_eq!(rt; journal.count(Notice::SourceEnded), 0);
+    same(rt, of_seven, 2_600);
+    same(rt, journal.count(Notice::SourceEnded), 0);
 }
 
 /// A source that floods costs the other one on its worker no turn, and loses no frame.
@@ -166,18 +167,18 @@ fn flood_by_subscriber<
     let flood = TcpStream::connect(rt, at).expect(rt, "a connection");
     let quiet = TcpStream::connect(rt, beside).expect(rt, "a connection");
     worker.turn();
-    assert_eq!(rt; journal.count(Notice::Connected), 2);
+    same(rt, journal.count(Notice::Connected), 2);
     // Stream 101 is subscriber 1's.
     send_times(rt, alloc, &flood, COMMANDS_101, 2_000);
     (&quiet).write_all(COMMANDS_101).expect(rt, "a write");
     worker.turn();
     let (seat, ignored) = strange(rt, shared, seat, 20);
-    assert_eq!(rt; usize::try_from(ignored), Ok(READ / 18));
+    same(rt, usize::try_from(ignored), Ok(READ / 18));
     assert!(rt; comes(&quiet, b"\xAA\x32"));
     worker.turn();
     let (_, ignored) = strange(rt, shared, seat, 20);
-    assert_eq!(rt; ignored, 4_000);
-    assert_eq!(rt; journal.count(Notice::GuestEnded), 0);
+    same(rt, ignored, 4_000);
+    same(rt, journal.count(Notice::GuestEnded), 0);
 }
 
 /// A subscriber that floods costs the other one on its worker no turn; each of its commands is counted.
@@ -254,7 +255,7 @@ fn wakes_count_as_one(rt: HostRuntime) {
     mailbox.send(&rt, &journal, PortOrder::Report(1));
     waiting.wait(&rt, &journal, Duration::from_secs(10));
     assert!(rt; waiting.is_woken());
-    assert_eq!(rt; mailbox.take(&rt, alloc).len(), 1);
+    same(&rt, mailbox.take(&rt, alloc).len(), 1);
     waiting.wait(&rt, &journal, Duration::ZERO);
     assert!(rt; !waiting.is_woken());
     mailbox.wake(&journal);

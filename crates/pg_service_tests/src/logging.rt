@@ -1,4 +1,5 @@
 //! What the log says, and how often.
+use crate::asserts::same;
 use crate::frames::{key, source, subscriber};
 use pg_ingest::End;
 use pg_service::{Asked, Detail, Digest, Entry, Journal, Notice, Whom};
@@ -57,17 +58,17 @@ fn one_line_a_second(rt: HostRuntime) {
         let host = SocketAddr::from((Ipv4Addr::LOCALHOST, at));
         of_subscriber(&rt, 2, Notice::Foreign, Detail::At(host))
     };
-    assert!(rt; times(digest.met(turned(1), 5_000)) == 1);
+    same(&rt, times(digest.met(turned(1), 5_000)), 1);
     assert!(rt; digest.met(turned(2), 5_100).is_none());
     assert!(rt; digest.met(turned(3), 5_999).is_none());
     assert!(rt; digest.due(5_999).is_none());
-    assert!(rt; times(digest.due(6_000)) == 2);
+    same(&rt, times(digest.due(6_000)), 2);
     assert!(rt; digest.due(6_000).is_none());
     assert!(rt; digest.met(turned(4), 6_500).is_none());
     assert!(rt; digest.due(6_999).is_none());
-    assert!(rt; times(digest.due(7_000)) == 1);
+    same(&rt, times(digest.due(7_000)), 1);
     assert!(rt; digest.due(9_000).is_none());
-    assert!(rt; times(digest.met(turned(5), 9_001)) == 1);
+    same(&rt, times(digest.met(turned(5), 9_001)), 1);
 }
 
 /// What one does holds back nothing of another, nor of another kind.
@@ -75,15 +76,19 @@ fn one_line_a_second(rt: HostRuntime) {
 fn others_are_told(rt: HostRuntime) {
     let mut digest = Digest::new(rt.alloc());
     let started = |number: u16| of_subscriber(&rt, number, Notice::Started, Detail::Stream(101));
-    assert!(rt; times(digest.met(started(2), 0)) == 1);
+    same(&rt, times(digest.met(started(2), 0)), 1);
     for at in 1..500 {
         assert!(rt; digest.met(started(2), at).is_none());
     }
-    assert!(rt; times(digest.met(started(1), 500)) == 1);
+    same(&rt, times(digest.met(started(1), 500)), 1);
     let stopped = of_subscriber(&rt, 2, Notice::Stopped, Detail::Stream(101));
-    assert!(rt; times(digest.met(stopped, 500)) == 1);
-    assert!(rt; times(digest.met(of_source(&rt, Notice::Made, Detail::Nothing), 501)) == 1);
-    assert!(rt; times(digest.due(1_000)) == 499);
+    same(&rt, times(digest.met(stopped, 500)), 1);
+    same(
+        &rt,
+        times(digest.met(of_source(&rt, Notice::Made, Detail::Nothing), 501)),
+        1,
+    );
+    same(&rt, times(digest.due(1_000)), 499);
 }
 
 /// Of frames that are ignored a line a minute counts.
@@ -91,11 +96,11 @@ fn others_are_told(rt: HostRuntime) {
 fn a_line_a_minute(rt: HostRuntime) {
     let mut digest = Digest::new(rt.alloc());
     let ignored = || of_source(&rt, Notice::Ignored, Detail::Because(Refusal::BadCheck));
-    assert!(rt; times(digest.met(ignored(), 0)) == 1);
+    same(&rt, times(digest.met(ignored(), 0)), 1);
     assert!(rt; digest.met(ignored(), 1_000).is_none());
     assert!(rt; digest.met(ignored(), 59_999).is_none());
     assert!(rt; digest.due(59_999).is_none());
-    assert!(rt; times(digest.due(60_000)) == 2);
+    same(&rt, times(digest.due(60_000)), 2);
 }
 
 /// Frames that are ignored for another reason, and another stream, have lines of their own, with their own counts.
@@ -103,16 +108,16 @@ fn a_line_a_minute(rt: HostRuntime) {
 fn reasons_are_told_apart(rt: HostRuntime) {
     let mut digest = Digest::new(rt.alloc());
     let ignored = |reason| of_source(&rt, Notice::Ignored, Detail::Because(reason));
-    assert!(rt; times(digest.met(ignored(Refusal::BadCheck), 0)) == 1);
-    assert!(rt; times(digest.met(ignored(Refusal::StaleConfig), 1)) == 1);
+    same(&rt, times(digest.met(ignored(Refusal::BadCheck), 0)), 1);
+    same(&rt, times(digest.met(ignored(Refusal::StaleConfig), 1)), 1);
     assert!(rt; digest.met(ignored(Refusal::BadCheck), 2).is_none());
     assert!(rt; digest.met(ignored(Refusal::BadCheck), 3).is_none());
     assert!(rt; digest.met(ignored(Refusal::StaleConfig), 4).is_none());
     assert!(rt; is_ignored(digest.due(60_001), Refusal::BadCheck, 2));
     assert!(rt; is_ignored(digest.due(60_001), Refusal::StaleConfig, 1));
     let started = |stream| of_subscriber(&rt, 2, Notice::Started, Detail::Stream(stream));
-    assert!(rt; times(digest.met(started(101), 0)) == 1);
-    assert!(rt; times(digest.met(started(102), 0)) == 1);
+    same(&rt, times(digest.met(started(101), 0)), 1);
+    same(&rt, times(digest.met(started(102), 0)), 1);
 }
 
 /// More kinds than are told apart are counted, and told as such.
@@ -121,13 +126,13 @@ fn too_many_kinds(rt: HostRuntime) {
     let mut digest = Digest::new(rt.alloc());
     for number in 1..1_025 {
         let entry = of_subscriber(&rt, number, Notice::Connected, Detail::Nothing);
-        assert!(rt; times(digest.met(entry, 0)) == 1);
+        same(&rt, times(digest.met(entry, 0)), 1);
     }
     let more = || of_subscriber(&rt, 2_000, Notice::Connected, Detail::Nothing);
     assert!(rt; digest.met(more(), 0).is_none());
     assert!(rt; digest.met(more(), 500).is_none());
     assert!(rt; is_untold(digest.due(600), 2));
-    assert!(rt; times(digest.met(more(), 1_000)) == 1);
+    same(&rt, times(digest.met(more(), 1_000)), 1);
 }
 
 /// Lines that could not be written are counted, and told once one can.
@@ -155,10 +160,10 @@ fn entries_wait(rt: HostRuntime) {
         Some(entry) => (entry.notice, entry.times),
         None => (Notice::Untold, 0),
     };
-    assert!(rt; next() == (Notice::Called, 1));
-    assert!(rt; next() == (Notice::Made, 2));
-    assert!(rt; next() == (Notice::Called, 1));
-    assert!(rt; next() == (Notice::Untold, 0));
+    same(&rt, next(), (Notice::Called, 1));
+    same(&rt, next(), (Notice::Made, 2));
+    same(&rt, next(), (Notice::Called, 1));
+    same(&rt, next(), (Notice::Untold, 0));
     assert!(rt; journal.take(&rt, alloc).is_empty());
     assert!(rt; journal.count(Notice::Called) == 2 && journal.count(Notice::Made) == 2);
 }
@@ -172,7 +177,7 @@ fn entries_are_bounded(rt: HostRuntime) {
         let entry = of_subscriber(&rt, number, Notice::Connected, Detail::Nothing);
         journal.tell(&rt, entry);
     }
-    assert!(rt; journal.take(&rt, alloc).len() == 1_024);
+    same(&rt, journal.take(&rt, alloc).len(), 1_024);
     assert!(rt; journal.count(Notice::Connected) == 1_030 && journal.count(Notice::Untold) == 6);
 }
 
@@ -184,11 +189,11 @@ fn lines_of_refused_edits(rt: HostRuntime) {
     let told = line(&rt, alloc, &of_subscriber(&rt, 20, Notice::NotDone, asked));
     let expected =
         "subscriber 20: the grant of PMU 9/9 can't be revoked: it has no such grant (35 NotGranted)";
-    assert!(rt; told.as_str() == expected);
+    same(&rt, told.as_str(), expected);
     let asked = Detail::Edit(Asked::AddPmu(source(&rt, 9)), Refusal::PmuExists);
     let told = line(&rt, alloc, &of_source(&rt, Notice::NotDone, asked));
     let expected = "source 7: PMU 9 can't be registered: it is registered already (24 PmuExists)";
-    assert!(rt; told.as_str() == expected);
+    same(&rt, told.as_str(), expected);
 }
 
 /// What is said of each.

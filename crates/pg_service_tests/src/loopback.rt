@@ -2,6 +2,7 @@
 
 ghost use Rattle.std.specs.Prelude.{◌≡◌};
 
+use crate::asserts::same;
 use crate::frames::{COMMANDS_101, CONFIG_7, DATA_7, HANDED_101, key, source, subscriber};
 use mio::net::TcpListener as PortListener;
 use pg_gateway::{Event, Gateway};
@@ -373,22 +374,22 @@ fn loopback(rt: HostRuntime) {
     // Called anew, source 7 is asked for its CFG-2 again.
     let asked = told.seven.as_slice();
     assert!(rt; asked.starts_with(ASKED_7) && asked.ends_with(&ASKED_7[..18]));
-    assert_eq!(rt; asked.len(), 54);
-    assert!(rt; told.nine.as_slice() == ASKED_9);
-    assert!(rt; told.first.as_slice() == HANDED_101);
-    assert!(rt; told.second.as_slice() == HANDED_2000);
+    same(&rt, asked.len(), 54);
+    same(&rt, told.nine.as_slice(), ASKED_9);
+    same(&rt, told.first.as_slice(), HANDED_101);
+    same(&rt, told.second.as_slice(), HANDED_2000);
     let times = |notice, whom| met(&told.met, notice, whom);
     let (seven, nine) = (source(&rt, 7), source(&rt, 9));
-    assert_eq!(rt; times(Notice::Called, Whom::Source(seven)), 2);
-    assert_eq!(rt; times(Notice::Called, Whom::Source(nine)), 1);
-    assert_eq!(rt; times(Notice::Announced, Whom::Source(seven)), 1);
-    assert_eq!(rt; times(Notice::Announced, Whom::Source(nine)), 1);
+    same(&rt, times(Notice::Called, Whom::Source(seven)), 2);
+    same(&rt, times(Notice::Called, Whom::Source(nine)), 1);
+    same(&rt, times(Notice::Announced, Whom::Source(seven)), 1);
+    same(&rt, times(Notice::Announced, Whom::Source(nine)), 1);
     let (first, second) = (subscriber(&rt, 1), subscriber(&rt, 20));
-    assert_eq!(rt; times(Notice::Connected, Whom::Subscriber(first)), 1);
-    assert_eq!(rt; times(Notice::Connected, Whom::Subscriber(second)), 1);
-    assert_eq!(rt; times(Notice::Started, Whom::Subscriber(first)), 1);
-    assert_eq!(rt; times(Notice::HungUp, Whom::Subscriber(second)), 1);
-    assert_eq!(rt; times(Notice::HungUp, Whom::Subscriber(first)), 0);
+    same(&rt, times(Notice::Connected, Whom::Subscriber(first)), 1);
+    same(&rt, times(Notice::Connected, Whom::Subscriber(second)), 1);
+    same(&rt, times(Notice::Started, Whom::Subscriber(first)), 1);
+    same(&rt, times(Notice::HungUp, Whom::Subscriber(second)), 1);
+    same(&rt, times(Notice::HungUp, Whom::Subscriber(first)), 0);
 }
 
 /// How often the log was told this of this one.

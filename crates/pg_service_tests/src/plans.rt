@@ -1,4 +1,5 @@
 //! When a source is called, and when it is given up: by a clock that the test moves.
+use crate::asserts::same;
 use crate::frames::after;
 use pg_service::{CallPlan, Due, Phase};
 use std::test::*;
@@ -10,18 +11,18 @@ fn calls_that_fail(rt: HostRuntime) {
     let start = Instant::now(&rt).expect(&rt, "a clock");
     let mut plan = CallPlan::new(start, Some(Duration::from_secs(10)));
     let mut now = start;
-    assert_eq!(rt; plan.due(start), Due::Call);
+    same(&rt, plan.due(start), Due::Call);
     for pause in [1_000u64, 2_000, 4_000, 8_000, 16_000, 30_000, 30_000] {
         plan.called(now);
-        assert_eq!(rt; plan.phase(), Phase::Calling);
-        assert_eq!(rt; plan.due(after(&rt, now, 9_999)), Due::Nothing);
-        assert_eq!(rt; plan.due(after(&rt, now, 10_000)), Due::GiveUp);
+        same(&rt, plan.phase(), Phase::Calling);
+        same(&rt, plan.due(after(&rt, now, 9_999)), Due::Nothing);
+        same(&rt, plan.due(after(&rt, now, 10_000)), Due::GiveUp);
         now = after(&rt, now, 10_000);
         plan.ended(now);
-        assert_eq!(rt; plan.phase(), Phase::Resting);
-        assert_eq!(rt; plan.due(after(&rt, now, pause - 1)), Due::Nothing);
+        same(&rt, plan.phase(), Phase::Resting);
+        same(&rt, plan.due(after(&rt, now, pause - 1)), Due::Nothing);
         now = after(&rt, now, pause);
-        assert_eq!(rt; plan.due(now), Due::Call);
+        same(&rt, plan.due(now), Due::Call);
     }
 }
 
@@ -34,21 +35,22 @@ fn event_ends_the_pauses(rt: HostRuntime) {
         plan.called(start);
         plan.made(start);
         plan.ended(start);
-        assert_eq!(rt;
+        same(
+            &rt,
             plan.due(after(&rt, start, pause * 1_000 - 1)),
-            Due::Nothing
+            Due::Nothing,
         );
-        assert_eq!(rt; plan.due(after(&rt, start, pause * 1_000)), Due::Call);
+        same(&rt, plan.due(after(&rt, start, pause * 1_000)), Due::Call);
     }
     plan.called(start);
     plan.made(start);
     plan.heard(start, Some(30));
     plan.ended(start);
-    assert_eq!(rt; plan.due(start), Due::Call);
+    same(&rt, plan.due(start), Due::Call);
     plan.called(start);
     plan.ended(start);
-    assert_eq!(rt; plan.due(after(&rt, start, 999)), Due::Nothing);
-    assert_eq!(rt; plan.due(after(&rt, start, 1_000)), Due::Call);
+    same(&rt, plan.due(after(&rt, start, 999)), Due::Nothing);
+    same(&rt, plan.due(after(&rt, start, 1_000)), Due::Call);
 }
 
 /// Silence: of so many seconds, at this DATA_RATE, a connection is given up after so many milliseconds without an event.
@@ -69,24 +71,33 @@ fn silence_by_rate(rt: HostRuntime) {
         let mut plan = CallPlan::new(start, Some(Duration::from_secs(silence)));
         plan.called(start);
         plan.made(start);
-        assert_eq!(rt;
+        same(
+            &rt,
             plan.due(after(&rt, start, silence * 1_000 - 1)),
-            Due::Nothing
+            Due::Nothing,
         );
-        assert_eq!(rt; plan.due(after(&rt, start, silence * 1_000)), Due::Silent);
+        same(
+            &rt,
+            plan.due(after(&rt, start, silence * 1_000)),
+            Due::Silent,
+        );
         let event = after(&rt, start, 500);
         plan.heard(event, rate);
-        assert_eq!(rt; plan.due(after(&rt, event, millis - 1)), Due::Nothing);
-        assert_eq!(rt; plan.due(after(&rt, event, millis)), Due::Silent);
+        same(&rt, plan.due(after(&rt, event, millis - 1)), Due::Nothing);
+        same(&rt, plan.due(after(&rt, event, millis)), Due::Silent);
         // An event without a rate of its own leaves the one before.
         plan.heard(event, None);
-        assert_eq!(rt; plan.due(after(&rt, event, millis - 1)), Due::Nothing);
-        assert_eq!(rt; plan.due(after(&rt, event, millis)), Due::Silent);
+        same(&rt, plan.due(after(&rt, event, millis - 1)), Due::Nothing);
+        same(&rt, plan.due(after(&rt, event, millis)), Due::Silent);
         // A new connection has told none.
         plan.ended(event);
         plan.called(event);
         plan.made(event);
-        assert_eq!(rt; plan.due(after(&rt, event, silence * 1_000)), Due::Silent);
+        same(
+            &rt,
+            plan.due(after(&rt, event, silence * 1_000)),
+            Due::Silent,
+        );
     }
 }
 
@@ -98,12 +109,12 @@ fn no_limit_and_rest(rt: HostRuntime) {
     let mut plan = CallPlan::new(start, None);
     plan.called(start);
     plan.made(start);
-    assert_eq!(rt; plan.due(late), Due::Nothing);
+    same(&rt, plan.due(late), Due::Nothing);
     assert!(rt; plan.left(late).is_none());
     plan.heard(start, Some(1));
-    assert_eq!(rt; plan.due(late), Due::Nothing);
+    same(&rt, plan.due(late), Due::Nothing);
     plan.rest();
-    assert_eq!(rt; plan.due(late), Due::Nothing);
+    same(&rt, plan.due(late), Due::Nothing);
     plan.renew(late);
-    assert_eq!(rt; plan.due(late), Due::Call);
+    same(&rt, plan.due(late), Due::Call);
 }

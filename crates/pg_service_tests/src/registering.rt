@@ -1,4 +1,5 @@
 //! What workers are told after an edit.
+use crate::asserts::same;
 use crate::frames::{key, source, subscriber};
 use pg_gateway::{Edit, Reply};
 use pg_service::{After, Change, Registered};
@@ -24,11 +25,11 @@ fn expect_told(rt: &(impl Abort + Eprint), registered: &mut Registered, edit: Ed
     let after = registered
         .note(Change::of(&edit), &refused)
         .expect(rt, "room");
-    assert_eq!(rt; after, After::Nothing);
+    same(rt, after, After::Nothing);
     let after = registered
         .note(Change::of(&edit), &is_done())
         .expect(rt, "room");
-    assert_eq!(rt; after, told);
+    same(rt, after, told);
 }
 
 #[test]

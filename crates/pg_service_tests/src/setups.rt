@@ -1,4 +1,5 @@
 //! The edits of a setup: in their order, each of its own subscriber and PMU, as far as the first that is refused.
+use crate::asserts::same;
 use crate::frames::{key, source, subscriber};
 use pg_gateway::{Edit, Event, Gate, Gateway, Reply};
 use pg_ring::{RingBytes, RingSize};
@@ -40,10 +41,18 @@ fn each_grant_is_its_own(rt: HostRuntime) {
     }
     assert!(rt; post_edits(&mut gate, edits, &mut registered).is_ok());
     assert!(rt; registered.has(source(&rt, 7)) && registered.has(source(&rt, 9)));
-    assert_eq!(rt; revoked(&rt, &mut gate, 20, 9), Some(Refusal::NotGranted));
-    assert_eq!(rt; revoked(&rt, &mut gate, 1, 7), Some(Refusal::NotGranted));
-    assert_eq!(rt; revoked(&rt, &mut gate, 20, 7), None);
-    assert_eq!(rt; revoked(&rt, &mut gate, 1, 9), None);
+    same(
+        &rt,
+        revoked(&rt, &mut gate, 20, 9),
+        Some(Refusal::NotGranted),
+    );
+    same(
+        &rt,
+        revoked(&rt, &mut gate, 1, 7),
+        Some(Refusal::NotGranted),
+    );
+    same(&rt, revoked(&rt, &mut gate, 20, 7), None);
+    same(&rt, revoked(&rt, &mut gate, 1, 9), None);
 }
 
 /// The first edit that is refused is the last that is posted, and its reason is told.
@@ -61,7 +70,7 @@ fn ends_at_a_refusal(rt: HostRuntime) {
         edits.push(edit).expect(&rt, "memory");
     }
     let ended = post_edits(&mut gate, edits, &mut registered);
-    assert_eq!(rt; ended, Err(Refusal::NoSuchSub));
+    same(&rt, ended, Err(Refusal::NoSuchSub));
     assert!(rt; registered.has(source(&rt, 7)) && !registered.has(source(&rt, 9)));
     // PMU 9 was not registered, so that it can be.
     assert!(rt; matches!(gate.post(Event::AddPmu(key(&rt, 9))), Reply::Done { .. }));

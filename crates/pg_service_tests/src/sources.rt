@@ -1,4 +1,5 @@
 //! Sources over memory: budgets, silence, the clock's guard, and whose bytes are whose.
+use crate::asserts::same;
 use crate::frames::{CONFIG_7, DATA_7, after, gateway, source};
 use pg_fakes::{FakeGate, FakeReader, FakeWriter};
 use pg_gateway::Event;
@@ -70,15 +71,15 @@ fn budget_of_reads(rt: HostRuntime) {
     // 2,674 bytes are 26 whole reads of 100 and one of 74.
     let mut budget = reader(bytes.as_slice(), 100, 16);
     let (turn, seen) = line.serve(&mut budget, &mut out, &mut gate, now, 0);
-    assert_eq!(rt; turn, Turn::More);
-    assert_eq!(rt; seen.events, 59);
-    assert_eq!(rt; budget.reader.calls, 16);
+    same(&rt, turn, Turn::More);
+    same(&rt, seen.events, 59);
+    same(&rt, budget.reader.calls, 16);
     budget.left = 16;
     let (turn, seen) = line.serve(&mut budget, &mut out, &mut gate, now, 0);
-    assert_eq!(rt; seen.events, 42);
-    assert_eq!(rt; turn, Turn::Ended(End::Closed));
-    assert!(rt; out.taken.as_slice() == ASKED_7);
-    assert_eq!(rt; gate.into_inner().calls.len(), 101);
+    same(&rt, seen.events, 42);
+    same(&rt, turn, Turn::Ended(End::Closed));
+    same(&rt, out.taken.as_slice(), ASKED_7);
+    same(&rt, gate.into_inner().calls.len(), 101);
 }
 
 /// A source that gives no event is given up by its silence, and its link starts anew; an event keeps it.
@@ -103,24 +104,24 @@ fn silent_source(rt: HostRuntime) {
     let at = after(&rt, start, 5_000);
     let (turn, seen) = line.serve(&mut budget, &mut out, &mut gate, at, 0);
     assert!(rt; turn == Turn::More && seen.events == 0);
-    assert_eq!(rt; line.due(after(&rt, start, 10_000)), Due::Silent);
+    same(&rt, line.due(after(&rt, start, 10_000)), Due::Silent);
     let good = stream_of(&rt, alloc, 1);
     let mut budget = reader(good.as_slice(), 4096, 1);
     let at = after(&rt, start, 9_000);
     let (turn, seen) = line.serve(&mut budget, &mut out, &mut gate, at, 0);
     assert!(rt; turn == Turn::More && seen.events == 2);
-    assert_eq!(rt; line.due(after(&rt, start, 10_000)), Due::Nothing);
-    assert_eq!(rt; line.due(after(&rt, start, 19_000)), Due::Silent);
+    same(&rt, line.due(after(&rt, start, 10_000)), Due::Nothing);
+    same(&rt, line.due(after(&rt, start, 19_000)), Due::Silent);
     line.ended(after(&rt, start, 19_000));
-    assert_eq!(rt; line.due(after(&rt, start, 19_000)), Due::Call);
+    same(&rt, line.due(after(&rt, start, 19_000)), Due::Call);
     // The link asks for CFG-2 again, and takes no data before it.
     line.called(start);
     line.made(start);
     out.taken.clear();
     let mut budget = reader(DATA_7, 4096, 1);
     let (_, seen) = line.serve(&mut budget, &mut out, &mut gate, start, 0);
-    assert_eq!(rt; seen.events, 0);
-    assert!(rt; out.taken.as_slice() == &ASKED_7[..18]);
+    same(&rt, seen.events, 0);
+    same(&rt, out.taken.as_slice(), &ASKED_7[..18]);
 }
 
 /// A connection that ends is ended for its link too, whatever was held of a frame; the pause grows without an event.
@@ -136,15 +137,15 @@ fn ended_source(rt: HostRuntime) {
         line.made(start);
         let mut budget = reader(&CONFIG_7[..40], 4096, 16);
         let (turn, _) = line.serve(&mut budget, &mut out, &mut gate, start, 0);
-        assert_eq!(rt; turn, Turn::Ended(End::Closed));
-        assert_eq!(rt; line.due(after(&rt, start, pause - 1)), Due::Nothing);
-        assert_eq!(rt; line.due(after(&rt, start, pause)), Due::Call);
+        same(&rt, turn, Turn::Ended(End::Closed));
+        same(&rt, line.due(after(&rt, start, pause - 1)), Due::Nothing);
+        same(&rt, line.due(after(&rt, start, pause)), Due::Call);
     }
     line.called(start);
     line.made(start);
     let mut budget = reader(b"\xAB", 4096, 16);
     let (turn, _) = line.serve(&mut budget, &mut out, &mut gate, start, 0);
-    assert_eq!(rt; turn, Turn::Ended(End::Fault(2)));
+    same(&rt, turn, Turn::Ended(End::Fault(2)));
     assert!(rt; gate.into_inner().calls.is_empty());
 }
 
@@ -173,10 +174,10 @@ fn guarded_source(rt: HostRuntime) {
         let bytes = stream_of(&rt, alloc, 1);
         let mut budget = reader(bytes.as_slice(), 4096, 1);
         let (_, seen) = line.serve(&mut budget, &mut out, &mut gate, now, clock);
-        assert_eq!(rt; seen.far, far);
-        assert_eq!(rt; seen.events, 2);
+        same(&rt, seen.far, far);
+        same(&rt, seen.events, 2);
         let inner = gate.into_inner();
-        assert_eq!(rt; inner.calls.len(), posted);
+        same(&rt, inner.calls.len(), posted);
         assert!(rt; matches!(inner.calls.first(), Some(Event::Announce(_))));
     }
 }

@@ -1,5 +1,6 @@
 //! The ages of data frames as they go out.
 
+use crate::asserts::same;
 use pg_service::Stamps;
 use pg_status::Histogram;
 use std::test::*;
@@ -30,14 +31,14 @@ fn an_age_is_counted_once_the_time_base_is_known(rt: HostRuntime) {
     let mut stamps = Stamps::new();
     let mut ages = Histogram::new();
     stamps.pass(&data(7), CLOCK + 500_000, &mut ages);
-    assert!(rt; ages == Histogram::new());
+    same(&rt, ages, Histogram::new());
     stamps.pass(&config(7), CLOCK, &mut ages);
     stamps.pass(&data(7), CLOCK + 500_000, &mut ages);
     let mut wanted = Histogram::new();
     wanted.observe(250_000);
-    assert!(rt; ages == wanted);
-    assert!(rt; ages.micros == 250_000);
-    assert!(rt; stamps.frames() == 2);
+    same(&rt, ages, wanted);
+    same(&rt, ages.micros, 250_000);
+    same(&rt, stamps.frames(), 2);
 }
 
 /// However the bytes are cut, each frame counts once, and no byte behind a head is taken for a head.
@@ -51,7 +52,7 @@ fn frames_count_however_they_are_cut(rt: HostRuntime) {
     let mut wanted = Histogram::new();
     wanted.observe(1_000);
     wanted.observe(1_000);
-    assert!(rt; ages == wanted);
+    same(&rt, ages, wanted);
 }
 
 /// A stamp that lies ahead has the age 0; a connection that begins anew begins with a frame; streams have time bases of their own.
@@ -66,9 +67,9 @@ fn ahead_anew_and_another_stream(rt: HostRuntime) {
     stamps.pass(&cut[..15], CLOCK, &mut ages);
     stamps.restart();
     stamps.pass(&data(9), CLOCK, &mut ages);
-    assert!(rt; ages.counts[0] == 3);
+    same(&rt, ages.counts[0], 3);
     stamps.pass(&data(8), CLOCK, &mut ages);
-    assert!(rt; ages.counts[0] == 3);
+    same(&rt, ages.counts[0], 3);
 }
 
 /// Eight streams are known; the ninth takes the place of the first.
@@ -82,5 +83,5 @@ fn the_oldest_of_nine_streams_is_forgotten(rt: HostRuntime) {
     for stream in 1..=9 {
         stamps.pass(&data(stream), CLOCK, &mut ages);
     }
-    assert!(rt; ages.counts[0] == 8);
+    same(&rt, ages.counts[0], 8);
 }

@@ -2,6 +2,7 @@
 
 ghost use Rattle.std.specs.Prelude.{◌≡◌};
 
+use crate::asserts::same;
 use crate::frames::{CONFIG_7, data_of, key, source};
 use crate::loopback::post;
 use pg_fakes::{FakeReader, FakeWriter};
@@ -78,17 +79,17 @@ fn tick<R: Abort + Eprint + Wait + Net + Clock, N: Named>(
     let gate = SharedGate::<R, N>::new(rt, shared, seat);
     let mut ticker = Ticker::new(rt, gate, Duration::from_millis(1), neighbours);
     assert!(rt; ticker.turn());
-    assert_eq!(rt; journal.count(Notice::ClockFault), 0);
+    same(rt, journal.count(Notice::ClockFault), 0);
     let mut gate = ticker.into_gate();
     let mut link = Link::new(alloc, source(rt, 7)).expect(rt, "memory");
     hear(alloc, &mut link, CONFIG_7, &mut gate);
     let soc = soc_now(rt);
     let old = data_of(rt, alloc, soc.saturating_sub(60));
     hear(alloc, &mut link, &old, &mut gate);
-    assert_eq!(rt; taken(rt, &mut gate), 0);
+    same(rt, taken(rt, &mut gate), 0);
     let new = data_of(rt, alloc, soc);
     hear(alloc, &mut link, &new, &mut gate);
-    assert_eq!(rt; taken(rt, &mut gate), 1);
+    same(rt, taken(rt, &mut gate), 1);
 }
 
 #[test]

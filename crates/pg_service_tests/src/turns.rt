@@ -2,6 +2,7 @@
 
 ghost use Rattle.std.specs.Prelude.{◌≡◌};
 
+use crate::asserts::same;
 use crate::frames::{COMMANDS_101, source, subscriber};
 use crate::loopback::set_up;
 use mio::net::TcpListener as PortListener;
@@ -100,21 +101,21 @@ fn reconnect<
     mailbox.send(rt, &journal, order);
     let first = TcpStream::connect(rt, address).expect(rt, "a connection");
     worker.turn();
-    assert_eq!(rt; journal.count(Notice::Connected), 1);
+    same(rt, journal.count(Notice::Connected), 1);
     let beside = TcpStream::connect(rt, closed).expect(rt, "a connection");
     worker.turn();
-    assert_eq!(rt; journal.count(Notice::Connected), 2);
+    same(rt, journal.count(Notice::Connected), 2);
     // A second beside the first is refused, and closed.
     let busy = TcpStream::connect(rt, address).expect(rt, "a connection");
     worker.turn();
     assert!(rt; is_over(&busy));
-    assert_eq!(rt; journal.count(Notice::Refused), 1);
+    same(rt, journal.count(Notice::Refused), 1);
     drop(first);
     let second = TcpStream::connect(rt, address).expect(rt, "a connection");
     (&second).write_all(COMMANDS_101).expect(rt, "a write");
     worker.turn();
-    assert_eq!(rt; journal.count(Notice::Refused), 1);
-    assert_eq!(rt; journal.count(Notice::Connected), 3);
+    same(rt, journal.count(Notice::Refused), 1);
+    same(rt, journal.count(Notice::Connected), 3);
     // A port that an order closes hangs up who has connected, and is asked no more.
     mailbox.send(rt, &journal, PortOrder::Close(subscriber(rt, 1)));
     worker.turn();
@@ -124,11 +125,11 @@ fn reconnect<
     mailbox.send(rt, &journal, PortOrder::HangUp(subscriber(rt, 20)));
     worker.turn();
     assert!(rt; is_over(&second));
-    assert_eq!(rt; journal.count(Notice::HungUp), 2);
+    same(rt, journal.count(Notice::HungUp), 2);
     // A connection that its subscriber has ended is closed, though no other comes.
     let third = TcpStream::connect(rt, address).expect(rt, "a connection");
     worker.turn();
-    assert_eq!(rt; journal.count(Notice::Connected), 4);
+    same(rt, journal.count(Notice::Connected), 4);
     third.shutdown(Shutdown::Write).expect(rt, "an end");
     worker.turn();
     third.set_nonblocking(true).expect(rt, "an option");

@@ -1,4 +1,5 @@
 //! What is told of what went through a gate.
+use crate::asserts::same;
 use crate::frames::{COMMANDS_101, CONFIG_7, DATA_7, data_of, done, gateway, source, subscriber};
 use pg_fakes::{FakeReader, FakeWriter};
 use pg_gateway::{Event, Gate, Gateway, Reply};
@@ -67,9 +68,9 @@ fn rate_is_told(rt: HostRuntime) {
     hear(&rt, alloc, &mut link, CONFIG_7, &mut gate);
     hear(&rt, alloc, &mut link, DATA_7, &mut gate);
     let seen = gate.take_seen();
-    assert_eq!(rt; seen.rate, Some(30));
+    same(&rt, seen.rate, Some(30));
     assert!(rt; seen.pmus[0] == 7 && seen.pmus[1] == 0);
-    assert_eq!(rt; seen.events, 2);
+    same(&rt, seen.events, 2);
     let again = gate.take_seen();
     assert!(rt; again.rate.is_none() && again.events == 0);
 }
@@ -87,13 +88,13 @@ fn drains_are_told(rt: HostRuntime) {
     let mut from = fake(COMMANDS_101);
     let mut to = writer(alloc);
     serve_session(&mut session, &mut from, &mut to, &mut gate, 10);
-    assert_eq!(rt; to.taken.len(), 74);
+    same(&rt, to.taken.len(), 74);
     hear(&rt, alloc, &mut link, DATA_7, &mut gate);
-    assert_eq!(rt; gate.take_seen().made, 1);
-    assert_eq!(rt; drained(&rt, alloc, &mut gate), 26);
-    assert_eq!(rt; gate.handed(), 26);
-    assert_eq!(rt; drained(&rt, alloc, &mut gate), 0);
-    assert_eq!(rt; gate.handed(), 0);
+    same(&rt, gate.take_seen().made, 1);
+    same(&rt, drained(&rt, alloc, &mut gate), 26);
+    same(&rt, gate.handed(), 26);
+    same(&rt, drained(&rt, alloc, &mut gate), 0);
+    same(&rt, gate.handed(), 0);
 }
 
 /// A stream that was started is told, and how many frames were dropped before those that are handed out: of seven frames
@@ -111,12 +112,12 @@ fn gaps_are_told(rt: HostRuntime) {
     serve_session(&mut session, &mut from, &mut writer(alloc), &mut gate, 10);
     let seen = gate.take_seen();
     assert!(rt; seen.switched.at(0) == Some((101, true)) && seen.switched.at(1).is_none());
-    assert_eq!(rt; seen.gap, 0);
+    same(&rt, seen.gap, 0);
     for second in 100..107 {
         let frame = data_of(&rt, alloc, second);
         hear(&rt, alloc, &mut link, &frame, &mut gate);
     }
-    assert_eq!(rt; drained(&rt, alloc, &mut gate), 104);
+    same(&rt, drained(&rt, alloc, &mut gate), 104);
     let seen = gate.take_seen();
     assert!(rt; seen.gap == 3 && seen.switched.is_empty());
 }
@@ -130,7 +131,7 @@ fn each_switch_is_told(rt: HostRuntime) {
     switched.switch(2000, true);
     switched.switch(101, false);
     assert!(rt; !switched.is_empty());
-    assert_eq!(rt; switched.at(0), Some((101, false)));
-    assert_eq!(rt; switched.at(1), Some((2000, true)));
+    same(&rt, switched.at(0), Some((101, false)));
+    same(&rt, switched.at(1), Some((2000, true)));
     assert!(rt; switched.at(2).is_none() && switched.at(8).is_none());
 }

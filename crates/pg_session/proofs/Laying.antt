@@ -46,7 +46,7 @@ wanted_next streams k s quality samples front after whole h e a w =
         ∙ ap (λ t. wanted_of t quality samples ++ all_wanted (drop (k + 1) streams) quality samples) e
 
 -- places that rise below n are at most n
-rising_few : (least n : ℕ) (places : List ℕ) → AreRising least n places → 0 < length places → least + length places ≤ n
+pub rising_few : (least n : ℕ) (places : List ℕ) → AreRising least n places → 0 < length places → least + length places ≤ n
 rising_few least n [] r s = absurd (omega (arith, s))
 rising_few least n (i ∷ []) r s = omega (arith, r.0, r.1)
 rising_few least n (i ∷ j ∷ places) r s = omega (arith, rising_few (suc i) n (j ∷ places) r.2 (omega arith), r.0)
@@ -54,7 +54,7 @@ rising_few least n (i ∷ j ∷ places) r s = omega (arith, rising_few (suc i) n
 pub places_few : (n : ℕ) (places : List ℕ) → ArePlaces n places → length places ≤ n
 places_few n places p = omega (arith, rising_few 0 n places p.rising p.some)
 
-rising_within : (least n : ℕ) (places : List ℕ) → AreRising least n places → All (λ i. i < n) places
+pub rising_within : (least n : ℕ) (places : List ℕ) → AreRising least n places → All (λ i. i < n) places
 rising_within least n [] r k d h = absurd (omega (arith, h))
 rising_within least n (i ∷ places) r k d h = by k h (rising_within (suc i) n places r.2)
   where

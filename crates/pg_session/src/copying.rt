@@ -6,7 +6,7 @@ ghost use Rattle.pg_data.specs.Pieces.{piece_of};
 ghost use Rattle.pg_stream.specs.Limits.{IsWithinLimits};
 ghost use Rattle.pg_session.specs.Events.{announced_at, config_of, samples_at};
 ghost use Rattle.pg_session.specs.Streams.{PlacedBlock, place_of, with_place, placed};
-ghost use Rattle.pg_session.specs.Ready.{ArePlaces};
+ghost use Rattle.pg_session.specs.Ready.{ArePlaces, AreRising};
 ghost use Rattle.pg_session.specs.Wanted.{piece_of_placed, wanted_of, all_wanted};
 
 use crate::stream::{Stream, place_next};
@@ -35,13 +35,14 @@ pub(crate) fn lay_config(
     Ok(())
 }
 
-/// Lays a copy of what a source says of each of those PMUs. The one refusal is `NoMemory`; some copies may then lie there.
-pub(crate) fn copy_parts(
+/// Lays a copy of what a source says of each of those PMUs, whose places rise. The one refusal is `NoMemory`; some copies may then lie
+/// there.
+pub fn copy_parts(
     config: &SourceConfig,
     places: &[usize],
     configs: &mut HeapCircularBuffer<Arc<PmuConfig>>,
 ) -> Result<(), Refusal>
-    requires places { ArePlaces (length config.now.parts) places.now }
+    requires rising { AreRising 0 (length config.now.parts) places.now }
     requires empty { configs.old.items ≡ [] }
     requires room { configs.old.capacity ≡ 16 }
     ensures laid { OnOk result (map arc_value configs.new.items ≡ map config_of (announced_at config.now places.now)) }

@@ -18,6 +18,7 @@ mod stream;
 mod streams;
 mod subscriber;
 
+pub use copying::copy_parts;
 pub use event::{PrivateEvent, PrivateReply};
 pub use laws::{
     changes_are_told, no_slot_needs_no_memory, numbers_are_kept, only_time_ends, runs_go_on,

@@ -1,3 +1,4 @@
+use crate::asserts::same;
 use pg_command::Command;
 use pg_config::{SourceConfig, read_config};
 use pg_data::{DataFrame, read_data};
@@ -103,7 +104,7 @@ fn measured(
     .expect(rt, "memory");
     assert!(rt; is_frame(&bytes));
     assert!(rt; bytes.len() >= 16);
-    assert!(rt; bytes[1] / 16 == 0);
+    same(rt, bytes[1] / 16, 0);
     Ok(read_data(alloc, config, &bytes).expect(rt, "memory"))
 }
 
@@ -154,8 +155,8 @@ fn give(rt: &impl Abort, sub: &mut Subscriber, event: PrivateEvent<'_>) -> Priva
 fn done(rt: &impl Abort, reply: PrivateReply, frames: u64) {
     match reply {
         PrivateReply::Done { made, kept } => {
-            assert!(rt; made == frames);
-            assert!(rt; kept == frames);
+            same(rt, made, frames);
+            same(rt, kept, frames);
         }
         _ => panic!(rt; "not done"),
     }
@@ -164,11 +165,11 @@ fn done(rt: &impl Abort, reply: PrivateReply, frames: u64) {
 // The reply is this refusal.
 fn refused(rt: &impl Abort, reply: PrivateReply, expected: Refusal) {
     match reply {
-        PrivateReply::Refused(refusal) => assert!(rt; refusal == expected),
+        PrivateReply::Refused(refusal) => same(rt, refusal, expected),
         PrivateReply::Drained {
             out: Err(refusal),
             ..
-        } => assert!(rt; refusal == expected),
+        } => same(rt, refusal, expected),
         _ => panic!(rt; "not refused"),
     }
 }
@@ -209,7 +210,7 @@ fn command_refusals(rt: HostRuntime) {
         Refusal::NoSuchStream,
     );
     done(&rt, give(&rt, &mut sub, command(101, 3)), 0);
-    assert!(rt; sub.queue().reply_at(0) == Some(&HEADER_REPLY[..]));
+    same(&rt, sub.queue().reply_at(0), Some(&HEADER_REPLY[..]));
     refused(
         &rt,
         give(&rt, &mut sub, PrivateEvent::Connect),
@@ -222,7 +223,7 @@ fn command_refusals(rt: HostRuntime) {
         give(&rt, &mut sub, PrivateEvent::Drain(buffer)),
         Refusal::NotConnected,
     );
-    assert!(rt; sub.queue().replies() == 0);
+    same(&rt, sub.queue().replies(), 0);
 }
 
 // A subscriber with stream 102 of PMUs 7 and 8, granted, announced and on.
@@ -286,8 +287,8 @@ fn filler_after_wait(rt: HostRuntime) {
     done(&rt, give(&rt, &mut sub, PrivateEvent::Tick(100)), 1);
     match sub.queue().frame_at(0) {
         Some((bytes, gap)) => {
-            assert!(rt; bytes == &WITH_FILLER[..]);
-            assert!(rt; gap == 0);
+            same(&rt, bytes, &WITH_FILLER[..]);
+            same(&rt, gap, 0);
         }
         None => panic!(rt; "no frame"),
     }
@@ -297,14 +298,14 @@ fn filler_after_wait(rt: HostRuntime) {
         give(&rt, &mut sub, PrivateEvent::Measure(&late, &[0])),
         0,
     );
-    assert!(rt; sub.stats().late == 1);
+    same(&rt, sub.stats().late, 1);
     let past = measured(&rt, alloc, &first, u32::MAX, 983_334, &DATA_7).expect(&rt, "memory");
     done(
         &rt,
         give(&rt, &mut sub, PrivateEvent::Measure(&past, &[0])),
         0,
     );
-    assert!(rt; sub.stats().by_reason[20] == 1);
+    same(&rt, sub.stats().by_reason[20], 1);
 }
 
 // How stream 102 stands, of two members, and how many frames and bytes wait.
@@ -320,12 +321,13 @@ fn stands(rt: &impl Abort, sub: &Subscriber, frames: u64, bytes: u64, effective:
         bytes,
         stream: Some(stream),
     };
-    assert!(rt; sub.standing(0) == expected);
+    same(rt, sub.standing(0), expected);
     let next = Standing {
+        frames,
+        bytes,
         stream: None,
-        ..expected
     };
-    assert!(rt; sub.standing(1) == next);
+    same(rt, sub.standing(1), next);
 }
 
 // What waits is counted with the frame in hand. A revoked member is effective no more, and a hang-up leaves nothing and switches off.
@@ -373,7 +375,7 @@ fn take_without_memory(rt: HostRuntime) {
     done(&rt, give(&rt, &mut sub, PrivateEvent::Tick(100)), 0);
     done(&rt, give(&rt, &mut sub, PrivateEvent::Tick(100)), 1);
     match sub.queue().frame_at(0) {
-        Some((bytes, _)) => assert!(&rt; bytes == &WITH_FILLER[..]),
+        Some((bytes, _)) => same(&rt, bytes, &WITH_FILLER[..]),
         None => panic!(&rt; "no frame"),
     }
 }
@@ -413,11 +415,11 @@ fn wait_and_window(rt: HostRuntime) {
     match (sub.queue().frame_at(0), sub.queue().frame_at(1)) {
         (Some((earlier, _)), Some((both, _))) => {
             // Slot 3000 is SOC 100, numerator 0; the filler stands behind PMU 7's block.
-            assert!(rt; earlier.len() == 34);
-            assert!(rt; earlier[6..14] == [0, 0, 0, 100, 0, 0, 0, 0]);
-            assert!(rt; earlier[24..26] == [0x80, 0x00]);
-            assert!(rt; both.len() == 34);
-            assert!(rt; both[10] == 0x64);
+            same(&rt, earlier.len(), 34);
+            same(&rt, &earlier[6..14], &[0, 0, 0, 100, 0, 0, 0, 0]);
+            same(&rt, &earlier[24..26], &[0x80, 0x00]);
+            same(&rt, both.len(), 34);
+            same(&rt, both[10], 0x64);
         }
         _ => panic!(rt; "no frames"),
     }
@@ -427,11 +429,11 @@ fn wait_and_window(rt: HostRuntime) {
 fn lists(rt: &impl Abort, sub: &Subscriber, place: usize, size: usize, pmus: u8, count: u8) {
     match sub.queue().reply_at(place) {
         Some(bytes) => {
-            assert!(rt; bytes.len() == size);
+            same(rt, bytes.len(), size);
             assert!(rt; bytes.len() >= 74);
-            assert!(rt; bytes[18..20] == [0, pmus]);
-            assert!(rt; bytes[36..38] == [0, 7]);
-            assert!(rt; bytes[68..70] == [0, count]);
+            same(rt, &bytes[18..20], &[0, pmus]);
+            same(rt, &bytes[36..38], &[0, 7]);
+            same(rt, &bytes[68..70], &[0, count]);
         }
         None => panic!(rt; "no reply"),
     }
@@ -483,7 +485,7 @@ fn counts_and_flush(rt: HostRuntime) {
         1,
     );
     match sub.queue().frame_at(0) {
-        Some((bytes, _)) => assert!(rt; bytes == &WITH_FILLER[..]),
+        Some((bytes, _)) => same(&rt, bytes, &WITH_FILLER[..]),
         None => panic!(rt; "no frame"),
     }
     done(&rt, give(&rt, &mut sub, command(102, 5)), 0);
@@ -504,13 +506,13 @@ fn wrong_check_then_break(rt: HostRuntime) {
         session.feed(piece);
     }
     match session.next_command() {
-        Next::Ignored(refusal) => assert!(rt; refusal == Refusal::BadCheck),
+        Next::Ignored(refusal) => same(&rt, refusal, Refusal::BadCheck),
         _ => panic!(rt; "not ignored"),
     }
     match session.next_command() {
         Next::Cmd(taken) => {
-            assert!(rt; taken.stream == 101);
-            assert!(rt; taken.word == 5);
+            same(&rt, taken.stream, 101);
+            same(&rt, taken.word, 5);
         }
         _ => panic!(rt; "no command"),
     }
@@ -518,10 +520,10 @@ fn wrong_check_then_break(rt: HostRuntime) {
     session.feed(&[0xAB]);
     for _ in 0..2 {
         match session.next_command() {
-            Next::Broken(refusal) => assert!(rt; refusal == Refusal::BadFirst),
+            Next::Broken(refusal) => same(&rt, refusal, Refusal::BadFirst),
             _ => panic!(rt; "not broken"),
         }
     }
-    assert!(rt; session.stats().taken == 1);
-    assert!(rt; session.stats().by_reason[5] == 1);
+    same(&rt, session.stats().taken, 1);
+    same(&rt, session.stats().by_reason[5], 1);
 }

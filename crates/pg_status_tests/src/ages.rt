@@ -1,5 +1,6 @@
 //! Histograms.
 
+use crate::asserts::same;
 use pg_status::Histogram;
 use std::test::*;
 
@@ -12,10 +13,10 @@ fn ages_at_their_bounds(rt: HostRuntime) {
     ] {
         ages.observe(micros);
     }
-    assert_eq!(rt; ages.counts, [2, 1, 1, 1, 1, 1, 1, 1, 1, 1, 1, 1]);
+    same(&rt, ages.counts, [2, 1, 1, 1, 1, 1, 1, 1, 1, 1, 1, 1]);
     assert!(rt; ages.beyond == 0 && ages.micros == 48_885_000);
     ages.observe(30_000_001);
-    assert!(rt; ages.beyond == 1);
+    same(&rt, ages.beyond, 1);
     ages.observe(u64::MAX);
     assert!(rt; ages.beyond == 2 && ages.micros == u64::MAX);
 }
@@ -30,9 +31,9 @@ fn ages_are_added(rt: HostRuntime) {
     two.observe(8_000);
     two.observe(40_000);
     one.add(&two);
-    assert_eq!(rt; one.counts, [0, 2, 0, 1, 0, 0, 0, 0, 0, 0, 0, 0]);
+    same(&rt, one.counts, [0, 2, 0, 1, 0, 0, 0, 0, 0, 0, 0, 0]);
     assert!(rt; one.beyond == 1 && one.micros == 60_055_000);
     two.micros = u64::MAX;
     one.add(&two);
-    assert!(rt; one.micros == u64::MAX);
+    same(&rt, one.micros, u64::MAX);
 }

@@ -1,5 +1,6 @@
 //! What heads ask for, each read whole and byte by byte.
 
+use crate::asserts::same;
 use pg_status::{Denial, HEAD_BYTES, Request, Shown, read_request};
 use std::alloc::Global;
 use std::process::Abort;
@@ -77,7 +78,11 @@ fn pieces_of_a_head(rt: HostRuntime) {
         let piece = head.as_slice().get(..size).unwrap_or(b"");
         assert_eq!(rt; read_request(piece), Request::Partial, "{size}");
     }
-    assert_eq!(rt; read_request(head.as_slice()), show(Shown::State, false));
+    same(
+        &rt,
+        read_request(head.as_slice()),
+        show(Shown::State, false),
+    );
 }
 
 /// A head of so many bytes, of which a field is as long as need be.
@@ -95,12 +100,12 @@ fn heads_at_the_bound(rt: HostRuntime) {
     let alloc = rt.alloc();
     let head = long_head(&rt, alloc, 8192);
     assert!(rt; head.len() == 8192 && HEAD_BYTES == 8192);
-    assert_eq!(rt; read_request(head.as_slice()), show(Shown::Page, false));
+    same(&rt, read_request(head.as_slice()), show(Shown::Page, false));
     let piece = head.as_slice().get(..8191).unwrap_or(b"");
-    assert_eq!(rt; read_request(piece), Request::Partial);
+    same(&rt, read_request(piece), Request::Partial);
     let head = long_head(&rt, alloc, 8193);
     let piece = head.as_slice().get(..8192).unwrap_or(b"");
-    assert_eq!(rt; read_request(piece), deny(Denial::TooLarge, false));
+    same(&rt, read_request(piece), deny(Denial::TooLarge, false));
 }
 
 #[test]

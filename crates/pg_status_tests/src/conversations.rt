@@ -1,5 +1,6 @@
 //! Clients of the control socket, over memory: each row is what they send, what comes back, and how they were answered.
 
+use crate::asserts::same;
 use crate::wires::Takes;
 use pg_status::{Answered, BUSY, converse};
 use pg_wire::Refusal;
@@ -196,7 +197,7 @@ fn what_fails_is_told(rt: HostRuntime) {
     let line = format!(in alloc; "refused {} {}\n", busy.number(), busy.name()).expect(
         &rt, "memory",
     );
-    assert!(rt; line.as_bytes() == BUSY);
+    same(&rt, line.as_bytes(), BUSY);
     let back = Back {
         left: b"",
         then: Some(ErrorKind::PermissionDenied),

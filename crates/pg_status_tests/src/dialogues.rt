@@ -1,5 +1,6 @@
 //! Clients that send lines, over memory.
 
+use crate::asserts::same;
 use crate::wires::{Sends, Takes};
 use pg_status::{Answer, Dialogue, LINE_BYTES, LineKind, Lines, OWED_BYTES, Turned, kind_of};
 use std::alloc::Global;
@@ -49,7 +50,7 @@ fn answered(rt: &impl Abort, alloc: Global, bytes: &[u8], most: usize) -> Vec<u8
         match dialogue.serve(&mut reader, &mut out, &mut Echo) {
             Turned::More => {}
             turned => {
-                assert_eq!(rt; turned, Turned::Gone);
+                same(rt, turned, Turned::Gone);
                 break;
             }
         }
@@ -67,7 +68,11 @@ fn lines_are_answered(rt: HostRuntime) {
         assert!(rt; told.as_slice() == wanted.as_slice(), "{most}");
     }
     assert!(rt; answered(&rt, alloc, b"", 1).is_empty());
-    assert!(rt; answered(&rt, alloc, b"a\n", 9).as_slice() == b"[a]\n".as_slice());
+    same(
+        &rt,
+        answered(&rt, alloc, b"a\n", 9).as_slice(),
+        b"[a]\n".as_slice(),
+    );
 }
 
 /// Lines of 4,096 and 4,097 bytes, and one between them and behind them.
@@ -108,23 +113,26 @@ fn long_lines(rt: HostRuntime) {
 #[test]
 fn clients_that_read_late(rt: HostRuntime) {
     let alloc = rt.alloc();
-    assert_eq!(rt; OWED_BYTES, 1_048_576);
+    same(&rt, OWED_BYTES, 1_048_576);
     let mut dialogue = Dialogue::new(alloc);
     let mut out = taker(alloc);
     out.writes = 0;
     let mut reader = Sends::all(b"large\n");
-    assert_eq!(rt;
+    same(
+        &rt,
         dialogue.serve(&mut reader, &mut out, &mut Echo),
-        Turned::Waits
+        Turned::Waits,
     );
-    assert_eq!(rt;
+    same(
+        &rt,
         dialogue.serve(&mut reader, &mut out, &mut Echo),
-        Turned::Waits
+        Turned::Waits,
     );
     let mut reader = Sends::all(b"large\n");
-    assert_eq!(rt;
+    same(
+        &rt,
         dialogue.serve(&mut reader, &mut out, &mut Echo),
-        Turned::Gone
+        Turned::Gone,
     );
     let mut dialogue = Dialogue::new(alloc);
     let mut reader = Sends::all(b"large\n");
@@ -132,17 +140,19 @@ fn clients_that_read_late(rt: HostRuntime) {
     for _ in 0..3u32 {
         out.writes = 0;
         reader.left = b"large\n";
-        assert_eq!(rt;
+        same(
+            &rt,
             dialogue.serve(&mut reader, &mut out, &mut Echo),
-            Turned::Waits
+            Turned::Waits,
         );
         out.writes = 1;
-        assert_eq!(rt;
+        same(
+            &rt,
             dialogue.serve(&mut reader, &mut out, &mut Echo),
-            Turned::Waits
+            Turned::Waits,
         );
     }
-    assert_eq!(rt; out.taken.len(), 1_800_000);
+    same(&rt, out.taken.len(), 1_800_000);
 }
 
 /// A line of a megabyte without an end keeps 4,096 bytes, is answered by nothing, and is `BadLine` where it ends.
@@ -154,23 +164,26 @@ fn a_line_without_end(rt: HostRuntime) {
     let piece = [b'x'; 16_384];
     for _ in 0..64u32 {
         let mut reader = Sends::all(&piece);
-        assert_eq!(rt;
+        same(
+            &rt,
             dialogue.serve(&mut reader, &mut out, &mut Echo),
-            Turned::More
+            Turned::More,
         );
-        assert_eq!(rt;
+        same(
+            &rt,
             dialogue.serve(&mut reader, &mut out, &mut Echo),
-            Turned::Waits
+            Turned::Waits,
         );
         assert!(rt; reader.left.is_empty() && out.taken.is_empty());
     }
     let mut reader = Sends::all(b"\na\n");
-    assert_eq!(rt;
+    same(
+        &rt,
         dialogue.serve(&mut reader, &mut out, &mut Echo),
-        Turned::Waits
+        Turned::Waits,
     );
     let told = b"refused 36 BadLine\n[a]\n";
-    assert!(rt; out.taken.as_slice() == told.as_slice());
+    same(&rt, out.taken.as_slice(), told.as_slice());
 }
 
 /// Of 40 lines that have come at once 16 are answered in a call, and then 16, and then 8.
@@ -192,16 +205,17 @@ fn sixteen_lines_a_call(rt: HostRuntime) {
     ] {
         let told = dialogue.serve(&mut reader, &mut out, &mut Echo);
         assert_eq!(rt; told, turned, "{lines}");
-        assert_eq!(rt; out.taken.len(), lines.saturating_mul(4));
+        same(&rt, out.taken.len(), lines.saturating_mul(4));
     }
     // They are counted where they ask for nothing too.
     let empty = [b'\n'; 1000];
     let mut reader = Sends::all(&empty);
-    assert_eq!(rt;
+    same(
+        &rt,
         dialogue.serve(&mut reader, &mut out, &mut Echo),
-        Turned::More
+        Turned::More,
     );
-    assert_eq!(rt; out.taken.len(), 40 * 4 + 16 * 3);
+    same(&rt, out.taken.len(), 40 * 4 + 16 * 3);
 }
 
 /// What is between spaces is `quit`, and just `end` is `end`.
@@ -210,7 +224,7 @@ fn kinds_of_lines(rt: HostRuntime) {
     for line in ["quit", " quit", "quit  ", "   quit "] {
         assert_eq!(rt; kind_of(line.as_bytes()), LineKind::Quit, "{line}");
     }
-    assert_eq!(rt; kind_of(b"end"), LineKind::End);
+    same(&rt, kind_of(b"end"), LineKind::End);
     for line in [
         "", " ", "qui", "quite", "quit now", "Quit", "\tquit", "end ", " end", "ends", "en",
         "status",
@@ -224,30 +238,39 @@ fn kinds_of_lines(rt: HostRuntime) {
 fn quit_is_the_last_line(rt: HostRuntime) {
     let alloc = rt.alloc();
     let text = b"one\r\nend\n quit \r\ntwo\n";
-    assert!(rt;
-        answered(&rt, alloc, text.as_slice(), 9).as_slice() == b"[one]\nend\n[ quit ]\n".as_slice()
+    same(
+        &rt,
+        answered(&rt, alloc, text.as_slice(), 9).as_slice(),
+        b"[one]\nend\n[ quit ]\n".as_slice(),
     );
-    assert!(rt; answered(&rt, alloc, b"a\nquit", 9).as_slice() == b"[a]\n[quit]\n".as_slice());
+    same(
+        &rt,
+        answered(&rt, alloc, b"a\nquit", 9).as_slice(),
+        b"[a]\n[quit]\n".as_slice(),
+    );
     let mut dialogue = Dialogue::new(alloc);
     let mut out = taker(alloc);
     out.writes = 0;
     let mut reader = Sends::all(b"one\nquit\ntwo\n");
     for _ in 0..3u32 {
-        assert_eq!(rt;
+        same(
+            &rt,
             dialogue.serve(&mut reader, &mut out, &mut Echo),
-            Turned::Waits
+            Turned::Waits,
         );
     }
     out.writes = 1;
-    assert_eq!(rt;
+    same(
+        &rt,
         dialogue.serve(&mut reader, &mut out, &mut Echo),
-        Turned::More
+        Turned::More,
     );
-    assert!(rt; out.taken.as_slice() == b"[one]\n".as_slice());
+    same(&rt, out.taken.as_slice(), b"[one]\n".as_slice());
     out.writes = 9;
-    assert_eq!(rt;
+    same(
+        &rt,
         dialogue.serve(&mut reader, &mut out, &mut Echo),
-        Turned::Gone
+        Turned::Gone,
     );
-    assert!(rt; out.taken.as_slice() == b"[one]\n[quit]\n".as_slice());
+    same(&rt, out.taken.as_slice(), b"[one]\n[quit]\n".as_slice());
 }

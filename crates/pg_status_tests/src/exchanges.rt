@@ -1,5 +1,6 @@
 //! Connections of HTTP over memory, with a clock that the test moves.
 
+use crate::asserts::same;
 use crate::wires::{Sends, Takes};
 use pg_status::{Exchange, Shown, Step};
 use std::alloc::Global;
@@ -47,24 +48,30 @@ fn one_answer(rt: HostRuntime) {
     let start = now(&rt);
     let mut exchange = Exchange::new(alloc, start);
     let mut out = taker(alloc);
-    assert_eq!(rt;
+    same(
+        &rt,
         exchange.serve(&mut Sends::all(b""), &mut out, start),
-        Step::Waits
+        Step::Waits,
     );
     let step = exchange.serve(&mut Sends::all(METRICS), &mut out, start);
-    assert_eq!(rt; step, Step::Asks(Shown::Metrics));
+    same(&rt, step, Step::Asks(Shown::Metrics));
     exchange.answer(b"up 1\n").expect(&rt, "memory");
     let mut reader = Sends::all(b"more that nobody reads");
-    assert_eq!(rt; exchange.serve(&mut reader, &mut out, start), Step::Sent);
-    assert!(rt; out.taken.as_slice() == ANSWER.as_bytes());
-    assert_eq!(rt;
+    same(
+        &rt,
+        exchange.serve(&mut reader, &mut out, start),
+        Step::Sent,
+    );
+    same(&rt, out.taken.as_slice(), ANSWER.as_bytes());
+    same(
+        &rt,
         exchange.serve(&mut Sends::all(b"more"), &mut out, start),
-        Step::Waits
+        Step::Waits,
     );
     let mut end = Sends::all(b"");
     end.is_closed = true;
-    assert_eq!(rt; exchange.serve(&mut end, &mut out, start), Step::Gone);
-    assert!(rt; out.taken.as_slice() == ANSWER.as_bytes());
+    same(&rt, exchange.serve(&mut end, &mut out, start), Step::Gone);
+    same(&rt, out.taken.as_slice(), ANSWER.as_bytes());
 }
 
 /// Pieces of a byte each in 16 reads a call; then a writer that takes a byte at a time, two a call.
@@ -75,17 +82,27 @@ fn byte_by_byte(rt: HostRuntime) {
     let mut exchange = Exchange::new(alloc, start);
     let mut out = taker(alloc);
     let mut reader = Sends::bytes(METRICS, 20);
-    assert_eq!(rt; exchange.serve(&mut reader, &mut out, start), Step::More);
-    assert_eq!(rt; exchange.serve(&mut reader, &mut out, start), Step::Waits);
-    reader.reads = 15;
-    assert_eq!(rt;
+    same(
+        &rt,
         exchange.serve(&mut reader, &mut out, start),
-        Step::Asks(Shown::Metrics)
+        Step::More,
+    );
+    same(
+        &rt,
+        exchange.serve(&mut reader, &mut out, start),
+        Step::Waits,
+    );
+    reader.reads = 15;
+    same(
+        &rt,
+        exchange.serve(&mut reader, &mut out, start),
+        Step::Asks(Shown::Metrics),
     );
     assert!(rt; reader.left.is_empty());
-    assert_eq!(rt;
+    same(
+        &rt,
         exchange.serve(&mut reader, &mut out, start),
-        Step::Asks(Shown::Metrics)
+        Step::Asks(Shown::Metrics),
     );
     exchange.answer(b"up 1\n").expect(&rt, "memory");
     exchange.answer(b"not asked for").expect(&rt, "memory");
@@ -95,14 +112,14 @@ fn byte_by_byte(rt: HostRuntime) {
         out.writes = 2;
         calls = calls.saturating_add(1);
         match exchange.serve(&mut reader, &mut out, start) {
-            Step::Waits => assert_eq!(rt; out.taken.len(), 2usize.saturating_mul(calls)),
+            Step::Waits => same(&rt, out.taken.len(), 2usize.saturating_mul(calls)),
             step => {
-                assert_eq!(rt; step, Step::Sent);
+                same(&rt, step, Step::Sent);
                 break;
             }
         }
     }
-    assert!(rt; out.taken.as_slice() == ANSWER.as_bytes());
+    same(&rt, out.taken.as_slice(), ANSWER.as_bytes());
 }
 
 /// A client that asks, shuts its side and then reads gets all of the answer.
@@ -114,20 +131,33 @@ fn half_closed(rt: HostRuntime) {
     let mut out = taker(alloc);
     let mut reader = Sends::all(b"HEAD /state HTTP/1.1\r\n\r\n");
     reader.is_closed = true;
-    assert_eq!(rt;
+    same(
+        &rt,
         exchange.serve(&mut reader, &mut out, start),
-        Step::Asks(Shown::State)
+        Step::Asks(Shown::State),
     );
     exchange.answer(b"{\"a\"}").expect(&rt, "memory");
     out.writes = 0;
-    assert_eq!(rt; exchange.serve(&mut reader, &mut out, start), Step::Waits);
+    same(
+        &rt,
+        exchange.serve(&mut reader, &mut out, start),
+        Step::Waits,
+    );
     out.writes = 9;
-    assert_eq!(rt; exchange.serve(&mut reader, &mut out, start), Step::Gone);
-    assert!(rt; out.taken.as_slice() == ALONE.as_bytes());
+    same(
+        &rt,
+        exchange.serve(&mut reader, &mut out, start),
+        Step::Gone,
+    );
+    same(&rt, out.taken.as_slice(), ALONE.as_bytes());
     let mut exchange = Exchange::new(alloc, start);
     let mut reader = Sends::all(b"GET / HT");
     reader.is_closed = true;
-    assert_eq!(rt; exchange.serve(&mut reader, &mut out, start), Step::Gone);
+    same(
+        &rt,
+        exchange.serve(&mut reader, &mut out, start),
+        Step::Gone,
+    );
 }
 
 #[test]
@@ -162,7 +192,7 @@ fn a_megabyte(rt: HostRuntime) {
     let mut out = taker(alloc);
     let mut reader = Sends::all(head.as_slice());
     let step = exchange.serve(&mut reader, &mut out, start);
-    assert_eq!(rt; step, Step::Sent);
+    same(&rt, step, Step::Sent);
     let told = String::from_utf8_lossy(alloc, out.taken.as_slice()).expect(&rt, "memory");
     let begin = "HTTP/1.1 431 Request Header Fields Too Large\r\n";
     assert!(rt; told.as_str().starts_with(begin), "{told}");
@@ -172,7 +202,7 @@ fn a_megabyte(rt: HostRuntime) {
         match exchange.serve(&mut reader, &mut out, start) {
             Step::More => {}
             step => {
-                assert_eq!(rt; step, Step::Waits);
+                same(&rt, step, Step::Waits);
                 break;
             }
         }
@@ -191,23 +221,27 @@ fn slow_clients(rt: HostRuntime) {
     for second in 0..5u64 {
         let at = later(&rt, start, second.saturating_mul(1000));
         reader.reads = 1;
-        assert_eq!(rt; exchange.serve(&mut reader, &mut out, at), Step::Waits);
+        same(&rt, exchange.serve(&mut reader, &mut out, at), Step::Waits);
         let left = Duration::from_secs(5u64.saturating_sub(second));
         assert!(rt; exchange.left(at) == left, "{second}");
     }
     let at = later(&rt, start, 4_999);
-    assert_eq!(rt; exchange.serve(&mut reader, &mut out, at), Step::Waits);
-    assert!(rt; exchange.left(at) == Duration::from_millis(1));
+    same(&rt, exchange.serve(&mut reader, &mut out, at), Step::Waits);
+    same(&rt, exchange.left(at), Duration::from_millis(1));
     let at = later(&rt, start, 5_000);
     reader.reads = 1000;
-    assert_eq!(rt; exchange.serve(&mut reader, &mut out, at), Step::Gone);
+    same(&rt, exchange.serve(&mut reader, &mut out, at), Step::Gone);
     assert!(rt; exchange.left(at).is_zero() && out.taken.is_empty());
     let mut exchange = Exchange::new(alloc, start);
     let step = exchange.serve(&mut Sends::all(METRICS), &mut out, start);
-    assert_eq!(rt; step, Step::Asks(Shown::Metrics));
+    same(&rt, step, Step::Asks(Shown::Metrics));
     exchange.answer(b"up 1\n").expect(&rt, "memory");
     out.writes = 0;
     let mut quiet = Sends::all(b"");
-    assert_eq!(rt; exchange.serve(&mut quiet, &mut out, start), Step::Waits);
-    assert_eq!(rt; exchange.serve(&mut quiet, &mut out, at), Step::Gone);
+    same(
+        &rt,
+        exchange.serve(&mut quiet, &mut out, start),
+        Step::Waits,
+    );
+    same(&rt, exchange.serve(&mut quiet, &mut out, at), Step::Gone);
 }

@@ -6,6 +6,8 @@ mod ages;
 #[cfg(test)]
 mod asked;
 #[cfg(test)]
+mod asserts;
+#[cfg(test)]
 mod conversations;
 #[cfg(test)]
 mod dialogues;

@@ -1,5 +1,6 @@
 //! Lines of status, and metrics.
 
+use crate::asserts::same;
 use crate::fixture::snapshot;
 use pg_status::{Histogram, History, Shown, contents_of, print_metrics, print_status};
 use std::alloc::Global;
@@ -135,7 +136,7 @@ fn compare(rt: &impl Abort, alloc: Global, printed: &[u8], wanted: &str) {
     let printed = String::from_utf8_lossy(alloc, printed).expect(rt, "memory");
     let mut lines = printed.as_str().split('\n');
     for wanted in wanted.split('\n') {
-        assert_eq!(rt; lines.next().unwrap_or("no line"), wanted);
+        same(rt, lines.next().unwrap_or("no line"), wanted);
     }
     assert!(rt; lines.next().is_none());
 }

@@ -1,5 +1,6 @@
 //! History, and the state as JSON.
 
+use crate::asserts::same;
 use crate::fixture::{snapshot, source, subscriber};
 use pg_status::{Call, Frames, History, Presence, Snapshot, Total, state_json};
 use pg_wire::SubId;
@@ -23,7 +24,7 @@ fn seconds(rt: &impl Abort, alloc: Global, history: &History, sub: u16) -> (Vec<
         handed.push(second.handed).expect(rt, "memory");
         dropped.push(second.dropped).expect(rt, "memory");
     }
-    assert!(rt; handed.len() == past.len());
+    same(rt, handed.len(), past.len());
     (handed, dropped)
 }
 
@@ -38,16 +39,16 @@ fn seconds_of_counts(rt: HostRuntime) {
     let totals = [total(&rt, 2, 7, 1), total(&rt, 1, 12, 5)];
     history.note(&totals).expect(&rt, "memory");
     let (handed, dropped) = seconds(&rt, alloc, &history, 1);
-    assert!(rt; handed.as_slice() == [30, 30, 12].as_slice());
-    assert!(rt; dropped.as_slice() == [0, 5, 0].as_slice());
+    same(&rt, handed.as_slice(), [30, 30, 12].as_slice());
+    same(&rt, dropped.as_slice(), [0, 5, 0].as_slice());
     let (handed, dropped) = seconds(&rt, alloc, &history, 2);
-    assert!(rt; handed.as_slice() == [7, 0].as_slice());
-    assert!(rt; dropped.as_slice() == [1, 0].as_slice());
+    same(&rt, handed.as_slice(), [7, 0].as_slice());
+    same(&rt, dropped.as_slice(), [1, 0].as_slice());
     history.note(&[total(&rt, 2, 8, 1)]).expect(&rt, "memory");
     let gone = SubId::new(1).expect(&rt, "a number");
     assert!(rt; history.past_of(gone).is_none());
     let (handed, _) = seconds(&rt, alloc, &history, 2);
-    assert!(rt; handed.as_slice() == [7, 0, 1].as_slice());
+    same(&rt, handed.as_slice(), [7, 0, 1].as_slice());
 }
 
 /// Of 302 seconds the last 300 are remembered. In second n so many frames are handed out.
@@ -63,8 +64,8 @@ fn three_hundred_seconds(rt: HostRuntime) {
     }
     let (handed, dropped) = seconds(&rt, alloc, &history, 9);
     assert!(rt; handed.len() == 300 && dropped.len() == 300);
-    assert_eq!(rt; handed.as_slice().first().copied(), Some(3));
-    assert_eq!(rt; handed.as_slice().last().copied(), Some(302));
+    same(&rt, handed.as_slice().first().copied(), Some(3));
+    same(&rt, handed.as_slice().last().copied(), Some(302));
 }
 
 const STATE: &str =
@@ -77,7 +78,7 @@ fn state_as_json(rt: HostRuntime) {
     history.note(&[total(&rt, 1, 30, 0)]).expect(&rt, "memory");
     history.note(&[total(&rt, 1, 90, 4)]).expect(&rt, "memory");
     let state = state_json(alloc, &snapshot(&rt, alloc), &history).expect(&rt, "memory");
-    assert_eq!(rt; state.as_str(), STATE);
+    same(&rt, state.as_str(), STATE);
 }
 
 /// Marks, a backslash, a line's end, a control byte, and a letter beyond ASCII in an address.

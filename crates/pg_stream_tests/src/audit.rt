@@ -1,3 +1,4 @@
+use crate::asserts::same;
 use pg_audit::*;
 use pg_wire::Refusal;
 use std::test::Fail;
@@ -6,7 +7,7 @@ use std::test::Fail;
 #[test]
 fn stored_run(rt: HostRuntime) {
     let mut audit = Audit::new(rt.alloc()).expect(&rt, "memory");
-    assert_eq!(rt; audit.last(0).is_none(), true);
+    same(&rt, audit.last(0).is_none(), true);
     audit.note(What::AddSub, None);
     audit.note(What::Grant, None);
     audit.note(What::Define, None);
@@ -14,19 +15,20 @@ fn stored_run(rt: HostRuntime) {
     audit.note(What::Command, None);
     audit.note(What::Command, None);
     let newest = audit.last(0).expect(&rt, "no entry");
-    assert_eq!(rt; newest.turn, 6);
-    assert_eq!(rt; newest.what.number(), 8);
-    assert_eq!(rt; newest.result_number(), 0);
+    same(&rt, newest.turn, 6);
+    same(&rt, newest.what.number(), 8);
+    same(&rt, newest.result_number(), 0);
     let oldest = audit.last(5).expect(&rt, "no entry");
-    assert_eq!(rt;
+    same(
+        &rt,
         oldest,
         Entry {
             turn: 1,
             what: What::AddSub,
-            code: None
-        }
+            code: None,
+        },
     );
-    assert_eq!(rt; audit.last(6).is_none(), true);
+    same(&rt, audit.last(6).is_none(), true);
     let mut stats = Stats::new();
     stats.count_reply();
     stats.count_made(1);
@@ -35,7 +37,7 @@ fn stored_run(rt: HostRuntime) {
     expected.made = 1;
     expected.handed = 100;
     expected.replies = 1;
-    assert_eq!(rt; stats, expected);
+    same(&rt, stats, expected);
 }
 
 #[test]
@@ -46,25 +48,27 @@ fn newest_sixty_four(rt: HostRuntime) {
     }
     audit.note(What::Grant, Some(Refusal::NoSuchPmu));
     let newest = audit.last(0).expect(&rt, "no entry");
-    assert_eq!(rt;
+    same(
+        &rt,
         newest,
         Entry {
             turn: 71,
             what: What::Grant,
-            code: Some(Refusal::NoSuchPmu)
-        }
+            code: Some(Refusal::NoSuchPmu),
+        },
     );
-    assert_eq!(rt; newest.result_number(), 23);
+    same(&rt, newest.result_number(), 23);
     let oldest = audit.last(63).expect(&rt, "no entry");
-    assert_eq!(rt;
+    same(
+        &rt,
         oldest,
         Entry {
             turn: 8,
             what: What::Command,
-            code: Some(Refusal::ReplyFull)
-        }
+            code: Some(Refusal::ReplyFull),
+        },
     );
-    assert_eq!(rt; audit.last(64).is_none(), true);
+    same(&rt, audit.last(64).is_none(), true);
 }
 
 #[test]
@@ -80,17 +84,17 @@ fn counters_saturate(rt: HostRuntime) {
     stats.count_cleared(2);
     stats.count_refusal(Refusal::ReplyFull);
     stats.count_refusal(Refusal::ReplyFull);
-    assert_eq!(rt; stats.handed, 18_446_744_073_709_551_615);
-    assert_eq!(rt; stats.dropped, 5);
-    assert_eq!(rt; stats.lost, 1);
-    assert_eq!(rt; stats.late, 1);
-    assert_eq!(rt; stats.twice, 1);
-    assert_eq!(rt; stats.cleared, 2);
-    assert_eq!(rt; stats.by_reason[12], 2);
-    assert_eq!(rt; stats.by_reason[11], 0);
+    same(&rt, stats.handed, 18_446_744_073_709_551_615);
+    same(&rt, stats.dropped, 5);
+    same(&rt, stats.lost, 1);
+    same(&rt, stats.late, 1);
+    same(&rt, stats.twice, 1);
+    same(&rt, stats.cleared, 2);
+    same(&rt, stats.by_reason[12], 2);
+    same(&rt, stats.by_reason[11], 0);
     let mut pmu = PmuStats::new();
     pmu.count_taken();
     pmu.count_refusal(Refusal::WriteFault);
-    assert_eq!(rt; pmu.taken, 1);
-    assert_eq!(rt; pmu.by_reason[40], 1);
+    same(&rt, pmu.taken, 1);
+    same(&rt, pmu.by_reason[40], 1);
 }

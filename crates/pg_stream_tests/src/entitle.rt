@@ -1,3 +1,4 @@
+use crate::asserts::same;
 use pg_entitle::*;
 use pg_wire::{PmuId, PmuKey, Refusal};
 use std::test::*;
@@ -14,17 +15,17 @@ fn key(source: u16, pmu: u16) -> Option<PmuKey> {
 fn limits_and_refusals(rt: HostRuntime) -> Result<(), Fail> {
     let mut grants = Grants::new(rt.alloc())?;
     for pmu in 1..33u16 {
-        assert_eq!(rt; grants.grant(key(7, pmu).ok_or("a key")?), Ok(()));
+        same(&rt, grants.grant(key(7, pmu).ok_or("a key")?), Ok(()));
     }
-    assert_eq!(rt; grants.is_full(), true);
+    same(&rt, grants.is_full(), true);
     let other = key(7, 33).ok_or("a key")?;
-    assert_eq!(rt; grants.grant(other), Err(Refusal::GrantsFull));
-    assert_eq!(rt; grants.revoke(other), Err(Refusal::NotGranted));
+    same(&rt, grants.grant(other), Err(Refusal::GrantsFull));
+    same(&rt, grants.revoke(other), Err(Refusal::NotGranted));
     let held = key(7, 7).ok_or("a key")?;
-    assert_eq!(rt; grants.grant(held), Ok(()));
-    assert_eq!(rt; grants.revoke(held), Ok(()));
-    assert_eq!(rt; grants.holds(held), false);
-    assert_eq!(rt; grants.len(), 31);
+    same(&rt, grants.grant(held), Ok(()));
+    same(&rt, grants.revoke(held), Ok(()));
+    same(&rt, grants.holds(held), false);
+    same(&rt, grants.len(), 31);
     Ok(())
 }
 
@@ -35,8 +36,8 @@ fn sorted(rt: HostRuntime) -> Result<(), Fail> {
     grants.grant(key(2, 1).ok_or("a key")?)?;
     grants.grant(key(1, 65534).ok_or("a key")?)?;
     let by_source = [key(1, 65534).ok_or("a key")?, key(2, 1).ok_or("a key")?];
-    assert_eq!(rt; grants.sorted(), by_source.as_slice());
-    assert_eq!(rt; grants.holds(key(2, 1).ok_or("a key")?), true);
+    same(&rt, grants.sorted(), by_source.as_slice());
+    same(&rt, grants.holds(key(2, 1).ok_or("a key")?), true);
     Ok(())
 }
 
@@ -51,7 +52,11 @@ fn guessed_grants(rt: HostRuntime) -> Result<(), Fail> {
         for pmu in 1..7u16 {
             let asked = key(7, pmu).ok_or("a key")?;
             let mut next = guess;
-            assert_eq!(rt; grants.holds_next(asked, &mut next), grants.holds(asked));
+            same(
+                &rt,
+                grants.holds_next(asked, &mut next),
+                grants.holds(asked),
+            );
         }
     }
     Ok(())
@@ -67,7 +72,7 @@ fn grants_in_order(rt: HostRuntime) -> Result<(), Fail> {
     }
     for pmu in 1..9u16 {
         assert!(rt; grants.holds_next(key(7, pmu).ok_or("a key")?, &mut next));
-        assert_eq!(rt; next, usize::from(pmu));
+        same(&rt, next, usize::from(pmu));
     }
     Ok(())
 }

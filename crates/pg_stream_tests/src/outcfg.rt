@@ -1,6 +1,7 @@
 ghost use Rattle.std.specs.Prelude.{IfOk};
 ghost use Rattle.pg_stream.specs.Limits.{IsWithinLimits};
 
+use crate::asserts::same;
 use pg_config::{SourceConfig, read_config};
 use pg_data::{SharedBlock, read_data};
 use pg_outcfg::*;
@@ -104,7 +105,7 @@ fn block(
     let bytes = framed(alloc, &[&head, body]).expect(rt, "memory");
     assert!(rt; is_frame(&bytes));
     assert!(rt; bytes.len() >= 16);
-    assert!(rt; bytes[1] / 16 == 0);
+    same(rt, bytes[1] / 16, 0);
     let frame = read_data(alloc, config, &bytes).expect(rt, "memory");
     assert!(rt; place < frame.count());
     Ok(Some(SharedBlock::new(frame, place)))
@@ -161,7 +162,7 @@ fn frame_3001(
 ) -> Result<Vec<u8>, AllocError>
     requires { IsWithinLimits definition.now }
 {
-    assert!(rt; parts.len() == definition.members.as_slice().len());
+    same(rt, parts.len(), definition.members.as_slice().len());
     let frame = data_frame(alloc, definition, 3001, list, parts).expect(rt, "memory");
     // Whatever size is guessed it is the same frame, and its size is the next guess.
     for guess in [
@@ -175,8 +176,8 @@ fn frame_3001(
     ] {
         let mut size = guess;
         let near = data_frame_near(alloc, definition, 3001, list, parts, &mut size);
-        assert!(rt; near.expect(rt, "memory").as_slice() == frame.as_slice());
-        assert!(rt; usize::from(size) == frame.len());
+        same(rt, near.expect(rt, "memory").as_slice(), frame.as_slice());
+        same(rt, usize::from(size), frame.len());
     }
     Ok(frame)
 }
@@ -187,9 +188,9 @@ fn count_wrap_and_empty_config(rt: HostRuntime) {
     for _ in 0..65_535 {
         out.changed();
     }
-    assert_eq!(rt; out.count(), 65_535);
+    same(&rt, out.count(), 65_535);
     out.changed();
-    assert_eq!(rt; out.count(), 0);
+    same(&rt, out.count(), 0);
     let definition = stream(rt.alloc(), 101, &[key(7, 7).expect(&rt, "reserved")]).expect(
         &rt, "memory",
     );
@@ -201,9 +202,10 @@ fn count_wrap_and_empty_config(rt: HostRuntime) {
             &ConfigList::new(rt.alloc()).expect(&rt, "memory"),
         )
         .expect(&rt, "memory");
-    assert_eq!(rt;
+    same(
+        &rt,
         frame.as_slice(),
-        b"\xAA\x32\x00\x18\x00\x65\x00\x00\x00\x00\x0F\x00\x00\x00\x00\x0F\x42\x40\x00\x00\x00\x1E\xDF\xE6".as_slice()
+        b"\xAA\x32\x00\x18\x00\x65\x00\x00\x00\x00\x0F\x00\x00\x00\x00\x0F\x42\x40\x00\x00\x00\x1E\xDF\xE6".as_slice(),
     );
 }
 
@@ -216,11 +218,12 @@ fn first_path(rt: HostRuntime) {
     put_all(&rt, &mut list, &config).expect(&rt, "memory");
     let mut out = OutCfg::new();
     out.changed();
-    assert_eq!(rt;
+    same(
+        &rt,
         out.cfg2(alloc, &definition, 0, &list)
             .expect(&rt, "memory")
             .as_slice(),
-        CONFIG_REPLY.as_slice()
+        CONFIG_REPLY.as_slice(),
     );
     let part = block(
         &rt,
@@ -232,9 +235,10 @@ fn first_path(rt: HostRuntime) {
     )
     .expect(&rt, "memory");
     let frame = frame_3001(&rt, alloc, &definition, &list, &[part]).expect(&rt, "memory");
-    assert_eq!(rt;
+    same(
+        &rt,
         frame.as_slice(),
-        b"\xAA\x02\x00\x1A\x00\x65\x00\x00\x00\x64\x00\x00\x82\x35\x00\x00\x10\x00\x20\x00\x00\x00\x00\x00\x72\x76".as_slice()
+        b"\xAA\x02\x00\x1A\x00\x65\x00\x00\x00\x64\x00\x00\x82\x35\x00\x00\x10\x00\x20\x00\x00\x00\x00\x00\x72\x76".as_slice(),
     );
 }
 
@@ -246,11 +250,12 @@ fn header_and_quality(rt: HostRuntime) {
         key(8, 8).expect(&rt, "reserved"),
     );
     let definition = stream(alloc, 101, &[seven, eight]).expect(&rt, "memory");
-    assert_eq!(rt;
+    same(
+        &rt,
         header(alloc, &definition, 0)
             .expect(&rt, "memory")
             .as_slice(),
-        b"\xAA\x12\x00\x15\x00\x65\x00\x00\x00\x00\x0F\x00\x00\x00\x48\x65\x6C\x6C\x6F\x17\x45".as_slice()
+        b"\xAA\x12\x00\x15\x00\x65\x00\x00\x00\x00\x0F\x00\x00\x00\x48\x65\x6C\x6C\x6F\x17\x45".as_slice(),
     );
     let (config_7, config_8) = (
         source_7(&rt, alloc).expect(&rt, "memory"),
@@ -264,8 +269,8 @@ fn header_and_quality(rt: HostRuntime) {
         block(&rt, alloc, &config_8, 0x43, &[0; 8], 0).expect(&rt, "memory"),
     ];
     let frame = frame_3001(&rt, alloc, &definition, &list, &parts).expect(&rt, "memory");
-    assert_eq!(rt; frame.len(), 34);
-    assert_eq!(rt; frame[10], 0x64);
+    same(&rt, frame.len(), 34);
+    same(&rt, frame[10], 0x64);
 }
 
 #[test]
@@ -293,9 +298,10 @@ fn filler_after_wait(rt: HostRuntime) {
     )
     .expect(&rt, "memory");
     let frame = frame_3001(&rt, alloc, &definition, &list, &[part, None]).expect(&rt, "memory");
-    assert_eq!(rt;
+    same(
+        &rt,
         frame.as_slice(),
-        b"\xAA\x02\x00\x22\x00\x66\x00\x00\x00\x64\x00\x00\x82\x35\x00\x00\x10\x00\x20\x00\x00\x00\x00\x00\x80\x00\x80\x00\x80\x00\x00\x00\x36\xBA".as_slice()
+        b"\xAA\x02\x00\x22\x00\x66\x00\x00\x00\x64\x00\x00\x82\x35\x00\x00\x10\x00\x20\x00\x00\x00\x00\x00\x80\x00\x80\x00\x80\x00\x00\x00\x36\xBA".as_slice(),
     );
 }
 
@@ -318,9 +324,10 @@ fn shared_frame(rt: HostRuntime) {
         block(&rt, alloc, &config, 0, &body, 1).expect(&rt, "memory"),
     ];
     let frame = frame_3001(&rt, alloc, &definition, &list, &parts).expect(&rt, "memory");
-    assert_eq!(rt;
+    same(
+        &rt,
         frame.as_slice(),
-        b"\xAA\x02\x00\x24\x00\x65\x00\x00\x00\x64\x00\x00\x82\x35\x00\x00\x10\x00\x20\x00\x00\x00\x00\x00\x00\x00\x30\x00\x40\x00\x00\x00\x00\x00\x5D\x65".as_slice()
+        b"\xAA\x02\x00\x24\x00\x65\x00\x00\x00\x64\x00\x00\x82\x35\x00\x00\x10\x00\x20\x00\x00\x00\x00\x00\x00\x00\x30\x00\x40\x00\x00\x00\x00\x00\x5D\x65".as_slice(),
     );
 }
 
@@ -350,23 +357,25 @@ fn counts_and_flush(rt: HostRuntime) {
     out.changed();
     let first = out.cfg1(alloc, &definition, 0, &list).expect(&rt, "memory");
     let second = out.cfg2(alloc, &definition, 0, &list).expect(&rt, "memory");
-    assert_eq!(rt; (first.len(), second.len()), (364, 364));
+    same(&rt, (first.len(), second.len()), (364, 364));
     // STN, and CFGCNT of the first block.
-    assert_eq!(rt;
+    same(
+        &rt,
         (&first[20..25], &first[68..70]),
-        (b"PMU 7".as_slice(), [0, 1].as_slice())
+        (b"PMU 7".as_slice(), [0, 1].as_slice()),
     );
-    assert_eq!(rt;
+    same(
+        &rt,
         (&second[20..25], &second[308..310]),
-        (b"PMU 8".as_slice(), [0, 1].as_slice())
+        (b"PMU 8".as_slice(), [0, 1].as_slice()),
     );
     // Whatever place is guessed: 7 stands first, 8 behind it.
     for guess in [0, 1, 2, usize::MAX] {
         let mut next = guess;
         assert!(rt; list.get_next(&seven, &mut next).is_some());
-        assert_eq!(rt; next, 1);
+        same(&rt, next, 1);
         assert!(rt; list.get_next(&eight, &mut next).is_some());
-        assert_eq!(rt; next, 2);
+        same(&rt, next, 2);
     }
     list.remove(&eight);
     let mut next = 1;
@@ -376,12 +385,13 @@ fn counts_and_flush(rt: HostRuntime) {
     expected[1] = 0x22;
     expected[72] = 0x77;
     expected[73] = 0x87;
-    assert_eq!(rt;
+    same(
+        &rt,
         out.cfg1(alloc, &definition, 0, &list)
             .expect(&rt, "memory")
             .as_slice(),
-        expected.as_slice()
+        expected.as_slice(),
     );
     list.clear();
-    assert_eq!(rt; list.len(), 0);
+    same(&rt, list.len(), 0);
 }

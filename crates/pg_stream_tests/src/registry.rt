@@ -1,3 +1,4 @@
+use crate::asserts::same;
 use pg_config::PmuConfig;
 use pg_registry::*;
 use pg_wire::{PmuId, PmuKey, Refusal};
@@ -22,10 +23,11 @@ fn pmu_7(rt: &impl Abort, alloc: Global) -> Result<Arc<PmuConfig>, AllocError> {
     let digitals = u16::from_be_bytes([block[24], block[25]]);
     assert!(rt; id != 0);
     assert!(rt; id != 65535);
-    assert!(rt; format / 2 % 8 == 0);
-    assert_eq!(rt;
+    same(rt, format / 2 % 8, 0);
+    same(
+        rt,
         block.len(),
-        30 + 20 * usize::from(phasors) + 20 * usize::from(analogs) + 260 * usize::from(digitals)
+        30 + 20 * usize::from(phasors) + 20 * usize::from(analogs) + 260 * usize::from(digitals),
     );
     let config = PmuConfig {
         base: 1_000_000,
@@ -50,14 +52,14 @@ fn key(source: u16, pmu: u16) -> Option<PmuKey> {
 fn limits_and_refusals(rt: HostRuntime) -> Result<(), Fail> {
     let mut registry = Registry::new(rt.alloc())?;
     for pmu in 1..257u16 {
-        assert_eq!(rt; registry.add(key(7, pmu).ok_or("a key")?), Ok(()));
+        same(&rt, registry.add(key(7, pmu).ok_or("a key")?), Ok(()));
     }
     let other = key(7, 257).ok_or("a key")?;
-    assert_eq!(rt; registry.add(other), Err(Refusal::PmusFull));
-    assert_eq!(rt; registry.drop_pmu(other), Err(Refusal::NoSuchPmu));
+    same(&rt, registry.add(other), Err(Refusal::PmusFull));
+    same(&rt, registry.drop_pmu(other), Err(Refusal::NoSuchPmu));
     let there = key(7, 7).ok_or("a key")?;
-    assert_eq!(rt; registry.add(there), Err(Refusal::PmuExists));
-    assert_eq!(rt; registry.len(), 256);
+    same(&rt, registry.add(there), Err(Refusal::PmuExists));
+    same(&rt, registry.len(), 256);
     Ok(())
 }
 
@@ -70,11 +72,16 @@ fn list(rt: HostRuntime) -> Result<(), Fail> {
     }
     registry.drop_pmu(key(9, 7).ok_or("a key")?)?;
     let left = [key(3, 7).ok_or("a key")?, key(1, 7).ok_or("a key")?];
-    assert_eq!(rt; registry.list(), left.as_slice());
-    assert_eq!(rt; registry.has_source(PmuId::new(1).ok_or("a source")?), true);
-    assert_eq!(rt;
+    same(&rt, registry.list(), left.as_slice());
+    same(
+        &rt,
+        registry.has_source(PmuId::new(1).ok_or("a source")?),
+        true,
+    );
+    same(
+        &rt,
         registry.has_source(PmuId::new(9).ok_or("a source")?),
-        false
+        false,
     );
     Ok(())
 }
@@ -84,15 +91,15 @@ fn announced_and_counted(rt: HostRuntime) -> Result<(), Fail> {
     let mut registry = Registry::new(rt.alloc())?;
     let there = key(7, 7).ok_or("a key")?;
     registry.add(there)?;
-    assert_eq!(rt; registry.config_of(there).is_none(), true);
+    same(&rt, registry.config_of(there).is_none(), true);
     registry.announce(there, pmu_7(&rt, rt.alloc())?)?;
     let place = registry.place_of(there).ok_or("a place")?;
     registry.count_taken_at(place);
     registry.count_refusal_at(place, Refusal::FarClock);
     let config = registry.config_at(place).ok_or("a configuration")?;
-    assert_eq!(rt; config.block.as_slice(), PMU_7.as_slice());
+    same(&rt, config.block.as_slice(), PMU_7.as_slice());
     let stats = registry.stats_of(there).ok_or("counters")?;
-    assert_eq!(rt; stats.taken, 1);
-    assert_eq!(rt; stats.by_reason[21], 1);
+    same(&rt, stats.taken, 1);
+    same(&rt, stats.by_reason[21], 1);
     Ok(())
 }

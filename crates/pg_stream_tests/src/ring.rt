@@ -1,5 +1,6 @@
 ghost use Rattle.std.specs.Prelude.{◌<◌, IfOk, vec_len};
 
+use crate::asserts::same;
 use pg_ring::{Drained, OutQueue, RingBytes, RingSize};
 use pg_wire::Refusal;
 use std::test::Fail;
@@ -65,35 +66,39 @@ fn ring_of_one(rt: HostRuntime) -> Result<(), Fail> {
         push(&rt, &mut queue, 2)?,
         push(&rt, &mut queue, 3)?,
     ];
-    assert_eq!(rt; dropped, [0, 1, 1]);
-    assert_eq!(rt; (seen(&queue, 0), queue.frames()), (Some((3, 2)), 1));
+    same(&rt, dropped, [0, 1, 1]);
+    same(&rt, (seen(&queue, 0), queue.frames()), (Some((3, 2)), 1));
     let (first, byte) = drain(&rt, &mut queue, 1)?;
-    assert_eq!(rt;
+    same(
+        &rt,
         first,
         Drained {
             len: 1,
             begun: 1,
-            gap: 2
-        }
+            gap: 2,
+        },
     );
-    assert_eq!(rt; byte.first().copied(), Some(0xAA));
+    same(&rt, byte.first().copied(), Some(0xAA));
     push(&rt, &mut queue, 4)?;
     let (second, bytes) = drain(&rt, &mut queue, 200)?;
-    assert_eq!(rt;
+    same(
+        &rt,
         second,
         Drained {
             len: 51,
             begun: 1,
-            gap: 0
-        }
+            gap: 0,
+        },
     );
-    assert_eq!(rt;
+    same(
+        &rt,
         (bytes.get(24).copied(), bytes.get(25).copied()),
-        (Some(3), Some(0xAA))
+        (Some(3), Some(0xAA)),
     );
-    assert_eq!(rt;
+    same(
+        &rt,
         (bytes.get(50).copied(), bytes.get(51).copied()),
-        (Some(4), Some(0))
+        (Some(4), Some(0)),
     );
     Ok(())
 }
@@ -106,20 +111,20 @@ fn waits(queue: &OutQueue) -> (u64, u64) {
 #[test]
 fn what_waits(rt: HostRuntime) -> Result<(), Fail> {
     let mut queue = queue_of(&rt, 2, 16_777_216)?;
-    assert_eq!(rt; waits(&queue), (0, 0));
+    same(&rt, waits(&queue), (0, 0));
     push_replies(&rt, &mut queue, 2)?;
     for last in 1..=3 {
         push(&rt, &mut queue, last)?;
     }
-    assert_eq!(rt; waits(&queue), (4, 200));
+    same(&rt, waits(&queue), (4, 200));
     drain(&rt, &mut queue, 80)?;
-    assert_eq!(rt; waits(&queue), (3, 120));
+    same(&rt, waits(&queue), (3, 120));
     drain(&rt, &mut queue, 68)?;
-    assert_eq!(rt; waits(&queue), (2, 52));
+    same(&rt, waits(&queue), (2, 52));
     queue.push_lost();
-    assert_eq!(rt; waits(&queue), (2, 52));
+    same(&rt, waits(&queue), (2, 52));
     queue.clear();
-    assert_eq!(rt; waits(&queue), (0, 0));
+    same(&rt, waits(&queue), (0, 0));
     Ok(())
 }
 
@@ -128,12 +133,13 @@ fn bytes_drop_oldest(rt: HostRuntime) -> Result<(), Fail> {
     let mut queue = queue_of(&rt, 4, 60)?;
     push(&rt, &mut queue, 1)?;
     push(&rt, &mut queue, 2)?;
-    assert_eq!(rt; push(&rt, &mut queue, 3)?, 1);
-    assert_eq!(rt;
+    same(&rt, push(&rt, &mut queue, 3)?, 1);
+    same(
+        &rt,
         (seen(&queue, 0), seen(&queue, 1)),
-        (Some((2, 1)), Some((3, 0)))
+        (Some((2, 1)), Some((3, 0))),
     );
-    assert_eq!(rt; seen(&queue, 2), None);
+    same(&rt, seen(&queue, 2), None);
     Ok(())
 }
 
@@ -142,17 +148,19 @@ fn bytes_without_hand(rt: HostRuntime) -> Result<(), Fail> {
     let mut queue = queue_of(&rt, 4, 52)?;
     push(&rt, &mut queue, 1)?;
     push(&rt, &mut queue, 2)?;
-    assert_eq!(rt;
+    same(
+        &rt,
         (seen(&queue, 0), seen(&queue, 1)),
-        (Some((1, 0)), Some((2, 0)))
+        (Some((1, 0)), Some((2, 0))),
     );
     drain(&rt, &mut queue, 1)?;
-    assert_eq!(rt; push(&rt, &mut queue, 3)?, 0);
-    assert_eq!(rt;
+    same(&rt, push(&rt, &mut queue, 3)?, 0);
+    same(
+        &rt,
         (seen(&queue, 0), seen(&queue, 1)),
-        (Some((2, 0)), Some((3, 0)))
+        (Some((2, 0)), Some((3, 0))),
     );
-    assert_eq!(rt; queue.rest().len(), 25);
+    same(&rt, queue.rest().len(), 25);
     Ok(())
 }
 
@@ -162,36 +170,38 @@ fn bytes_and_longer_frame(rt: HostRuntime) -> Result<(), Fail> {
     push(&rt, &mut queue, 1)?;
     push(&rt, &mut queue, 2)?;
     let longer = frame_of(&rt, 36, 3)?;
-    assert_eq!(rt; queue.push_data(longer), 2);
-    assert_eq!(rt; (seen(&queue, 0), queue.frames()), (Some((3, 2)), 1));
+    same(&rt, queue.push_data(longer), 2);
+    same(&rt, (seen(&queue, 0), queue.frames()), (Some((3, 2)), 1));
     Ok(())
 }
 
 #[test]
 fn bytes_too_few(rt: HostRuntime) -> Result<(), Fail> {
     let mut queue = queue_of(&rt, 4, 20)?;
-    assert_eq!(rt; push(&rt, &mut queue, 1)?, 1);
-    assert_eq!(rt; (queue.frames(), queue.pending()), (0, 1));
+    same(&rt, push(&rt, &mut queue, 1)?, 1);
+    same(&rt, (queue.frames(), queue.pending()), (0, 1));
     Ok(())
 }
 
 #[test]
 fn replies_before_data(rt: HostRuntime) -> Result<(), Fail> {
     let mut queue = queue_of(&rt, 4, 16_777_216)?;
-    assert_eq!(rt; push_replies(&rt, &mut queue, 9)?, 8);
+    same(&rt, push_replies(&rt, &mut queue, 9)?, 8);
     push(&rt, &mut queue, 1)?;
     let (drained, bytes) = drain(&rt, &mut queue, 1000)?;
-    assert_eq!(rt;
+    same(
+        &rt,
         drained,
         Drained {
             len: 618,
             begun: 9,
-            gap: 0
-        }
+            gap: 0,
+        },
     );
-    assert_eq!(rt;
+    same(
+        &rt,
         (bytes.get(591).copied(), bytes.get(617).copied()),
-        (Some(0), Some(1))
+        (Some(0), Some(1)),
     );
     Ok(())
 }
@@ -202,15 +212,16 @@ fn hang_up_clears(rt: HostRuntime) -> Result<(), Fail> {
     push(&rt, &mut queue, 1)?;
     push(&rt, &mut queue, 2)?;
     drain(&rt, &mut queue, 1)?;
-    assert_eq!(rt; queue.clear(), 2);
+    same(&rt, queue.clear(), 2);
     let (nothing, _) = drain(&rt, &mut queue, 99)?;
-    assert_eq!(rt;
+    same(
+        &rt,
         nothing,
         Drained {
             len: 0,
             begun: 0,
-            gap: 0
-        }
+            gap: 0,
+        },
     );
     Ok(())
 }
@@ -221,10 +232,10 @@ fn reply_in_hand(rt: HostRuntime) -> Result<(), Fail> {
     let mut queue = queue_of(&rt, 4, 16_777_216)?;
     push_replies(&rt, &mut queue, 1)?;
     drain(&rt, &mut queue, 1)?;
-    assert_eq!(rt; push_replies(&rt, &mut queue, 9)?, 8);
-    assert_eq!(rt; queue.reply_at(7).map_or(0, |reply| reply.len()), 74);
+    same(&rt, push_replies(&rt, &mut queue, 9)?, 8);
+    same(&rt, queue.reply_at(7).map_or(0, |reply| reply.len()), 74);
     queue.push_lost();
-    assert_eq!(rt; (queue.replies(), queue.pending()), (8, 1));
-    assert_eq!(rt; queue.clear(), 0);
+    same(&rt, (queue.replies(), queue.pending()), (8, 1));
+    same(&rt, queue.clear(), 0);
     Ok(())
 }

@@ -1,3 +1,4 @@
+use crate::asserts::same;
 use pg_ring_law::*;
 use std::test::*;
 
@@ -8,7 +9,7 @@ fn third_stands_alone(rt: HostRuntime) {
     let second = Vec::from_slice(alloc, &[2, 2]).expect(&rt, "memory");
     let third = Vec::from_slice(alloc, &[3, 3, 3]).expect(&rt, "memory");
     let queue = three_into_one(alloc, first, second, third).expect(&rt, "memory");
-    assert_eq!(rt; queue.frames(), 1);
+    same(&rt, queue.frames(), 1);
     assert!(rt; matches!(queue.frame_at(0), Some((frame, 2)) if frame == [3, 3, 3].as_slice()));
-    assert_eq!(rt; queue.pending(), 0);
+    same(&rt, queue.pending(), 0);
 }

@@ -1,3 +1,4 @@
+use crate::asserts::same;
 use pg_stream::*;
 use pg_wire::{PmuId, PmuKey, Refusal, StreamId};
 use std::alloc::Global;
@@ -18,24 +19,27 @@ fn slots_and_stamps(rt: HostRuntime) {
             "at {numerator}"
         );
     }
-    assert_eq!(rt;
+    same(
+        &rt,
         slot_of(30, 1_000_000, 100, 1_000_000),
-        Err(Refusal::BadFraction)
+        Err(Refusal::BadFraction),
     );
-    assert_eq!(rt; stamp_of(30, 1_000_000, 3001), (100, 33_333));
-    assert_eq!(rt; stamp_of(30, 1_000_000, 3029), (100, 966_667));
-    assert_eq!(rt; stamp_of(30, 1_000_000, 3030), (101, 0));
+    same(&rt, stamp_of(30, 1_000_000, 3001), (100, 33_333));
+    same(&rt, stamp_of(30, 1_000_000, 3029), (100, 966_667));
+    same(&rt, stamp_of(30, 1_000_000, 3030), (101, 0));
 }
 
 #[test]
 fn time_end(rt: HostRuntime) {
-    assert_eq!(rt;
+    same(
+        &rt,
         slot_of(30, 1_000_000, 4_294_967_295, 983_333),
-        Ok(128_849_018_879)
+        Ok(128_849_018_879),
     );
-    assert_eq!(rt;
+    same(
+        &rt,
         slot_of(30, 1_000_000, 4_294_967_295, 983_334),
-        Err(Refusal::TimeEnd)
+        Err(Refusal::TimeEnd),
     );
 }
 
@@ -63,30 +67,51 @@ fn stream_101(alloc: Global) -> Result<Definition, Fail> {
 #[test]
 fn limits_and_refusals(rt: HostRuntime) -> Result<(), Fail> {
     let mut definition = stream_101(rt.alloc())?;
-    assert_eq!(rt; check_definition(&definition), Ok(()));
+    same(&rt, check_definition(&definition), Ok(()));
     for rate in [0, 121] {
         definition.rate = rate;
-        assert_eq!(rt; check_definition(&definition), Err(Refusal::BadDefinition));
+        same(
+            &rt,
+            check_definition(&definition),
+            Err(Refusal::BadDefinition),
+        );
     }
     definition.rate = 30;
     definition.base = 29;
-    assert_eq!(rt; check_definition(&definition), Err(Refusal::BadDefinition));
+    same(
+        &rt,
+        check_definition(&definition),
+        Err(Refusal::BadDefinition),
+    );
     definition.base = 1_000_000;
     for window in [0, 65] {
         definition.window = window;
-        assert_eq!(rt; check_definition(&definition), Err(Refusal::BadDefinition));
+        same(
+            &rt,
+            check_definition(&definition),
+            Err(Refusal::BadDefinition),
+        );
     }
     definition.window = 4;
     definition.wait = 60_001;
-    assert_eq!(rt; check_definition(&definition), Err(Refusal::BadDefinition));
+    same(
+        &rt,
+        check_definition(&definition),
+        Err(Refusal::BadDefinition),
+    );
     definition.wait = 0;
     let mut keys = definition.members.into_vec();
     keys.push(pmu_7().ok_or("a key")?)?;
     definition.members = Members::new(keys);
-    assert_eq!(rt; check_definition(&definition), Err(Refusal::BadDefinition));
-    assert_eq!(rt;
+    same(
+        &rt,
+        check_definition(&definition),
+        Err(Refusal::BadDefinition),
+    );
+    same(
+        &rt,
         definition.header.into_vec().as_slice(),
-        b"Hello".as_slice()
+        b"Hello".as_slice(),
     );
     Ok(())
 }

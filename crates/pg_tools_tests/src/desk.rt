@@ -1,4 +1,5 @@
 //! What the tests share: settings, a source with its peer, bytes carried between them.
+use crate::asserts::same;
 use pg_tools::{
     Channels, Faults, Heard, Moment, Nominal, Numbers, Rate, Seen, Settings, Source, Tally, Watcher,
 };
@@ -37,7 +38,7 @@ pub(crate) fn hear(
     bytes: &[u8],
     out: &mut Vec<u8>,
 ) -> u32 {
-    assert_eq!(rt; source.feed(bytes), bytes.len());
+    same(rt, source.feed(bytes), bytes.len());
     let mut taken = 0u32;
     for _ in 0..=bytes.len() {
         match source.next(now, out).expect(rt, "memory") {

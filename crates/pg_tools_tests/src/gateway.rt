@@ -1,4 +1,5 @@
 //! A simulated source, the gateway, and a watcher of one of its streams, all over memory.
+use crate::asserts::same;
 use crate::desk::{SOC, hear, number, source};
 use pg_command::read_command;
 use pg_gateway::{Event, Gate, Gateway, Reply};
@@ -95,13 +96,17 @@ fn watcher_reads_gateway(rt: HostRuntime) {
         for _ in 0..4 {
             if let Seen::Frame(frame) = watcher.next() {
                 assert!(rt; is_swapped(&sent, &frame.body));
-                assert_eq!(rt; frame.soc, SOC);
+                same(&rt, frame.soc, SOC);
                 equal = equal.saturating_add(1);
             }
         }
     }
     let tally = watcher.tally();
-    assert_eq!(rt; (tally.missing, tally.fillers, tally.troubles), (0, 0, 0));
+    same(
+        &rt,
+        (tally.missing, tally.fillers, tally.troubles),
+        (0, 0, 0),
+    );
     assert!(rt; equal >= 27 && u64::from(equal) == tally.frames);
 }
 

@@ -1,4 +1,5 @@
 //! Hostile bytes at both: whatever comes, there is an answer, and nothing goes on for ever.
+use crate::asserts::same;
 use crate::desk::{SOC, hear, number, source, take, watched};
 use pg_command::write_command;
 use pg_tools::{Faults, Heard, Moment, Seen, Watcher};
@@ -99,7 +100,7 @@ fn hostile_bytes_at_watcher(rt: HostRuntime) {
         let mut watcher = Watcher::new(alloc, number(&rt, 7)).expect(&rt, "memory");
         let frames = take(&rt, &mut watcher, &bytes);
         let tally = watcher.tally();
-        assert_eq!(rt; u64::from(frames), tally.frames);
+        same(&rt, u64::from(frames), tally.frames);
         assert!(rt; tally.frames > 0 || tally.troubles > 0);
     }
 }
@@ -121,9 +122,9 @@ fn lengths_that_lie(rt: HostRuntime) {
     watcher.feed(&[0xAA, 0x32, 0xFF, 0xFF]);
     assert!(rt; matches!(watcher.next(), Seen::More));
     let zeros = vec![in alloc; 0u8; 70_000].expect(&rt, "memory");
-    assert_eq!(rt; watcher.feed(&zeros), 65_531);
+    same(&rt, watcher.feed(&zeros), 65_531);
     assert!(rt; matches!(watcher.next(), Seen::Trouble(_)));
-    assert_eq!(rt; watcher.feed(&zeros), 65_535);
+    same(&rt, watcher.feed(&zeros), 65_535);
     assert!(rt; matches!(watcher.next(), Seen::Trouble(_)));
     assert!(rt; matches!(watcher.next(), Seen::Ended));
     // Data frames before any configuration.
@@ -135,6 +136,6 @@ fn lengths_that_lie(rt: HostRuntime) {
         .due(Moment::new(SOC + 1, 0), &mut frame)
         .expect(&rt, "memory");
     let mut fresh = Watcher::new(alloc, number(&rt, 7)).expect(&rt, "memory");
-    assert_eq!(rt; take(&rt, &mut fresh, &frame), 0);
-    assert_eq!(rt; (fresh.tally().misfits, fresh.tally().troubles), (1, 1));
+    same(&rt, take(&rt, &mut fresh, &frame), 0);
+    same(&rt, (fresh.tally().misfits, fresh.tally().troubles), (1, 1));
 }

@@ -1,4 +1,5 @@
 //! A simulated source, read by a link of the gateway.
+use crate::asserts::same;
 use crate::desk::{SOC, hear, number, settings, source};
 use pg_command::{Word, write_command};
 use pg_ingest::{Link, LinkEvent};
@@ -40,7 +41,7 @@ fn link_reads_source(rt: HostRuntime) {
             let mut out = Vec::new(alloc);
             for _ in 0..2 {
                 if let Some(command) = link.next_out() {
-                    assert_eq!(rt; hear(&rt, &mut source, now, &command, &mut out), 1);
+                    same(&rt, hear(&rt, &mut source, now, &command, &mut out), 1);
                 }
             }
             source.due(now, &mut out).expect(&rt, "memory");
@@ -51,7 +52,7 @@ fn link_reads_source(rt: HostRuntime) {
         }
         // Slots 1 to 59: that of the start itself is passed.
         assert_eq!(rt; taken, (1, 59, 0), "{pmus} PMUs");
-        assert_eq!(rt; source.counts().sent, 59);
+        same(&rt, source.counts().sent, 59);
         let reasons = &link.stats().by_reason;
         assert!(rt; reasons.iter().all(|count| *count == 0));
     }
@@ -79,14 +80,14 @@ fn commands_are_obeyed(rt: HostRuntime) {
         let mut out = Vec::new(alloc);
         source.feed(&write_command(id, SOC, word));
         let heard = source.next(now, &mut out).expect(&rt, "memory");
-        assert_eq!(rt; heard, want);
-        assert_eq!(rt; source.is_sending(), is_on);
-        assert_eq!(rt; out.get(1).copied().unwrap_or(0), kind);
+        same(&rt, heard, want);
+        same(&rt, source.is_sending(), is_on);
+        same(&rt, out.get(1).copied().unwrap_or(0), kind);
     }
     let mut out = Vec::new(alloc);
     source.feed(&write_command(number(&rt, 8), SOC, 2));
     let heard = source.next(now, &mut out).expect(&rt, "memory");
-    assert_eq!(rt; heard, Heard::Ignored(Refusal::NoSuchStream));
+    same(&rt, heard, Heard::Ignored(Refusal::NoSuchStream));
     assert!(rt; !source.is_sending());
 }
 
@@ -105,12 +106,17 @@ fn values_of_a_frame(rt: HostRuntime) {
             .due(Moment::new(soc, 33_334), &mut out)
             .expect(&rt, "memory");
         // 16 bytes around STAT, three phasors, FREQ, DFREQ, an analog value and a digital word.
-        assert_eq!(rt; out.len(), 16 + 2 + 12 + 4 + 2 + 2);
+        same(&rt, out.len(), 16 + 2 + 12 + 4 + 2 + 2);
         assert!(rt; out.as_slice().starts_with(&[0xAA, 0x02, 0, 38]));
-        assert_eq!(rt; u32::from_be_bytes([out[6], out[7], out[8], out[9]]), soc);
-        assert_eq!(rt;
+        same(
+            &rt,
+            u32::from_be_bytes([out[6], out[7], out[8], out[9]]),
+            soc,
+        );
+        same(
+            &rt,
             u32::from_be_bytes([out[10], out[11], out[12], out[13]]),
-            33_333
+            33_333,
         );
         let deviation = i64::from(i16::from_be_bytes([out[28], out[29]]));
         assert!(rt;
@@ -138,7 +144,7 @@ fn seconds_repeat(rt: HostRuntime) {
     let first = one_second(&rt, rt.alloc());
     let second = one_second(&rt, rt.alloc());
     assert!(rt; !first.is_empty());
-    assert!(rt; first.as_slice() == second.as_slice());
+    same(&rt, first.as_slice(), second.as_slice());
 }
 
 // The value of this option, or else the one that it has where it is absent.
@@ -223,7 +229,7 @@ fn largest_source(rt: HostRuntime) {
     let mut source = Source::new(alloc, asked).expect(&rt, "memory");
     let mut link = Link::new(alloc, number(&rt, 65_519)).expect(&rt, "memory");
     let counts = two_frames(&rt, alloc, &mut source, &mut link);
-    assert_eq!(rt; counts, (1, 2, 0));
+    same(&rt, counts, (1, 2, 0));
 }
 
 fn two_frames(
@@ -264,11 +270,11 @@ fn passed_frames(rt: HostRuntime) {
     source
         .due(Moment::new(SOC + 3, 0), &mut out)
         .expect(&rt, "memory");
-    assert_eq!(rt; source.counts().sent, 30);
+    same(&rt, source.counts().sent, 30);
     // Its clock was set back: nothing is sent twice.
     source.pass(Moment::new(SOC + 1, 0));
     source
         .due(Moment::new(SOC + 3, 0), &mut out)
         .expect(&rt, "memory");
-    assert_eq!(rt; source.counts().sent, 30);
+    same(&rt, source.counts().sent, 30);
 }

@@ -1,4 +1,5 @@
 //! The signals of a simulated source, as its data blocks tell them.
+use crate::asserts::same;
 use crate::desk::settings;
 use pg_tools::{Faults, Moment, add_measured};
 use std::alloc::Global;
@@ -11,7 +12,7 @@ fn block(rt: &impl Abort, alloc: Global, at: Moment, pmu: u8) -> Vec<u8> {
     let settings = settings(rt, 2, Faults::NONE);
     add_measured(&mut out, &settings, at, pmu).expect(rt, "memory");
     // STAT, three phasors, FREQ, DFREQ, an analog value and a digital word.
-    assert_eq!(rt; out.len(), 22);
+    same(rt, out.len(), 22);
     out
 }
 

@@ -1,4 +1,5 @@
 //! A peer over loopback that asks, and does not read the answers.
+use crate::asserts::same;
 use crate::desk::{SOC, number, settings};
 use pg_command::write_command;
 use pg_tools::{Faults, Happening, Simulator};
@@ -62,6 +63,6 @@ fn unread_answers(rt: HostRuntime) {
             break;
         }
     }
-    assert_eq!(rt; simulator.source().counts().obeyed, ASKED);
-    assert_eq!(rt; taken, ASKED * 5_944);
+    same(&rt, simulator.source().counts().obeyed, ASKED);
+    same(&rt, taken, ASKED * 5_944);
 }

@@ -1,4 +1,5 @@
 //! A simulated source with each of its faults, and what a watcher says of it.
+use crate::asserts::same;
 use crate::desk::{SOC, hear, number, source, take, watched};
 use pg_command::write_command;
 use pg_tools::{Faults, Moment, PATIENCE, Question, Seen, Stamp, Trouble, Watcher};
@@ -14,11 +15,16 @@ fn no_fault(rt: HostRuntime) {
     let mut source = source(&rt, alloc, 2, Faults::NONE);
     let mut watcher = Watcher::new(alloc, number(&rt, 7)).expect(&rt, "memory");
     let tally = watched(&rt, alloc, &mut source, &mut watcher, 30);
-    assert_eq!(rt;
+    same(
+        &rt,
         (tally.frames, tally.missing, tally.troubles, tally.configs),
-        (899, 0, 0, 1)
+        (899, 0, 0, 1),
     );
-    assert!(rt; watcher.header() == b"pdcgw simulate: 2 PMUs, 30 frames a second".as_slice());
+    same(
+        &rt,
+        watcher.header(),
+        b"pdcgw simulate: 2 PMUs, 30 frames a second".as_slice(),
+    );
 }
 
 #[test]
@@ -32,12 +38,12 @@ fn dropped_frames_are_missing(rt: HostRuntime) {
     let mut watcher = Watcher::new(alloc, number(&rt, 7)).expect(&rt, "memory");
     let tally = watched(&rt, alloc, &mut source, &mut watcher, 100);
     let counts = source.counts();
-    assert_eq!(rt; tally.frames, counts.sent);
+    same(&rt, tally.frames, counts.sent);
     // All that were left out, but for those before the first frame and behind the last one.
     assert!(rt; tally.missing <= counts.left_out);
     assert!(rt; counts.left_out.saturating_sub(tally.missing) <= 3);
     assert!(rt; (200..400).contains(&counts.left_out));
-    assert_eq!(rt; tally.troubles, 0);
+    same(&rt, tally.troubles, 0);
 }
 
 #[test]
@@ -51,8 +57,16 @@ fn wrong_checks_are_told(rt: HostRuntime) {
     let mut watcher = Watcher::new(alloc, number(&rt, 7)).expect(&rt, "memory");
     let tally = watched(&rt, alloc, &mut source, &mut watcher, 100);
     let spoiled = source.counts().spoiled;
-    assert_eq!(rt; (tally.wrong_checks, tally.troubles), (spoiled, spoiled));
-    assert_eq!(rt; tally.frames.saturating_add(spoiled), source.counts().sent);
+    same(
+        &rt,
+        (tally.wrong_checks, tally.troubles),
+        (spoiled, spoiled),
+    );
+    same(
+        &rt,
+        tally.frames.saturating_add(spoiled),
+        source.counts().sent,
+    );
     assert!(rt; (200..400).contains(&spoiled));
 }
 
@@ -69,7 +83,7 @@ fn silence_is_missing(rt: HostRuntime) {
     let tally = watched(&rt, alloc, &mut source, &mut watcher, 45);
     assert!(rt; (899..=900).contains(&tally.frames), "{tally:?}");
     assert!(rt; tally.missing >= 300);
-    assert_eq!(rt; tally.troubles, 0);
+    same(&rt, tally.troubles, 0);
 }
 
 // Frames that are 200 ms late and stamps of a clock that is 5 s behind or ahead: each frame is right, and only its time tells.
@@ -119,8 +133,8 @@ fn late_and_wrong_clocks(rt: HostRuntime) {
         let mut source = source(&rt, alloc, 1, faults);
         let mut watcher = Watcher::new(alloc, number(&rt, 7)).expect(&rt, "memory");
         let tally = watched(&rt, alloc, &mut source, &mut watcher, 10);
-        assert_eq!(rt; (tally.missing, tally.troubles), (0, 0));
-        assert_eq!(rt; watcher.last(), Some(want));
+        same(&rt, (tally.missing, tally.troubles), (0, 0));
+        same(&rt, watcher.last(), Some(want));
     }
 }
 
@@ -135,9 +149,10 @@ fn no_configuration(rt: HostRuntime) {
     let mut watcher = Watcher::new(alloc, number(&rt, 7)).expect(&rt, "memory");
     let tally = watched(&rt, alloc, &mut source, &mut watcher, 6);
     // The header came, and the stream was never started.
-    assert_eq!(rt;
+    same(
+        &rt,
         (tally.configs, tally.frames, source.counts().sent),
-        (0, 0, 0)
+        (0, 0, 0),
     );
     assert!(rt; !watcher.header().is_empty());
 }
@@ -153,8 +168,8 @@ fn troubles_are_told(rt: HostRuntime) {
     source
         .due(Moment::new(SOC + 1, 0), &mut frame)
         .expect(&rt, "memory");
-    assert_eq!(rt; frame.len(), 38);
-    assert_eq!(rt; take(&rt, &mut watcher, &frame), 1);
+    same(&rt, frame.len(), 38);
+    same(&rt, take(&rt, &mut watcher, &frame), 1);
     let stamp = Stamp {
         soc: SOC + 1,
         frac: 0,
@@ -182,7 +197,11 @@ fn troubles_are_told(rt: HostRuntime) {
     change(&rt, &mut frame, 3, 36);
     tells(&rt, &mut watcher, &frame, Trouble::Data(Refusal::BadLength));
     // After a length that does not fit it asks for the configuration again, once.
-    assert!(rt; watcher.next_out(0) == Some(write_command(number(&rt, 7), 0, 5)));
+    same(
+        &rt,
+        watcher.next_out(0),
+        Some(write_command(number(&rt, 7), 0, 5)),
+    );
     assert!(rt; watcher.next_out(0).is_none());
     change(&rt, &mut frame, 1, 0x42);
     tells(
@@ -199,9 +218,10 @@ fn troubles_are_told(rt: HostRuntime) {
     );
     assert!(rt; matches!(watcher.next(), Seen::Ended));
     let tally = watcher.tally();
-    assert_eq!(rt;
+    same(
+        &rt,
         (tally.troubles, tally.not_rising, tally.misfits),
-        (7, 2, 3)
+        (7, 2, 3),
     );
 }
 
@@ -220,9 +240,9 @@ fn seal(frame: &mut Vec<u8>) {
 }
 
 fn tells(rt: &impl std::process::Abort, watcher: &mut Watcher, bytes: &[u8], want: Trouble) {
-    assert_eq!(rt; watcher.feed(bytes), bytes.len());
+    same(rt, watcher.feed(bytes), bytes.len());
     match watcher.next() {
-        Seen::Trouble(trouble) => assert_eq!(rt; trouble, want),
+        Seen::Trouble(trouble) => same(rt, trouble, want),
         _ => panic!(rt; "no trouble, but {want:?}"),
     }
 }
@@ -258,7 +278,7 @@ fn patience_of_a_question(rt: HostRuntime) {
     for (second, again) in [false, false, true, false, false, true].iter().enumerate() {
         assert_eq!(rt; question.pass(), *again, "{second}");
     }
-    assert_eq!(rt; (PATIENCE, question), (3, Question::NEW));
+    same(&rt, (PATIENCE, question), (3, Question::NEW));
 }
 
 // What is not answered is asked again: command 5 without CFG-2, and command 2, with 3 behind it, without data frames.
@@ -267,19 +287,19 @@ fn questions_are_asked_again(rt: HostRuntime) {
     let alloc = rt.alloc();
     let mut source = source(&rt, alloc, 1, Faults::NONE);
     let mut watcher = Watcher::new(alloc, number(&rt, 7)).expect(&rt, "memory");
-    assert_eq!(rt; owed(&mut watcher), [5, 3, 0, 0]);
+    same(&rt, owed(&mut watcher), [5, 3, 0, 0]);
     for words in [[0u8; 4], [0; 4], [5, 0, 0, 0], [0; 4], [0; 4], [5, 0, 0, 0]] {
         watcher.second();
-        assert_eq!(rt; owed(&mut watcher), words);
+        same(&rt, owed(&mut watcher), words);
     }
     let mut out = Vec::new(alloc);
     let asked = write_command(number(&rt, 7), SOC, 5);
     hear(&rt, &mut source, Moment::new(SOC, 0), &asked, &mut out);
     take(&rt, &mut watcher, &out);
-    assert_eq!(rt; owed(&mut watcher), [2, 3, 0, 0]);
+    same(&rt, owed(&mut watcher), [2, 3, 0, 0]);
     for words in [[0u8; 4], [0; 4], [2, 3, 0, 0], [0; 4], [0; 4]] {
         watcher.second();
-        assert_eq!(rt; owed(&mut watcher), words);
+        same(&rt, owed(&mut watcher), words);
     }
     // A data frame is the answer.
     out.clear();
@@ -291,9 +311,9 @@ fn questions_are_asked_again(rt: HostRuntime) {
     assert!(rt; take(&rt, &mut watcher, &out) > 0);
     for words in [[0u8; 4], [0; 4], [2, 3, 0, 0]] {
         watcher.second();
-        assert_eq!(rt; owed(&mut watcher), words);
+        same(&rt, owed(&mut watcher), words);
     }
-    assert_eq!(rt; watcher.tally().troubles, 0);
+    same(&rt, watcher.tally().troubles, 0);
 }
 
 // A configuration without any PMU is no trouble: it is asked again each second, until one has come, which starts the stream.
@@ -302,23 +322,27 @@ fn no_pmu_yet(rt: HostRuntime) {
     let alloc = rt.alloc();
     let mut source = source(&rt, alloc, 1, Faults::NONE);
     let mut watcher = Watcher::new(alloc, number(&rt, 7)).expect(&rt, "memory");
-    assert_eq!(rt; owed(&mut watcher), [5, 3, 0, 0]);
+    same(&rt, owed(&mut watcher), [5, 3, 0, 0]);
     for _ in 0..4 {
         let frame = no_pmu(&rt, alloc, 7);
         watcher.feed(&frame);
         assert!(rt; matches!(watcher.next(), Seen::NoPmu));
         assert!(rt; watcher.has_no_pmu());
-        assert_eq!(rt; owed(&mut watcher), [0; 4]);
+        same(&rt, owed(&mut watcher), [0; 4]);
         watcher.second();
-        assert_eq!(rt; owed(&mut watcher), [5, 0, 0, 0]);
+        same(&rt, owed(&mut watcher), [5, 0, 0, 0]);
     }
     let mut out = Vec::new(alloc);
     let asked = write_command(number(&rt, 7), SOC, 5);
     hear(&rt, &mut source, Moment::new(SOC, 0), &asked, &mut out);
     take(&rt, &mut watcher, &out);
     assert!(rt; !watcher.has_no_pmu());
-    assert_eq!(rt; owed(&mut watcher), [2, 3, 0, 0]);
-    assert_eq!(rt; (watcher.tally().configs, watcher.tally().troubles), (1, 0));
+    same(&rt, owed(&mut watcher), [2, 3, 0, 0]);
+    same(
+        &rt,
+        (watcher.tally().configs, watcher.tally().troubles),
+        (1, 0),
+    );
     // One of another stream, and one that is longer than it may be.
     let frame = no_pmu(&rt, alloc, 8);
     tells(&rt, &mut watcher, &frame, Trouble::Config(Refusal::WrongId));
@@ -338,13 +362,13 @@ fn no_pmu_yet(rt: HostRuntime) {
 fn no_frame_came(rt: HostRuntime) {
     let alloc = rt.alloc();
     let mut watcher = Watcher::new(alloc, number(&rt, 7)).expect(&rt, "memory");
-    assert_eq!(rt; watcher.close(), Some(Trouble::NoFrame));
-    assert_eq!(rt; watcher.tally().troubles, 1);
+    same(&rt, watcher.close(), Some(Trouble::NoFrame));
+    same(&rt, watcher.tally().troubles, 1);
     let mut source = source(&rt, alloc, 1, Faults::NONE);
     let mut watcher = Watcher::new(alloc, number(&rt, 7)).expect(&rt, "memory");
     watched(&rt, alloc, &mut source, &mut watcher, 1);
-    assert_eq!(rt; watcher.close(), None);
-    assert_eq!(rt; watcher.tally().troubles, 0);
+    same(&rt, watcher.close(), None);
+    same(&rt, watcher.tally().troubles, 0);
 }
 
 // A stop ends the data at once, and a new start goes on behind its own slot.
@@ -371,9 +395,10 @@ fn stop_and_start(rt: HostRuntime) {
     source
         .due(Moment::new(SOC + 9, 999_999), &mut out)
         .expect(&rt, "memory");
-    assert_eq!(rt; take(&rt, &mut watcher, &out), 29);
-    assert_eq!(rt;
+    same(&rt, take(&rt, &mut watcher, &out), 29);
+    same(
+        &rt,
         (watcher.tally().missing, watcher.tally().troubles),
-        (241, 0)
+        (241, 0),
     );
 }

@@ -4,16 +4,12 @@
 //! rule of this project (own rule); no standard speaks of it.
 #![tactic(auto)]
 
-mod counter;
 mod machine;
 mod plays;
 mod seat;
-#[cfg(test)]
-mod tests;
 mod turnstile;
 mod view;
 
-pub use counter::{Add, Counter};
 pub use machine::Machine;
 pub use seat::Seat;
 pub use turnstile::Turnstile;

@@ -6,8 +6,8 @@ use Rattle.std.proofs.lemmas.Option.{slice_get_within}
 use Rattle.std.proofs.lemmas.List.Sums.{fold-append}
 use mathlib.Core.Logic.{dite}
 use native.Mathlib.Decide.{ℕ_discrete}
-use Rattle.pg_turn.specs.declared.counter.Add.{Add}
-use Rattle.pg_turn.specs.Totals.{capped_add, total_of}
+use Rattle.pg_turn_law.specs.declared.counter.Add.{Add}
+use Rattle.pg_turn_law.specs.Totals.{capped_add, total_of}
 use Rattle.pg_turn.specs.Turns.{IsLegalAfter}
 use Rattle.pg_turn_law.specs.TwoCalls.{BothStand, CountsBoth, CountsOwn}
 

@@ -1,2 +1,4 @@
--- To be believed, behind Known, Turns and Totals of pg_turn: where two calls stand, and what a counter's two totals count.
+-- To be believed, behind Known and Turns of pg_turn: the total of a counter; where two calls stand, and what a counter's two totals
+-- count.
+pub mod Totals
 pub mod TwoCalls

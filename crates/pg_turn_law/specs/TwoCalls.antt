@@ -2,7 +2,7 @@
 use Rattle.std.specs.Prelude.{◌≡◌, ◌≢◌, ◌⊎◌, ℕ, ◌<◌, ◌≤◌, List, [], ◌∷◌, ◌++◌, slice_get, Some}
 use Rattle.pg_turn.specs.Known.{Known}
 use Rattle.pg_turn.specs.Turns.{IsLegal}
-use Rattle.pg_turn.specs.Totals.{capped_add}
+use Rattle.pg_turn_law.specs.Totals.{capped_add}
 
 module _ {E R : Type 0} (may : List (E × R) → E → R → Type 0) where
   -- both calls stand in this legal history, at two different places

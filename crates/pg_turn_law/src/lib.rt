@@ -1,6 +1,7 @@
 //! What a caller of a turnstile can conclude from its public clauses alone: of two calls, of two threads and of one seat.
 #![tactic(auto)]
 
+mod counter;
 #[cfg(test)]
 mod tests;
 
@@ -8,7 +9,8 @@ ghost use Rattle.std.specs.Prelude.{◌≡◌, IfOk};
 ghost use Rattle.pg_turn.specs.Turns.{Called};
 ghost use Rattle.pg_turn_law.specs.TwoCalls.{BothStand, InOrder, CountsBoth, CountsOwn};
 
-use pg_turn::{Add, Counter, Machine, Seat, Turnstile};
+pub use counter::{Add, Counter};
+use pg_turn::{Machine, Seat, Turnstile};
 use std::alloc::{AllocError, Global};
 use std::sync::Wait;
 use std::thread::{Threads, join};

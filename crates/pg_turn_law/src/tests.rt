@@ -1,7 +1,11 @@
-//! Each public function once.
-use crate::{add_both, call_both, call_twice};
-use pg_turn::{Add, Counter, Turnstile};
+//! The row of two threads, and each public function once.
+ghost use Rattle.std.specs.Prelude.{◌≡◌};
+
+use crate::{Add, Counter, add_both, call_both, call_twice};
+use pg_turn::{Machine, Seat, Turnstile};
+use std::sync::Wait;
 use std::test::Fail;
+use std::thread::{Threads, join};
 
 #[test]
 fn two_calls_of_each_kind(rt: HostRuntime) -> Result<(), Fail> {
@@ -16,5 +20,94 @@ fn two_calls_of_each_kind(rt: HostRuntime) -> Result<(), Fail> {
     assert!(rt; counter.total == 10);
     let (one, two) = add_both(&rt, rt.alloc(), Add(20), Add(30))?;
     assert!(rt; (one == 20 && two == 50) || (one == 50 && two == 30));
+    Ok(())
+}
+
+// One call after another. It says whether the replies rise strictly.
+fn add_often<R: Wait>(
+    rt: &R,
+    turns: &Turnstile<Counter>,
+    seat: Seat<Counter>,
+    n: u32,
+    calls: u32,
+) -> (Seat<Counter>, bool)
+    requires { seat.table ≡ turns.now }
+    ensures { result.0.table ≡ turns.now }
+{
+    let mut seat = seat;
+    let mut last = 0;
+    let mut rises = true;
+    for _ in 0..calls {
+        let (next, total) = turns.call(rt, seat, Add(n));
+        rises = rises && total > last;
+        seat = next;
+        last = total;
+    }
+    (seat, rises)
+}
+
+// Two threads add 1 and 10, each so often. The seat of both, and whether the replies of each rise.
+fn add_by_two<R: Threads + Wait + Sync>(
+    rt: &R,
+    turns: &Turnstile<Counter>,
+    seat: Seat<Counter>,
+    calls: u32,
+) -> (Seat<Counter>, bool)
+    requires { seat.table ≡ turns.now }
+    ensures { result.0.table ≡ turns.now }
+{
+    let (first, second) = turns.split(seat);
+    let ((first, ones), (second, tens)) = join(
+        rt,
+        || -> (Seat<Counter>, bool)
+            requires { first.table ≡ turns.now }
+            ensures { result.0.table ≡ turns.entry.now }
+        { add_often(rt, turns, first, 1, calls) },
+        || -> (Seat<Counter>, bool)
+            requires { second.table ≡ turns.now }
+            ensures { result.0.table ≡ turns.entry.now }
+        { add_often(rt, turns, second, 10, calls) },
+    );
+    (turns.join(first, second), ones && tens)
+}
+
+// The total shows that each call ran just once: a call that ran another event beside its own, or its own twice, would
+// meet the contract of `call`.
+#[test]
+fn counter_of_two_threads(rt: HostRuntime) -> Result<(), Fail> {
+    let (turns, seat) = Turnstile::new(rt.alloc(), Counter::new())?;
+    let (seat, rise) = add_by_two(&rt, &turns, seat, 1000);
+    let Some(counter) = turns.close(seat) else {
+        panic!(&rt; "the value is at home")
+    };
+    assert!(rt; rise && counter.total == 11_000);
+    Ok(())
+}
+
+// So many calls that threads do wait for each other: one that was not woken would wait for ever, which no contract rules out.
+#[test]
+fn who_waits_is_woken(rt: HostRuntime) -> Result<(), Fail> {
+    let (turns, seat) = Turnstile::new(rt.alloc(), Counter::new())?;
+    let (seat, rise) = add_by_two(&rt, &turns, seat, 100_000);
+    assert!(&rt; rise);
+    let Some(counter) = turns.close(seat) else {
+        panic!(&rt; "the value is at home")
+    };
+    assert!(rt; counter.total == 1_100_000);
+    Ok(())
+}
+
+#[test]
+fn one_seat_calls_twice(rt: HostRuntime) -> Result<(), Fail> {
+    let (turns, seat) = Turnstile::new(rt.alloc(), Counter::new())?;
+    let (seat, three) = turns.call(&rt, seat, Add(3));
+    let (seat, seven) = turns.call(&rt, seat, Add(4));
+    assert!(rt; three == 3 && seven == 7);
+    let Some(mut counter) = turns.close(seat) else {
+        panic!(&rt; "the value is at home")
+    };
+    assert!(rt; counter.total == 7 && counter.step(Add(u32::MAX)) == 4_294_967_302);
+    counter.total = u64::MAX - 1;
+    assert!(rt; counter.step(Add(5)) == u64::MAX && counter.step(Add(0)) == u64::MAX);
     Ok(())
 }

@@ -1,5 +1,6 @@
 //! The control socket.
 
+use crate::asserts::same;
 use crate::clients::{Fake, LONG, Room, got, is, make_room};
 use pg_serve::Work;
 use pg_window::{Window, listen_at};
@@ -59,7 +60,7 @@ fn lines_are_answered(rt: HostRuntime) {
     assert!(rt; is(&told.bytes, b"said three\n"));
     // Nobody looks at a page, so nobody is asked what it shows.
     let clerk = window.into_clerk();
-    assert!(rt; clerk.looks == 0);
+    same(&rt, clerk.looks, 0);
     fs::remove_file(&rt, path.as_str()).expect(&rt, "the socket");
 }
 
@@ -134,7 +135,7 @@ fn who_does_not_read_is_closed(rt: HostRuntime) {
     let mut is_closed = false;
     for round in 0..100usize {
         if let Err(error) = (&deaf).write_all(b"long\n") {
-            assert!(rt; error.kind() == ErrorKind::BrokenPipe);
+            same(&rt, error.kind(), ErrorKind::BrokenPipe);
             // What waits at most, and what the system holds besides.
             assert!(rt; round.saturating_mul(LONG) > 1_048_576);
             is_closed = true;
@@ -156,7 +157,7 @@ fn a_stale_socket_is_replaced(rt: HostRuntime) {
     let path = path.as_str();
     let first = listen_at(&rt, path).expect(&rt, "a socket");
     let mode = fs::metadata(&rt, path).expect(&rt, "a file");
-    assert!(rt; mode.permissions().mode() % 0o1000 == 0o600);
+    same(&rt, mode.permissions().mode() % 0o1000, 0o600);
     let second = listen_at(&rt, path);
     assert!(rt; second.is_err_and(|error| error.kind() == ErrorKind::AddrInUse));
     drop(first);
@@ -166,7 +167,11 @@ fn a_stale_socket_is_replaced(rt: HostRuntime) {
     fs::write(&rt, path, "text").expect(&rt, "a file");
     let third = listen_at(&rt, path);
     assert!(rt; third.is_err_and(|error| error.kind() == ErrorKind::AddrInUse));
-    assert!(rt; fs::read_to_string(&rt, path).expect(&rt, "a file").as_str() == "text");
+    same(
+        &rt,
+        fs::read_to_string(&rt, path).expect(&rt, "a file").as_str(),
+        "text",
+    );
     fs::remove_file(&rt, path).expect(&rt, "the file");
 }
 

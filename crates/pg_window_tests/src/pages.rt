@@ -1,5 +1,6 @@
 //! The page and the metrics.
 
+use crate::asserts::same;
 use crate::clients::{Fake, Room, got, make_room};
 use mio::net::TcpListener;
 use pg_serve::Work;
@@ -228,7 +229,7 @@ fn a_head_of_a_megabyte_is_refused(rt: HostRuntime) {
         for _ in 0..100 {
             match (&stream).write_all(&piece) {
                 Ok(()) => break,
-                Err(error) => assert!(rt; error.kind() == ErrorKind::WouldBlock),
+                Err(error) => same(&rt, error.kind(), ErrorKind::WouldBlock),
             }
             window.turn();
         }

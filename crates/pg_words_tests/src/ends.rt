@@ -1,5 +1,6 @@
 //! What the program says at its end.
 
+use crate::asserts::same;
 use pg_status::Answered;
 use pg_wire::Refusal;
 use pg_words::{Bound, Signed, not_answered, not_bound, not_reached, not_read, say};
@@ -91,21 +92,22 @@ const SAID: [(Refusal, &str, &str); 15] = [
 fn refusals_in_words(rt: HostRuntime) {
     let alloc = rt.alloc();
     for (refusal, line, words) in SAID {
-        assert_eq!(rt; say(refusal), words);
+        same(&rt, say(refusal), words);
         let told = format!(in alloc; "{}\n", Signed(refusal)).expect(&rt, "memory");
-        assert_eq!(rt; told.as_str(), line);
+        same(&rt, told.as_str(), line);
     }
     let other = "the gateway refuses what is asked for; `pdcgw help` tells what can be";
-    assert_eq!(rt; say(Refusal::BadCheck), other);
+    same(&rt, say(Refusal::BadCheck), other);
 }
 
 #[test]
 fn a_start_that_fails(rt: HostRuntime) {
     let alloc = rt.alloc();
     let told = not_read(alloc, "s.toml", "there is no such file").expect(&rt, "memory");
-    assert_eq!(rt;
+    same(
+        &rt,
         told.as_str(),
-        "s.toml: can't be read: there is no such file\n"
+        "s.toml: can't be read: there is no such file\n",
     );
     let address = Some(SocketAddr::from((Ipv4Addr::LOCALHOST, 4800)));
     for (line, bound, address, wanted) in [
@@ -153,7 +155,7 @@ fn a_start_that_fails(rt: HostRuntime) {
         ),
     ] {
         let told = not_bound(alloc, "s.toml", line, bound, address, "address in use");
-        assert_eq!(rt; told.expect(&rt, "memory").as_str(), wanted);
+        same(&rt, told.expect(&rt, "memory").as_str(), wanted);
     }
 }
 
@@ -180,7 +182,7 @@ fn a_control_socket_that_fails(rt: HostRuntime) {
         (ErrorKind::TimedOut, "/run/c: timed out\n"),
     ] {
         let told = not_reached(alloc, "/run/c", kind, "timed out").expect(&rt, "memory");
-        assert_eq!(rt; told.as_str(), wanted);
+        same(&rt, told.as_str(), wanted);
     }
     let lines = ["addpmu 9", "status"];
     for (answered, wanted) in [
@@ -203,6 +205,6 @@ fn a_control_socket_that_fails(rt: HostRuntime) {
         ),
     ] {
         let told = not_answered(alloc, "/run/c", &lines, answered).expect(&rt, "memory");
-        assert_eq!(rt; told.as_str(), wanted);
+        same(&rt, told.as_str(), wanted);
     }
 }

@@ -1,5 +1,5 @@
 use Rattle.std.proofs.Common.{refl, sym, ◌∙◌, inr, take, None, Some, false}
-use Rattle.pg_serve.proofs.Sessions.{turned_more, turned_wrote, turned_read, turned_unread, turned_pushed, turned_any, turned_end, given_same, breaks_same, cut_not_quiet, cut_waits, drain_is_due, ends_read, ends_so, unwaited}
+use Rattle.pg_serve.proofs.Sessions.{turned_more, turned_wrote, turned_read, turned_unread, turned_pushed, turned_any, turned_end, given_same, breaks_same, cut_not_quiet, cut_waits, drain_is_due, ends_read, ends_so, unwaited, failed_gives_nothing, read_end}
 use Rattle.pg_serve.specs.Serving.{due_read}
 use Rattle.pg_serve.specs.Turned.{is_quiet}
 use Rattle.pg_serve.proofs.serve.turn.Goals as goal
@@ -16,55 +16,55 @@ returns-in-Some-clause-ran g c = (
 pub returns-in-Some-clause-given : goal.returns-in-Some-clause-given
 returns-in-Some-clause-given g c = given_same _ _ c.push_left.ensures.same c.requires.given
 
-pub returns-in_default-read_piece-clause-ran : goal.returns-in_default-read_piece-clause-ran
-returns-in_default-read_piece-clause-ran g c = (
+pub returns-then-has_failed-clause-ran : goal.returns-then-has_failed-clause-ran
+returns-then-has_failed-clause-ran g c = (
   false,
   false,
   inr refl,
   turned_end _ _ _ _ _ _ _ _ _ _ _ _ tt
       (turned_more _ _ _ _ _ _ _ _ _ _ _ _ _ _ _ _ _ _ (turned_wrote _ _ _ _ _ _ _ c.push_left.ensures.writes c.push_left.ensures.same)
-      (turned_unread _ _ _ _ _ _ c.in_default-read_piece.ensures.failed)),
+      (turned_unread _ _ _ _ _ _ (failed_gives_nothing _ _ _ _ _ c.read_piece-size.ensures.end (sym c.has_failed.ensures ∙ c.if-has_failed.true) c.read_piece-size.ensures.read))),
 )
 
-pub returns-in_default-read_piece-clause-given : goal.returns-in_default-read_piece-clause-given
-returns-in_default-read_piece-clause-given g c = given_same _ _ c.push_left.ensures.same c.requires.given
+pub returns-then-has_failed-clause-given : goal.returns-then-has_failed-clause-given
+returns-then-has_failed-clause-given g c = given_same _ _ c.push_left.ensures.same c.requires.given
 
 pub returns-in-Some-post_commands-clause-ran : goal.returns-in-Some-post_commands-clause-ran
 returns-in-Some-post_commands-clause-ran g c =
-    let piece = take c.in-Some-read_piece.size c.read_piece.new.buffer in (
+    let piece = take c.read_piece-size.result.0 c.read_piece-size.new.buffer in (
       due_read false piece,
       false,
       inr refl,
       turned_end _ _ _ _ _ _ _ _ _ _ _ _ tt
           (turned_more _ _ _ _ _ _ _ _ _ _ _ _ _ _ _ _ _ _ (turned_wrote _ _ _ _ _ _ _ c.push_left.ensures.writes c.push_left.ensures.same)
-          (turned_more _ _ _ _ _ _ _ _ _ _ _ _ _ _ _ _ _ _ (turned_read _ _ _ _ _ _ _ piece c.in-Some-read_piece.ensures.read.1 c.feed.ensures.state c.feed.ensures.shows)
+          (turned_more _ _ _ _ _ _ _ _ _ _ _ _ _ _ _ _ _ _ (turned_read _ _ _ _ _ _ _ piece c.read_piece-size.ensures.read c.feed.ensures.state c.feed.ensures.shows)
           (c.post_commands.ensures.ran _ _ _))),
     )
 
 pub returns-then-is_closed-clause-ran : goal.returns-then-is_closed-clause-ran
 returns-then-is_closed-clause-ran g c =
-    let piece = take c.in-Some-read_piece.size c.read_piece.new.buffer in (
+    let piece = take c.read_piece-size.result.0 c.read_piece-size.new.buffer in (
       due_read false piece,
       false,
       refl,
       turned_end _ _ _ _ _ _ _ _ _ _ _ _ tt
           (turned_more _ _ _ _ _ _ _ _ _ _ _ _ _ _ _ _ _ _ (turned_wrote _ _ _ _ _ _ _ c.push_left.ensures.writes c.push_left.ensures.same)
-          (turned_more _ _ _ _ _ _ _ _ _ _ _ _ _ _ _ _ _ _ (turned_read _ _ _ _ _ _ _ piece c.in-Some-read_piece.ensures.read.1 c.feed.ensures.state c.feed.ensures.shows)
+          (turned_more _ _ _ _ _ _ _ _ _ _ _ _ _ _ _ _ _ _ (turned_read _ _ _ _ _ _ _ piece c.read_piece-size.ensures.read c.feed.ensures.state c.feed.ensures.shows)
           (c.post_commands.ensures.ran _ _ _))),
     )
 
 pub returns-in-Some-push_left-clause-ran : goal.returns-in-Some-push_left-clause-ran
 returns-in-Some-push_left-clause-ran g c =
-    let piece = take c.in-Some-read_piece.size c.read_piece.new.buffer in
-    let due = drain_is_due c.in-Some-read_piece.end c.in-Some-read_piece.size c.read_piece.new.buffer c.in-Some-read_piece.ensures.kind
-    c.in-Some-read_piece.ensures.read.0 c.in-Some-read_piece.ensures.some (sym c.is_closed.ensures.value ∙ c.if-is_closed.false) in (
+    let piece = take c.read_piece-size.result.0 c.read_piece-size.new.buffer in
+    let due = drain_is_due c.read_piece-size.result.1 c.read_piece-size.result.0 c.read_piece-size.new.buffer (read_end _ _ _ c.read_piece-size.ensures.end (sym c.has_failed.ensures ∙ c.if-has_failed.false))
+    c.read_piece-size.ensures.within c.read_piece-size.ensures.some (sym c.is_closed.ensures.value ∙ c.if-is_closed.false) in (
       false,
-      is_quiet c.in-Some-read_piece.end,
+      is_quiet c.read_piece-size.result.1,
       cut_waits c.in-Some-push_left.cut _ c.in-Some-push_left.ensures.cut,
       turned_pushed _ _ _ _ _ _ _ _ _ _ _ _ _ _
           (turned_any (Some c.in-Some-push_left.cut) _ _ _ _ _ _ _ _ _ _ _
           (turned_more _ _ _ _ _ _ _ _ _ _ _ _ _ _ _ _ _ _ (turned_wrote _ _ _ _ _ _ _ c.push_left.ensures.writes c.push_left.ensures.same)
-          (turned_more _ _ _ _ _ _ _ _ _ _ _ _ _ _ _ _ _ _ (turned_read _ _ _ _ _ _ _ piece c.in-Some-read_piece.ensures.read.1 c.feed.ensures.state c.feed.ensures.shows)
+          (turned_more _ _ _ _ _ _ _ _ _ _ _ _ _ _ _ _ _ _ (turned_read _ _ _ _ _ _ _ piece c.read_piece-size.ensures.read c.feed.ensures.state c.feed.ensures.shows)
           (turned_more _ _ _ _ _ _ _ _ _ _ _ _ _ _ _ _ _ _ (c.post_commands.ensures.ran _ _ _) (c.post_drain.ensures.ran _ _ _ _ due)))))
           c.push_left-2.ensures.writes c.push_left-2.ensures.same,
     )
@@ -74,16 +74,16 @@ returns-in-Some-push_left-clause-given g c = given_same _ _ c.push_left-2.ensure
 
 pub returns-in-None-clause-ran : goal.returns-in-None-clause-ran
 returns-in-None-clause-ran g c =
-    let piece = take c.in-Some-read_piece.size c.read_piece.new.buffer in
-    let due = drain_is_due c.in-Some-read_piece.end c.in-Some-read_piece.size c.read_piece.new.buffer c.in-Some-read_piece.ensures.kind
-    c.in-Some-read_piece.ensures.read.0 c.in-Some-read_piece.ensures.some (sym c.is_closed.ensures.value ∙ c.if-is_closed.false) in (
+    let piece = take c.read_piece-size.result.0 c.read_piece-size.new.buffer in
+    let due = drain_is_due c.read_piece-size.result.1 c.read_piece-size.result.0 c.read_piece-size.new.buffer (read_end _ _ _ c.read_piece-size.ensures.end (sym c.has_failed.ensures ∙ c.if-has_failed.false))
+    c.read_piece-size.ensures.within c.read_piece-size.ensures.some (sym c.is_closed.ensures.value ∙ c.if-is_closed.false) in (
       false,
-      is_quiet c.in-Some-read_piece.end,
-      ends_so c.in-Some-read_piece.end,
+      is_quiet c.read_piece-size.result.1,
+      ends_so c.read_piece-size.result.1,
       turned_pushed _ _ _ _ _ _ _ _ _ _ _ _ _ _
-          (turned_any c.in-Some-read_piece.end _ _ _ _ _ _ _ _ _ _ _
+          (turned_any c.read_piece-size.result.1 _ _ _ _ _ _ _ _ _ _ _
           (turned_more _ _ _ _ _ _ _ _ _ _ _ _ _ _ _ _ _ _ (turned_wrote _ _ _ _ _ _ _ c.push_left.ensures.writes c.push_left.ensures.same)
-          (turned_more _ _ _ _ _ _ _ _ _ _ _ _ _ _ _ _ _ _ (turned_read _ _ _ _ _ _ _ piece c.in-Some-read_piece.ensures.read.1 c.feed.ensures.state c.feed.ensures.shows)
+          (turned_more _ _ _ _ _ _ _ _ _ _ _ _ _ _ _ _ _ _ (turned_read _ _ _ _ _ _ _ piece c.read_piece-size.ensures.read c.feed.ensures.state c.feed.ensures.shows)
           (turned_more _ _ _ _ _ _ _ _ _ _ _ _ _ _ _ _ _ _ (c.post_commands.ensures.ran _ _ _) (c.post_drain.ensures.ran _ _ _ _ due)))))
           c.push_left-2.ensures.writes c.push_left-2.ensures.same,
     )
@@ -93,15 +93,15 @@ returns-in-None-clause-given g c = given_same _ _ c.push_left-2.ensures.same (gi
 
 pub returns-in-None-clause-ends : goal.returns-in-None-clause-ends
 returns-in-None-clause-ends g c =
-    ends_read c.in-Some-read_piece.end _ c.in-Some-read_piece.ensures.kind
+    ends_read c.read_piece-size.result.1 _ (read_end _ _ _ c.read_piece-size.ensures.end (sym c.has_failed.ensures ∙ c.if-has_failed.false))
     (breaks_same None _ _ c.push_left-2.ensures.same (breaks_same None _ _ c.post_drain.ensures.same c.in_default-post_commands.ensures.breaks))
     (c.push_left-2.ensures.whole c.in-None.is)
 
 pub returns-in-Some-clause-onward : goal.returns-in-Some-clause-onward
 returns-in-Some-clause-onward g c = g.met.G.Gate.stays _
 
-pub returns-in_default-read_piece-clause-onward : goal.returns-in_default-read_piece-clause-onward
-returns-in_default-read_piece-clause-onward g c = g.met.G.Gate.stays _
+pub returns-then-has_failed-clause-onward : goal.returns-then-has_failed-clause-onward
+returns-then-has_failed-clause-onward g c = g.met.G.Gate.stays _
 
 pub returns-in-Some-push_left-clause-onward : goal.returns-in-Some-push_left-clause-onward
 returns-in-Some-push_left-clause-onward g c = g.met.G.Gate.joins _ _ _ c.post_commands.ensures.onward c.post_drain.ensures.onward

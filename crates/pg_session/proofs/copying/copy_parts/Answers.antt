@@ -4,7 +4,7 @@ use Rattle.std.proofs.lemmas.List.{length-map}
 use Rattle.pg_config.specs.Parts.{Source}
 use Rattle.pg_session.specs.Events.{announced_at, config_of}
 use Rattle.pg_session.proofs.Changing.{part_there}
-use Rattle.pg_session.proofs.Laying.{laid_next, places_few, places_within}
+use Rattle.pg_session.proofs.Laying.{laid_next, rising_few, rising_within}
 use Rattle.pg_session.proofs.copying.copy_parts.Goals as goal
 
 pub loop-place-preserved : goal.loop-place-preserved
@@ -12,7 +12,7 @@ loop-place-preserved c =
     let config = c.args.config.now in
     let k = c.loop-place.place-index in
     let i = get_or c.args.places.now k 0 in
-    let within = places_within _ c.args.places.now c.requires.places k 0 c.loop-place-test.true in
+    let within = rising_within 0 _ c.args.places.now c.requires.rising k 0 c.loop-place-test.true in
     let there = part_there arc_value c.config.inside.parts.items i c.index.result.now config.parts (arc_value c.index.result.now)
     (ap (λ (s : Source). s.parts) c.config.view_is) within c.index.ensures refl in (
       laid_next config c.args.places.now k (arc_value c.index.result.now) (map arc_value c.loop-place.configs.items) (map arc_value c.lay_config.new.configs.items)
@@ -23,12 +23,12 @@ loop-place-preserved c =
 
 pub lay_config-requires : goal.lay_config-requires
 lay_config-requires c = record {
-  room = omega (arith, places_few _ c.args.places.now c.requires.places, c.count-count.ensures.keeps.few, c.loop-place.invariant.1, c.loop-place.invariant.2, c.requires.room, c.loop-place-test.true);
+  room = omega (arith, rising_few 0 _ c.args.places.now c.requires.rising (omega (arith, c.loop-place-test.true)), c.count-count.ensures.keeps.few, c.loop-place.invariant.1, c.loop-place.invariant.2, c.requires.room, c.loop-place-test.true);
 }
 
 pub index-requires : goal.index-requires
 index-requires c =
-    let within = places_within _ c.args.places.now c.requires.places c.loop-place.place-index 0 c.loop-place-test.true in
+    let within = rising_within 0 _ c.args.places.now c.requires.rising c.loop-place.place-index 0 c.loop-place-test.true in
     let parts = ap (λ (s : Source). length s.parts) c.config.view_is in
     let known = length-map c.config.inside.parts.items arc_value in
     let len = c.config.inside.parts.ok.0 in

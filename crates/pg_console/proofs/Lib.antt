@@ -1,0 +1,2 @@
+-- Lemmas of seats that are joined.
+pub mod Joined

@@ -1,0 +1,313 @@
+//! The console, where an operator's lines are answered.
+
+ghost use Rattle.std.specs.Prelude.{◌≡◌, IfOk, IfSome, IfNone, Some};
+ghost use Rattle.pg_serve.specs.Inputs.{edited, names};
+ghost use Rattle.pg_replay.specs.Lines.{asked_in, hands, nothing};
+
+use crate::seeing::seen_by;
+use crate::told::Told;
+use pg_gateway::{Edit, Gate, Reply};
+use pg_operator::{Steer, parse_steer};
+use pg_replay::{Fault, Line, NotPrinted, print_refusal, print_reply, read_line, without_end};
+use pg_serve::{Input as Handed, event_of};
+use pg_service::{Change, Notice, Watched};
+use pg_status::print_status;
+use pg_wire::{PmuId, Refusal};
+use std::alloc::Global;
+use std::io::{BufRead, ErrorKind, Write};
+use std::rt::Clock;
+use std::sync::Wait;
+
+/// What is done about lines that ask for more than an edit.
+pub trait Steering {
+    /// Reads the setup again and does what changed, and answers it.
+    ///
+    /// # Errors
+    ///
+    /// `Fault::Write` where an answer can't be written.
+    fn reload<W: Write, R: Wait + Clock, G: Gate>(
+        &mut self,
+        rt: &R,
+        console: &mut Console<'_, W>,
+        gate: &mut Watched<G>,
+    ) -> Result<(), Fault>;
+
+    /// Has workers do what is asked about a source or a port, and answers it.
+    ///
+    /// # Errors
+    ///
+    /// `Fault::Write` where an answer can't be written.
+    fn steer<W: Write, R: Wait + Clock, G: Gate>(
+        &mut self,
+        rt: &R,
+        console: &mut Console<'_, W>,
+        gate: &mut Watched<G>,
+        steer: Steer,
+    ) -> Result<(), Fault>;
+}
+
+/// Nothing but edits can be asked for: other lines are `BadLine`.
+#[derive(Drop)]
+pub struct EditsAlone;
+
+impl Steering for EditsAlone {
+    fn reload<W: Write, R: Wait + Clock, G: Gate>(
+        &mut self,
+        _rt: &R,
+        console: &mut Console<'_, W>,
+        _gate: &mut Watched<G>,
+    ) -> Result<(), Fault> {
+        print_refusal(console.out_mut(), "refused", Refusal::BadLine)?;
+        Ok(())
+    }
+
+    fn steer<W: Write, R: Wait + Clock, G: Gate>(
+        &mut self,
+        _rt: &R,
+        console: &mut Console<'_, W>,
+        _gate: &mut Watched<G>,
+        _steer: Steer,
+    ) -> Result<(), Fault> {
+        print_refusal(console.out_mut(), "refused", Refusal::BadLine)?;
+        Ok(())
+    }
+}
+
+/// What a line asks for.
+#[derive(Clone, Copy, Debug, PartialEq, Eq)]
+enum Asked {
+    /// An edit, or nothing.
+    Edit,
+    /// Something about a source or a port.
+    Steer(Steer),
+    /// How the service stands.
+    Status,
+    /// The setup file is to be read again.
+    Reload,
+    /// All workers are to end.
+    Quit,
+}
+
+/// Where an operator's lines are answered.
+#[derive(Drop)]
+pub struct Console<'a, W: Write> {
+    alloc: Global,
+    out: W,
+    told: Told<'a>,
+}
+
+impl<'a, W: Write> Console<'a, W> {
+    /// Lines are answered by this writer.
+    pub fn new(alloc: Global, out: W, told: Told<'a>) -> Console<'a, W> {
+        Console { alloc, out, told }
+    }
+
+    /// Where memory for its answers is taken.
+    pub fn alloc(&self) -> Global {
+        self.alloc
+    }
+
+    /// Where its answers are written.
+    pub fn out_mut(&mut self) -> &mut W {
+        &mut self.out
+    }
+
+    /// Whom its lines concern besides the gateway.
+    pub fn told(&self) -> Told<'a> {
+        self.told
+    }
+
+    /// Answers a line, and tells whether it is `quit`.
+    fn answer<R: Wait + Clock, G: Gate, S: Steering>(
+        &mut self,
+        rt: &R,
+        gate: &mut Watched<G>,
+        line: &[u8],
+        steering: &mut S,
+    ) -> Result<bool, Fault> {
+        match asked_by(self.alloc, line) {
+            Ok(Asked::Edit) => self.edit(rt, gate, line)?,
+            Ok(Asked::Steer(steer)) => steering.steer(rt, self, gate, steer)?,
+            Ok(Asked::Status) => self.status(rt, gate)?,
+            Ok(Asked::Reload) => steering.reload(rt, self, gate)?,
+            Ok(Asked::Quit) => return Ok(true),
+            Err(refusal) => print_refusal(&mut self.out, "refused", refusal)?,
+        }
+        Ok(false)
+    }
+
+    /// Answers a line that asks for an edit or for nothing.
+    fn edit<R: Wait, G: Gate>(
+        &mut self,
+        rt: &R,
+        gate: &mut Watched<G>,
+        line: &[u8],
+    ) -> Result<(), Fault> {
+        match edit_in(self.alloc, line) {
+            Ok(Some(edit)) => {
+                let reply = self.post_edit(rt, gate, edit);
+                match print_reply(self.alloc, &mut self.out, &reply) {
+                    Ok(()) | Err(NotPrinted::NoMemory) => {}
+                    Err(NotPrinted::Write) => return Err(Fault::Write),
+                }
+            }
+            Ok(None) => {}
+            Err(refusal) => print_refusal(&mut self.out, "refused", refusal)?,
+        }
+        Ok(())
+    }
+
+    /// Answers how the service stands: a line for each source, subscriber and stream.
+    fn status<R: Wait + Clock, G: Gate>(
+        &mut self,
+        rt: &R,
+        gate: &mut Watched<G>,
+    ) -> Result<(), Fault> {
+        match seen_by(rt, self.alloc, &self.told, gate) {
+            Ok((snapshot, _)) => match print_status(&mut self.out, &snapshot) {
+                Ok(()) => Ok(()),
+                Err(_) => Err(Fault::Write),
+            },
+            Err(_) => {
+                print_refusal(&mut self.out, "refused", Refusal::NoMemory)?;
+                Ok(())
+            }
+        }
+    }
+
+    /// Whether a PMU of this source is registered.
+    pub fn has_source<R: Wait>(&self, rt: &R, source: PmuId) -> bool {
+        let registered = self.told.registered.lock(rt);
+        registered.has(source)
+    }
+
+    /// Posts an edit, and tells workers what it asks of them.
+    pub fn post_edit<R: Wait, G: Gate>(
+        &mut self,
+        rt: &R,
+        gate: &mut Watched<G>,
+        edit: Edit,
+    ) -> Reply {
+        let change = Change::of(&edit);
+        let reply = gate.post(event_of(edit));
+        self.follow(rt, gate, change, &reply);
+        reply
+    }
+
+    /// Tells workers what an edit that was answered so asks of them, and wakes those that have frames to hand out by it.
+    fn follow<R: Wait, G: Gate>(
+        &mut self,
+        rt: &R,
+        gate: &mut Watched<G>,
+        change: Change,
+        reply: &Reply,
+    ) {
+        let mut registered = self.told.registered.lock(rt);
+        let noted = registered.note(change, reply);
+        drop(registered);
+        match noted {
+            Ok(after) => self.told.tell(rt, after),
+            Err(_) => self.told.note(Notice::MailFault),
+        }
+        if gate.take_seen().made > 0 {
+            self.told.neighbours.wake_ports();
+        }
+    }
+
+    /// Passes over the rest of a line that finds no memory.
+    fn pass_over<B: BufRead>(&mut self, reader: &mut B) -> Result<(), Fault> {
+        if reader.skip_until(b'\n').is_err() {
+            return Err(Fault::Read);
+        }
+        print_refusal(&mut self.out, "refused", Refusal::NoMemory)?;
+        Ok(())
+    }
+
+    /// Reads a line and answers it, and tells whether it was the last: `quit`, or the end of the lines.
+    fn take_line<B: BufRead, R: Wait + Clock, G: Gate, S: Steering>(
+        &mut self,
+        rt: &R,
+        gate: &mut Watched<G>,
+        reader: &mut B,
+        line: &mut Vec<u8>,
+        steering: &mut S,
+    ) -> Result<bool, Fault> {
+        line.clear();
+        match reader.read_until(b'\n', line) {
+            Ok(0) => return Ok(true),
+            Ok(_) => {
+                if self.answer(rt, gate, without_end(line.as_slice()), steering)? {
+                    self.told.end();
+                    return Ok(true);
+                }
+            }
+            Err(e) if e.kind() == ErrorKind::OutOfMemory => self.pass_over(reader)?,
+            Err(_) => return Err(Fault::Read),
+        }
+        if self.out.flush().is_err() {
+            return Err(Fault::Write);
+        }
+        Ok(false)
+    }
+}
+
+/// Answers an operator's lines until `quit` comes, which ends all workers, or they end, which ends nothing (own rule). Each
+/// edit is posted and its reply printed; lines that ask for more are left to who does it; a line that asks for nothing of these is
+/// `BadLine`. Where no answer can be written any more it goes on without; where lines can't be read it ends. Both are noted.
+pub fn answer_lines<B: BufRead, W: Write, R: Wait + Clock, G: Gate, S: Steering>(
+    rt: &R,
+    console: &mut Console<'_, W>,
+    gate: &mut Watched<G>,
+    reader: &mut B,
+    steering: &mut S,
+) {
+    let mut line = Vec::new(console.alloc);
+    for _ in 0..u64::MAX {
+        match console.take_line(rt, gate, reader, &mut line, steering) {
+            Ok(true) => return,
+            Ok(false) => {}
+            Err(fault) => {
+                console.told.note(Notice::ConsoleFault);
+                if let Fault::Read = fault {
+                    return;
+                }
+            }
+        }
+    }
+}
+
+/// The edit that a line asks for, if it asks for one. A line of a script that is no edit is `BadLine` here.
+fn edit_in(alloc: Global, line: &[u8]) -> Result<Option<Edit>, Refusal>
+    ensures edit { IfOk result (λ found. IfSome found (λ edit. asked_in line.now ≡ Some (hands (names (edited edit))))) }
+    ensures nothing { IfOk result (λ found. IfNone found (asked_in line.now ≡ Some nothing)) }
+{
+    match read_line(alloc, line)? {
+        Line::Nothing => Ok(None),
+        Line::Handed(input) => match input {
+            Handed::Edit(edit) => Ok(Some(edit)),
+            _other => Err(Refusal::BadLine),
+        },
+        _other => Err(Refusal::BadLine),
+    }
+}
+
+/// What a line asks for.
+///
+/// # Errors
+///
+/// `NoMemory`.
+fn asked_by(alloc: Global, line: &[u8]) -> Result<Asked, Refusal> {
+    let Ok(text) = str::from_utf8(line) else {
+        return Ok(Asked::Edit);
+    };
+    match text.trim_matches(' ') {
+        "quit" => return Ok(Asked::Quit),
+        "status" => return Ok(Asked::Status),
+        "reload" => return Ok(Asked::Reload),
+        _ => {}
+    }
+    match parse_steer(alloc, text)? {
+        Some(steer) => Ok(Asked::Steer(steer)),
+        None => Ok(Asked::Edit),
+    }
+}

@@ -1,0 +1,140 @@
+//! Whom an operator's lines concern besides the gateway.
+
+use mio::net::TcpListener as PortListener;
+use pg_service::{
+    After, Dial, DoorRules, Mailbox, Neighbours, Notice, PortOrder, Registered, Reports,
+    SourceOrder,
+};
+use pg_wire::{PmuId, Refusal, SubId};
+use std::alloc::Global;
+use std::rt::Clock;
+use std::sync::atomic::{AtomicBool, Ordering};
+use std::sync::{Mutex, Wait};
+
+/// Whom an operator's edits concern besides the gateway.
+#[derive(Clone, Copy)]
+pub struct Told<'a> {
+    /// The mailboxes of the workers that call sources.
+    pub sources: &'a [Mailbox<SourceOrder>],
+    /// The workers that serve subscribers, the journal and the board.
+    pub neighbours: Neighbours<'a>,
+    /// The PMUs and subscribers that are registered.
+    pub registered: &'a Mutex<Registered>,
+    /// The mailbox of the worker that serves the control socket and the page, if there is one.
+    pub window: Option<&'a Mailbox<()>>,
+    /// Set where all workers are to end.
+    pub stop: &'a AtomicBool,
+}
+
+impl Told<'_> {
+    /// Notes what was met.
+    pub(crate) fn note(&self, notice: Notice) {
+        self.neighbours.journal.note(notice);
+    }
+
+    /// Ends all workers.
+    pub(crate) fn end(&self) {
+        self.stop.store(true, Ordering::SeqCst);
+        let journal = self.neighbours.journal;
+        for mailbox in self.sources {
+            mailbox.wake(journal);
+        }
+        self.neighbours.wake_ports();
+        self.neighbours.finder.wake(journal);
+        if let Some(mailbox) = self.window {
+            mailbox.wake(journal);
+        }
+    }
+
+    /// Tells workers what an edit asks of them.
+    pub(crate) fn tell<R: Wait>(&self, rt: &R, after: After) {
+        match after {
+            After::Nothing => {}
+            After::Renew(source) => {
+                for mailbox in self.sources {
+                    mailbox.send(rt, self.neighbours.journal, SourceOrder::Renew(source));
+                }
+            }
+            After::Rest(source) => {
+                for mailbox in self.sources {
+                    mailbox.send(rt, self.neighbours.journal, SourceOrder::Rest(source));
+                }
+            }
+            After::HangUp(sub) => self.hang_up(rt, sub),
+        }
+    }
+
+    /// What the workers tell of their sources and ports.
+    pub(crate) fn ask<R: Wait + Clock>(&self, rt: &R, alloc: Global) -> Reports {
+        let Neighbours {
+            ports,
+            journal,
+            board,
+            ..
+        } = self.neighbours;
+        board.ask(rt, alloc, self.sources, ports, journal)
+    }
+
+    /// The source is called no longer.
+    pub fn undial<R: Wait>(&self, rt: &R, source: PmuId) {
+        for mailbox in self.sources {
+            mailbox.send(rt, self.neighbours.journal, SourceOrder::Undial(source));
+        }
+    }
+
+    /// The source is called from now on, by its worker.
+    pub fn dial<R: Wait>(&self, rt: &R, dial: Dial) {
+        let mut registered = self.registered.lock(rt);
+        let place = registered
+            .callers
+            .worker_of(dial.source.get(), self.sources.len());
+        drop(registered);
+        match mailbox_at(self.sources, place) {
+            Some(mailbox) => {
+                mailbox.send(rt, self.neighbours.journal, SourceOrder::Dial(dial));
+            }
+            None => self.note(Notice::MailFault),
+        }
+    }
+
+    /// The subscriber's port is closed, and who has connected hung up.
+    pub fn close<R: Wait>(&self, rt: &R, sub: SubId) {
+        for mailbox in self.neighbours.ports {
+            mailbox.send(rt, self.neighbours.journal, PortOrder::Close(sub));
+        }
+    }
+
+    /// The subscriber's port is served from now on, by its worker and by these rules.
+    pub fn open<R: Wait>(&self, rt: &R, sub: SubId, rules: DoorRules, listener: PortListener) {
+        let Neighbours { ports, journal, .. } = self.neighbours;
+        let mut registered = self.registered.lock(rt);
+        let place = registered.servers.worker_of(sub.get(), ports.len());
+        drop(registered);
+        match mailbox_at(ports, place) {
+            Some(mailbox) => {
+                let order = PortOrder::Open {
+                    sub,
+                    rules,
+                    listener,
+                };
+                mailbox.send(rt, journal, order);
+            }
+            None => self.note(Notice::MailFault),
+        }
+    }
+
+    /// Who has connected is hung up.
+    pub fn hang_up<R: Wait>(&self, rt: &R, sub: SubId) {
+        for mailbox in self.neighbours.ports {
+            mailbox.send(rt, self.neighbours.journal, PortOrder::HangUp(sub));
+        }
+    }
+}
+
+/// The mailbox at this place, if there was memory to find it.
+fn mailbox_at<O: Drop>(boxes: &[Mailbox<O>], place: Result<usize, Refusal>) -> Option<&Mailbox<O>> {
+    match place {
+        Ok(place) => boxes.get(place),
+        Err(_) => None,
+    }
+}
