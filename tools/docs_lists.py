@@ -59,13 +59,13 @@ DEFINED = {"rate", "base", "wait", "window"}
 
 
 def keys():
-    rules = source("pg_operator", "kind")
+    rules = source("pg_setup", "kind")
     words = between(source("pdcgw", "help"), "A setup file is TOML", "A subscriber sends commands")
     for table, heading in TABLES.items():
         told = {cells[0].strip("| `"): cells for cells in rows(section("docs/SETUP.md", heading)) if "`" in cells[0]}
         rule = re.compile(r'(required|optional)!\("(\w+)", Kind::(\w+)(?:\(([\d_]+), ([\d_]+)\))?')
         listed = rule.findall(between(rules, f"const {table}:", "];"))
-        expect(listed, f"pg_operator kind.rt: no keys of {table} were found")
+        expect(listed, f"pg_setup kind.rt: no keys of {table} were found")
         for need, name, kind, least, most in listed:
             if kind == "Tables":
                 continue
@@ -86,7 +86,7 @@ def keys():
 
 
 def lines():
-    verbs = re.findall(r'"(\w+)"', between(source("pg_operator", "verb"), "const VERBS", "];"))
+    verbs = re.findall(r'"(\w+)" => Verb::', source("pg_operator", "verb"))
     ways = re.findall(r'"(\w+)" => Way::', source("pg_operator", "steer"))
     own = re.findall(r'"(\w+)" => return Ok\(Asked::', source("pg_console", "console"))
     table = rows(section("docs/OPERATING.md", "## Lines"))[1:]

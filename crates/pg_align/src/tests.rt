@@ -11,9 +11,15 @@ use pg_data::{DataFrame, SharedBlock, read_data};
 use pg_stream::{Definition, HeaderText, Members, check_definition};
 use pg_wire::{PmuId, PmuKey, Refusal, StreamId, check, is_frame};
 use std::alloc::{AllocError, Global};
+use std::fmt::Debug;
 use std::process::Abort;
 use std::sync::Arc;
 use std::test::*;
+
+/// Ends the test where what came is not what was wanted, and tells both: a call is proved sooner than the code of a macro.
+fn same<T: PartialEq + Debug + Drop>(rt: &impl Abort, came: T, wanted: T) {
+    assert_eq!(*rt; came, wanted);
+}
 
 // PMU 7's configuration block: station PMU 7, one phasor VA.
 const PMU_7: [u8; 50] =
@@ -76,7 +82,7 @@ fn frame_7(
     frame.extend_from_slice(&check(&bytes).to_be_bytes())?;
     assert!(rt; is_frame(&frame));
     assert!(rt; frame.len() >= 16);
-    assert!(rt; frame[1] / 16 == 0);
+    same(rt, frame[1] / 16, 0);
     Ok(read_data(alloc, config, &frame)?)
 }
 
@@ -88,7 +94,7 @@ fn block_7(
     quality: u8,
 ) -> Result<SharedBlock, Fail> {
     let frame = frame_7(rt, alloc, config, quality)?;
-    assert!(rt; frame.count() == 1);
+    same(rt, frame.count(), 1);
     Ok(SharedBlock::new(frame, 0))
 }
 
@@ -192,17 +198,17 @@ fn filler_after_wait(rt: HostRuntime) -> Result<(), Fail> {
     let config = config_7(&rt, alloc)?;
     let mut align = stream_102(&rt, alloc, 2, 4)?;
     let block = block_7(&rt, alloc, &config, 0x24)?;
-    assert_eq!(rt; arrive(&rt, &mut align, 3001, 0, block), Arrived::Kept);
-    assert_eq!(rt; leave_next(alloc, &mut align)?, None);
+    same(&rt, arrive(&rt, &mut align, 3001, 0, block), Arrived::Kept);
+    same(&rt, leave_next(alloc, &mut align)?, None);
     align.tick();
-    assert_eq!(rt; leave_next(alloc, &mut align)?, None);
+    same(&rt, leave_next(alloc, &mut align)?, None);
     align.tick();
     let left = leaving(alloc, 3001, &[Some(0x24), None])?;
-    assert_eq!(rt; leave_next(alloc, &mut align)?, Some(left));
-    assert_eq!(rt; leave_next(alloc, &mut align)?, None);
+    same(&rt, leave_next(alloc, &mut align)?, Some(left));
+    same(&rt, leave_next(alloc, &mut align)?, None);
     let block = block_7(&rt, alloc, &config, 0)?;
-    assert_eq!(rt; arrive(&rt, &mut align, 3001, 1, block), Arrived::Late);
-    assert_eq!(rt; align.open_slots(), 0);
+    same(&rt, arrive(&rt, &mut align, 3001, 1, block), Arrived::Late);
+    same(&rt, align.open_slots(), 0);
     Ok(())
 }
 
@@ -212,19 +218,19 @@ fn wait_and_window(rt: HostRuntime) -> Result<(), Fail> {
     let config = config_7(&rt, alloc)?;
     let mut align = stream_102(&rt, alloc, 0, 4)?;
     let block = block_7(&rt, alloc, &config, 0)?;
-    assert_eq!(rt; arrive(&rt, &mut align, 3001, 0, block), Arrived::Kept);
+    same(&rt, arrive(&rt, &mut align, 3001, 0, block), Arrived::Kept);
     let left = leaving(alloc, 3001, &[Some(0), None])?;
-    assert_eq!(rt; leave_next(alloc, &mut align)?, Some(left));
+    same(&rt, leave_next(alloc, &mut align)?, Some(left));
     let mut align = stream_102(&rt, alloc, 9, 1)?;
     let block = block_7(&rt, alloc, &config, 1)?;
-    assert_eq!(rt; arrive(&rt, &mut align, 3001, 0, block), Arrived::Kept);
-    assert_eq!(rt; leave_next(alloc, &mut align)?, None);
+    same(&rt, arrive(&rt, &mut align, 3001, 0, block), Arrived::Kept);
+    same(&rt, leave_next(alloc, &mut align)?, None);
     let block = block_7(&rt, alloc, &config, 2)?;
-    assert_eq!(rt; arrive(&rt, &mut align, 3000, 0, block), Arrived::Kept);
+    same(&rt, arrive(&rt, &mut align, 3000, 0, block), Arrived::Kept);
     let left = leaving(alloc, 3000, &[Some(2), None])?;
-    assert_eq!(rt; leave_next(alloc, &mut align)?, Some(left));
-    assert_eq!(rt; leave_next(alloc, &mut align)?, None);
-    assert_eq!(rt; align.open_slots(), 1);
+    same(&rt, leave_next(alloc, &mut align)?, Some(left));
+    same(&rt, leave_next(alloc, &mut align)?, None);
+    same(&rt, align.open_slots(), 1);
     Ok(())
 }
 
@@ -234,17 +240,17 @@ fn counts_and_flush(rt: HostRuntime) -> Result<(), Fail> {
     let config = config_7(&rt, alloc)?;
     let mut align = stream_102(&rt, alloc, 2, 4)?;
     let frame = frame_7(&rt, alloc, &config, 3)?;
-    assert!(rt; frame.count() == 1);
+    same(&rt, frame.count(), 1);
     let block = SharedBlock::new(Arc::try_clone(&frame)?, 0);
-    assert_eq!(rt; arrive(&rt, &mut align, 3001, 0, block), Arrived::Kept);
+    same(&rt, arrive(&rt, &mut align, 3001, 0, block), Arrived::Kept);
     let block = block_7(&rt, alloc, &config, 4)?;
-    assert_eq!(rt; arrive(&rt, &mut align, 3001, 0, block), Arrived::Twice);
+    same(&rt, arrive(&rt, &mut align, 3001, 0, block), Arrived::Twice);
     let left = leaving(alloc, 3001, &[Some(3), None])?;
-    assert_eq!(rt; flush_next(alloc, &mut align)?, Some(left));
+    same(&rt, flush_next(alloc, &mut align)?, Some(left));
     // The frame is kept until the next call.
-    assert_eq!(rt; Arc::strong_count(&frame), 2);
-    assert_eq!(rt; flush_next(alloc, &mut align)?, None);
-    assert_eq!(rt; Arc::strong_count(&frame), 1);
+    same(&rt, Arc::strong_count(&frame), 2);
+    same(&rt, flush_next(alloc, &mut align)?, None);
+    same(&rt, Arc::strong_count(&frame), 1);
     align.discard();
     assert!(rt; !align.is_on());
     Ok(())
@@ -257,20 +263,20 @@ fn frame_opens_one_slot_more(rt: HostRuntime) -> Result<(), Fail> {
     let config = config_7(&rt, alloc)?;
     let mut align = stream_102(&rt, alloc, 9, 1)?;
     let block = block_7(&rt, alloc, &config, 1)?;
-    assert_eq!(rt; arrive(&rt, &mut align, 3000, 0, block), Arrived::Kept);
-    assert_eq!(rt; leave_next(alloc, &mut align)?, None);
+    same(&rt, arrive(&rt, &mut align, 3000, 0, block), Arrived::Kept);
+    same(&rt, leave_next(alloc, &mut align)?, None);
     let first = block_7(&rt, alloc, &config, 2)?;
     let second = block_7(&rt, alloc, &config, 3)?;
     let (of_first, of_second) = arrive_twice(&rt, &mut align, 3001, first, second);
-    assert_eq!(rt; of_first, Arrived::Kept);
-    assert_eq!(rt; of_second, Arrived::Kept);
-    assert_eq!(rt; align.open_slots(), 2);
+    same(&rt, of_first, Arrived::Kept);
+    same(&rt, of_second, Arrived::Kept);
+    same(&rt, align.open_slots(), 2);
     assert!(rt; !align.has_room());
     let left = leaving(alloc, 3000, &[Some(1), None])?;
-    assert_eq!(rt; leave_next(alloc, &mut align)?, Some(left));
+    same(&rt, leave_next(alloc, &mut align)?, Some(left));
     let left = leaving(alloc, 3001, &[Some(2), Some(3)])?;
-    assert_eq!(rt; leave_next(alloc, &mut align)?, Some(left));
-    assert_eq!(rt; leave_next(alloc, &mut align)?, None);
+    same(&rt, leave_next(alloc, &mut align)?, Some(left));
+    same(&rt, leave_next(alloc, &mut align)?, None);
     Ok(())
 }
 
@@ -283,12 +289,12 @@ fn leave_both(
 ) -> Result<(), Fail> {
     for _ in 0..100 {
         let left = leave_next(alloc, align)?;
-        assert_eq!(rt; left, plain.leave_next(alloc)?);
+        same(rt, &left, &plain.leave_next(alloc)?);
         if left.is_none() {
             break;
         }
     }
-    assert_eq!(rt; align.open_slots(), plain.open_slots(alloc)?.len());
+    same(rt, align.open_slots(), plain.open_slots(alloc)?.len());
     Ok(())
 }
 
@@ -300,12 +306,12 @@ fn flush_both(
 ) -> Result<(), Fail> {
     for _ in 0..100 {
         let left = flush_next(alloc, align)?;
-        assert_eq!(rt; left, plain.flush_next(alloc)?);
+        same(rt, &left, &plain.flush_next(alloc)?);
         if left.is_none() {
             break;
         }
     }
-    assert_eq!(rt; align.open_slots(), 0);
+    same(rt, align.open_slots(), 0);
     Ok(())
 }
 
@@ -323,7 +329,7 @@ fn arrive_both(
     let quality = (number % 256) as u8;
     let block = block_7(rt, alloc, config, quality)?;
     let answer = arrive(rt, align, slot, place, block);
-    assert_eq!(rt; answer, plain.arrive(slot, place, quality)?);
+    same(rt, answer, plain.arrive(slot, place, quality)?);
     Ok(())
 }
 
@@ -394,10 +400,11 @@ fn caller_knows_what_left(rt: HostRuntime) -> Result<(), Fail> {
     let config = config_7(&rt, alloc)?;
     let mut align = stream_102(&rt, alloc, 0, 4)?;
     let block = block_7(&rt, alloc, &config, 5)?;
-    assert_eq!(rt; arrive(&rt, &mut align, 3001, 1, block), Arrived::Kept);
-    assert_eq!(rt;
+    same(&rt, arrive(&rt, &mut align, 3001, 1, block), Arrived::Kept);
+    same(
+        &rt,
         numbers_leaving(alloc, &mut align)?.as_slice(),
-        [3001].as_slice()
+        [3001].as_slice(),
     );
     Ok(())
 }

@@ -2,8 +2,8 @@
 
 use crate::report::{edit_name, reason, report_of};
 use pg_gateway::{Edit, Gate, Gateway, Reply};
-use pg_operator::{read_setup, setup_faults};
 use pg_serve::event_of;
+use pg_setup::{read_setup, setup_faults};
 use pg_wire::Refusal;
 use std::alloc::Global;
 

@@ -19,7 +19,7 @@ use Rattle.pg_ingest.specs.declared.link.LinkEvent.TheVariants.{Announce, Measur
 use Rattle.pg_ingest.specs.declared.asking.Asking.{Asking}
 use Rattle.pg_ingest.specs.Items.{Item, Tells, announced_last, known_after, break_in, item_unless, announces, measures, skips, rejects_config, rejects_data, passes_over}
 use Rattle.pg_ingest.specs.Commands.{Act, tells, asks, told_in}
-use Rattle.pg_ingest.specs.Linking.{Linking, ignoring, with_item, with_items, stats_of, after_item}
+use Rattle.pg_ingest.specs.Linking.{Linking, ignoring, with_link_item, with_link_items, link_stats, after_item}
 use Rattle.pg_ingest.specs.Asked.{asking_of, asking_after, asking_less, next_word}
 use Rattle.pg_ingest.specs.Shown.{LinkPast, ShowsLink, IsAllTold, doing, told_before, command_due, commanding, word_due}
 use Rattle.pg_ingest.specs.Links.{IsEventOf, GivesEventOf, Counts}
@@ -30,9 +30,9 @@ told_in-append [] more = refl
 told_in-append (tells item ∷ acts) more = ap (λ items. item ∷ items) (told_in-append acts more)
 told_in-append (asks word ∷ acts) more = told_in-append acts more
 
-with_items-append : (stats : PmuStats) (items : List Item) (item : Item) → with_items stats (items ++ item ∷ []) ≡ with_item (with_items stats items) item
-with_items-append stats [] item = refl
-with_items-append stats (x ∷ items) item = with_items-append (with_item stats x) items item
+with_link_items-append : (stats : PmuStats) (items : List Item) (item : Item) → with_link_items stats (items ++ item ∷ []) ≡ with_link_item (with_link_items stats items) item
+with_link_items-append stats [] item = refl
+with_link_items-append stats (x ∷ items) item = with_link_items-append (with_link_item stats x) items item
 
 reverse-last : {A : Type 0} (xs : List A) (x : A) → reverse (xs ++ x ∷ []) ≡ x ∷ reverse xs
 reverse-last xs x = reverse-append xs (x ∷ [])
@@ -53,8 +53,8 @@ item_shown old new bytes past frame item shows tells_it given is = record {
   known = ap (λ (v : Linking). v.known) is ∙ ap (λ k. known_after k item) shows.known ∙ ap announced_last (sym (told_one_more past item));
   asking = ap (λ (v : Linking). v.asking) is ∙ ap (λ a. asking_after a item) shows.asking ∙ asking_told (reverse past.acts) item
       ∙ ap asking_of (sym (reverse-last past.acts (tells item)));
-  stats = ap (λ (v : Linking). v.stats) is ∙ ap (λ s. with_item s item) shows.stats ∙ sym (with_items-append no_pmu_stats (past.earlier ++ told_in past.acts) item)
-      ∙ ap stats_of (append_assoc past.earlier (told_in past.acts) (item ∷ []) ∙ ap (λ items. past.earlier ++ items) (sym (told_in-append past.acts (tells item ∷ []))));
+  stats = ap (λ (v : Linking). v.stats) is ∙ ap (λ s. with_link_item s item) shows.stats ∙ sym (with_link_items-append no_pmu_stats (past.earlier ++ told_in past.acts) item)
+      ∙ ap link_stats (append_assoc past.earlier (told_in past.acts) (item ∷ []) ∙ ap (λ items. past.earlier ++ items) (sym (told_in-append past.acts (tells item ∷ []))));
 }
 
 -- the event that is given of an item
@@ -115,7 +115,7 @@ command_shown old asking past shows is =
       asking = is ∙ ap asking_less shows.asking ∙ asking_given (reverse past.acts)
           ∙ ap asking_of (ap (λ outs. outs ++ reverse past.acts) (sym (reverse-given (word_due past)))
           ∙ sym (reverse-append past.acts (option_to_list (option_map asks (word_due past)))));
-      stats = shows.stats ∙ ap (λ items. stats_of (past.earlier ++ items)) (sym same);
+      stats = shows.stats ∙ ap (λ items. link_stats (past.earlier ++ items)) (sym same);
     }
 
 -- the frame of the command that is owed
@@ -129,9 +129,9 @@ some-same : (a b : Refusal) → Some a ≡ Some b → a ≡ b
 some-same a b is = cc
 
 -- the event that is given of an item is counted
-pub event_counted : (stats : PmuStats) (event : LinkEvent) (item : Item) → IsEventOf event item → Counts stats event (with_item stats item)
-event_counted stats (Announce config) item is = ap (with_item stats) is
-event_counted stats (Measure frame) item is = ap (with_item stats) is
+pub event_counted : (stats : PmuStats) (event : LinkEvent) (item : Item) → IsEventOf event item → Counts stats event (with_link_item stats item)
+event_counted stats (Announce config) item is = ap (with_link_item stats) is
+event_counted stats (Measure frame) item is = ap (with_link_item stats) is
 event_counted stats (Ended r) item is = absurd is
 event_counted stats More item is = absurd is
 event_counted stats (Ignored r) (announces config) is = absurd (cc)

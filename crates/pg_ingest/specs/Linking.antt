@@ -19,20 +19,20 @@ taking stats = record stats { taken = more stats.taken 1 }
 abbrev pub ignoring : PmuStats → Refusal → PmuStats
 ignoring stats r = record stats { by_reason = counted stats.by_reason (number_of r) }
 
-abbrev pub with_item : PmuStats → Item → PmuStats
-with_item stats (announces config) = taking stats
-with_item stats (measures m) = taking stats
-with_item stats (skips r) = ignoring stats r
-with_item stats (rejects_config r) = ignoring stats r
-with_item stats (rejects_data r) = ignoring stats r
-with_item stats passes_over = ignoring stats WrongType
+abbrev pub with_link_item : PmuStats → Item → PmuStats
+with_link_item stats (announces config) = taking stats
+with_link_item stats (measures m) = taking stats
+with_link_item stats (skips r) = ignoring stats r
+with_link_item stats (rejects_config r) = ignoring stats r
+with_link_item stats (rejects_data r) = ignoring stats r
+with_link_item stats passes_over = ignoring stats WrongType
 
-abbrev pub with_items : PmuStats → List Item → PmuStats
-with_items stats [] = stats
-with_items stats (item ∷ items) = with_items (with_item stats item) items
+abbrev pub with_link_items : PmuStats → List Item → PmuStats
+with_link_items stats [] = stats
+with_link_items stats (item ∷ items) = with_link_items (with_link_item stats item) items
 
-abbrev pub stats_of : List Item → PmuStats
-stats_of items = with_items no_pmu_stats items
+abbrev pub link_stats : List Item → PmuStats
+link_stats items = with_link_items no_pmu_stats items
 
 -- What a link holds: its source, the bytes of a frame that has begun, the configuration announced last, what it asks its
 -- source for, and its counters.
@@ -53,7 +53,7 @@ heard v piece = record v { bytes = fed v.bytes piece }
 
 -- after it told an item
 abbrev pub after_item : Linking → Item → Linking
-after_item v item = record v { known = known_after v.known item; asking = asking_after v.asking item; stats = with_item v.stats item }
+after_item v item = record v { known = known_after v.known item; asking = asking_after v.asking item; stats = with_link_item v.stats item }
 
 -- how many commands are owed
 abbrev pub words_owed : Linking → ℕ

@@ -9,7 +9,7 @@ use Rattle.pg_command.specs.Spelling.{written}
 use Rattle.pg_ingest.specs.Items.{Item, announced_last, AreTold}
 use Rattle.pg_ingest.specs.Commands.{Act, asks, told_in, owed_word}
 use Rattle.pg_ingest.specs.Asked.{asking_of}
-use Rattle.pg_ingest.specs.Linking.{Linking, stats_of}
+use Rattle.pg_ingest.specs.Linking.{Linking, link_stats}
 
 -- What happened to a link: its source, what it told before the last reset, and the bytes that it was fed and what it did
 -- since then (or since it was new).
@@ -47,7 +47,7 @@ pub record ShowsLink (v : Linking) (past : LinkPast) : Type 0 where
   pub told : AreTold past.source (reverse frames) (told_before past)
   pub known : v.known ≡ announced_last (told_before past)
   pub asking : v.asking ≡ asking_of (reverse past.acts)
-  pub stats : v.stats ≡ stats_of (past.earlier ++ told_in past.acts)
+  pub stats : v.stats ≡ link_stats (past.earlier ++ told_in past.acts)
 
 -- All of a stream's frames were told.
 abbrev pub IsAllTold : LinkPast → Type 0

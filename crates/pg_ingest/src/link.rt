@@ -3,7 +3,7 @@
 ghost use Rattle.std.specs.Prelude.{◌≡◌, ◌+◌, ◌≤◌, ◌<◌, ◌++◌, [], true, false, length, drop, IfOk, IfErr, IfNone, OnSome};
 ghost use Rattle.pg_ingest.specs.Reading.{item_told, IsPaired};
 ghost use Rattle.pg_ingest.specs.Commands.{told_in};
-ghost use Rattle.pg_ingest.specs.Linking.{unfed, heard, after_item, stats_of, ignoring, words_owed};
+ghost use Rattle.pg_ingest.specs.Linking.{unfed, heard, after_item, link_stats, ignoring, words_owed};
 ghost use Rattle.pg_ingest.specs.Shown.{LinkPast, beginning, feeding, renewed, ShowsLink, command_due, commanding};
 ghost use Rattle.pg_ingest.specs.Begun.{Begins};
 ghost use Rattle.pg_ingest.specs.Links.{IsEventOf, GivesEvent, Holds, Counts};
@@ -224,7 +224,7 @@ impl Link {
     /// What it counted since it was new: the events that it gave, and the frames that it ignored by their reason.
     pub fn stats(&self) -> &PmuStats
         ensures value { result.now ≡ self.now.stats }
-        ensures counts { (past : LinkPast) → ShowsLink self.now past → result.now ≡ stats_of (past.earlier ++ told_in past.acts) }
+        ensures counts { (past : LinkPast) → ShowsLink self.now past → result.now ≡ link_stats (past.earlier ++ told_in past.acts) }
     {
         &self.stats
     }

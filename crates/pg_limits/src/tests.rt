@@ -1,10 +1,16 @@
 use crate::{Allow, Budget, ClockGuard, Deadline, Network, Pause};
 use std::collections::VecDeque;
+use std::fmt::Debug;
 use std::io::{ErrorKind, Read};
 use std::net::Ipv4Addr;
 use std::process::Abort;
 use std::test::*;
 use std::time::{Duration, Instant};
+
+/// Ends the test where what came is not what was wanted, and tells both: a call is proved sooner than the code of a macro.
+fn same<T: PartialEq + Debug + Drop>(rt: &impl Abort, came: T, wanted: T) {
+    assert_eq!(*rt; came, wanted);
+}
 
 // ---- networks
 
@@ -77,12 +83,12 @@ fn hosts_that_may_connect(rt: HostRuntime) -> Result<(), Fail> {
 #[test]
 fn pauses(rt: HostRuntime) {
     let mut pause = Pause::none();
-    assert_eq!(rt; pause.seconds(), 0);
+    same(&rt, pause.seconds(), 0);
     for seconds in [1, 2, 4, 8, 16, 30, 30] {
         pause = pause.longer();
-        assert_eq!(rt; pause.seconds(), seconds);
+        same(&rt, pause.seconds(), seconds);
     }
-    assert_eq!(rt; Pause::none().longer().seconds(), 1);
+    same(&rt, Pause::none().longer().seconds(), 1);
 }
 
 /// The instant so many seconds and nanoseconds later.
@@ -108,17 +114,17 @@ fn deadline_at_its_limit(rt: HostRuntime) -> Result<(), Fail> {
         (3_600, 0, 0, true),
     ] {
         let now = later(&rt, start, seconds, nanos);
-        assert_eq!(rt; deadline.left(now).as_nanos(), left);
-        assert_eq!(rt; deadline.is_over(now), over);
+        same(&rt, deadline.left(now).as_nanos(), left);
+        same(&rt, deadline.is_over(now), over);
     }
     // seen again half a second before its end: it has its whole limit from there
     let seen = later(&rt, start, 9, 500_000_000);
     deadline.seen(seen);
-    assert_eq!(rt; deadline.limit, Duration::from_secs(10));
+    same(&rt, deadline.limit, Duration::from_secs(10));
     assert!(rt; !deadline.is_over(later(&rt, start, 19, 499_999_999)));
     assert!(rt; deadline.is_over(later(&rt, start, 19, 500_000_000)));
     // a clock that reads earlier than what was seen leaves the whole limit
-    assert_eq!(rt; deadline.left(start), Duration::from_secs(10));
+    same(&rt, deadline.left(start), Duration::from_secs(10));
     Ok(())
 }
 
@@ -205,24 +211,26 @@ fn budget_of_sixteen_reads(rt: HostRuntime) -> Result<(), Fail> {
     let mut got = Vec::new(alloc);
     let mut budget = Budget::new(source, 16);
     assert!(rt; !budget.is_used_up());
-    assert_eq!(rt;
+    same(
+        &rt,
         drain(&mut budget, &mut got)?,
-        (16, Some(ErrorKind::WouldBlock))
+        (16, Some(ErrorKind::WouldBlock)),
     );
     assert!(rt; budget.is_used_up());
-    assert_eq!(rt; got.len(), 16 * 4096);
+    same(&rt, got.len(), 16 * 4096);
     // it stays used up
-    assert_eq!(rt;
+    same(
+        &rt,
         drain(&mut budget, &mut got)?,
-        (0, Some(ErrorKind::WouldBlock))
+        (0, Some(ErrorKind::WouldBlock)),
     );
-    assert_eq!(rt; got.len(), 16 * 4096);
+    same(&rt, got.len(), 16 * 4096);
     // the next turn goes on where this one stopped, and ends before its budget does
     let mut next = Budget::new(budget.reader, 16);
-    assert_eq!(rt; drain(&mut next, &mut got)?, (4, None));
+    same(&rt, drain(&mut next, &mut got)?, (4, None));
     assert!(rt; !next.is_used_up());
-    assert_eq!(rt; next.left, 11);
-    assert!(rt; got == sent);
+    same(&rt, next.left, 11);
+    same(&rt, got, sent);
     Ok(())
 }
 
@@ -234,6 +242,6 @@ fn budget_of_no_read(rt: HostRuntime) -> Result<(), Fail> {
     assert!(rt; budget.is_used_up());
     let mut buf = [0; 8];
     assert!(rt; budget.read(&mut buf).is_err());
-    assert_eq!(rt; budget.reader.len(), 1);
+    same(&rt, budget.reader.len(), 1);
     Ok(())
 }

@@ -1,7 +1,7 @@
--- Words that are too few or too many for a line that steers.
-use Rattle.std.proofs.Common.{◌≡◌, ◌<◌, ◌≤◌, arith, refl, List, [], ◌∷◌, length, map, Option, Some, None}
+-- Words that are too few or too many for a line.
+use Rattle.std.proofs.Common.{◌≡◌, ◌<◌, ◌≤◌, arith, refl, List, [], ◌∷◌, length, map, Option, Some, None, Bor}
 use Rattle.pg_operator.specs.Words.{Text}
-use Rattle.pg_operator.specs.Lines.{two}
+use Rattle.pg_operator.specs.Lines.{two, define}
 use Rattle.pg_operator.specs.Steers.{bound_in, listen}
 
 pub few : {V X Y : Type 0} (read : Text → Option X) (next : Text → Option Y) (f : V → Text) (vs : List V) → length vs < 2 → None ≡ two read next (map f vs)
@@ -28,3 +28,14 @@ pub two_hosts : {V : Type 0} (f : V → Text) (vs : List V) → 2 ≤ length vs 
 two_hosts f [] h = absurd (omega arith)
 two_hosts f (v ∷ []) h = absurd (omega arith)
 two_hosts f (v ∷ w ∷ vs) h = refl
+
+-- fewer than seven words define nothing
+pub too_few : (ws : List (Bor Text)) → length ws < 7 → define (map (λ w. w.now) ws) ≡ None
+too_few [] e = refl
+too_few (a ∷ []) e = refl
+too_few (a ∷ b ∷ []) e = refl
+too_few (a ∷ b ∷ c ∷ []) e = refl
+too_few (a ∷ b ∷ c ∷ d ∷ []) e = refl
+too_few (a ∷ b ∷ c ∷ d ∷ f ∷ []) e = refl
+too_few (a ∷ b ∷ c ∷ d ∷ f ∷ g ∷ []) e = refl
+too_few (a ∷ b ∷ c ∷ d ∷ f ∷ g ∷ h ∷ ms) e = absurd (omega (arith, e))

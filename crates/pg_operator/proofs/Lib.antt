@@ -1,13 +1,5 @@
-pub mod PlainWords
-pub mod ClapReads
-pub mod Asked
 pub mod NoVerb
 pub mod Cutting
-pub mod Numbers
-pub mod Keys
-pub mod Lists
-pub mod Plans
-pub mod Labels
+pub mod Numerals
 pub mod Digits
-pub mod Sources
 pub mod Counts

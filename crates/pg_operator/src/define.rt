@@ -40,19 +40,24 @@ pub(crate) fn define(alloc: Global, args: &[&str]) -> Result<Edit, Refusal>
     Ok(Edit::Define(subscriber, numbers.with(header, members)))
 }
 
-/// The numbers of a definition.
-#[derive(Clone, Copy)]
-pub(crate) struct Numbers {
-    pub(crate) stream: StreamId,
-    pub(crate) rate: u8,
-    pub(crate) base: u32,
-    pub(crate) wait: u32,
-    pub(crate) window: u32,
+/// The numbers of a definition, apart from its header and its members.
+#[derive(Clone, Copy, Debug)]
+pub struct Numbers {
+    /// The stream's number.
+    pub stream: StreamId,
+    /// Slots a second.
+    pub rate: u8,
+    /// The resolution of its stamps, in parts of a second.
+    pub base: u32,
+    /// How many ticks a slot waits.
+    pub wait: u32,
+    /// How many slots may be open at once.
+    pub window: u32,
 }
 
 impl Numbers {
-    /// The definition with these numbers.
-    pub(crate) fn with(self, header: HeaderText, members: Members) -> Definition
+    /// The definition with these numbers, this header and these members.
+    pub fn with(self, header: HeaderText, members: Members) -> Definition
         ensures { result ≡ record { stream = self.stream; rate = self.rate; base = self.base; wait = self.wait; window = self.window; header = header; members = members } }
     {
         Definition {

@@ -1,16 +1,11 @@
-//! An operator's line: its words are split at spaces, taken apart by `clap`, and read one by one.
-ghost use Rattle.std.specs.Prelude.{◌≡◌, ◌≢◌, ◌<◌, ◌⊎◌, length, codes, IfOk, option_map, IfErr, Some, None, [], map, true, false, drop, fold};
-ghost use Rattle.clap.specs.Words.{all_of, app_of, fault_of, found_of, rows_of, rule_of, subcommand_of, subcommand_rows_of};
-ghost use Rattle.clap.specs.declared.builder.command.Command.TheViews.{out-Command};
-ghost use Rattle.pg_operator.specs.Lines.{words_of, is_plain, all_plain, edit_of, edit_of_words, edit_asked, edit_by, add_sub, limit_in, one, two};
+//! An operator's line: its words are split at spaces, and read one by one.
+ghost use Rattle.std.specs.Prelude.{◌≡◌, ◌≢◌, ◌⊎◌, IfOk, option_map, IfErr, Some, None, map};
+ghost use Rattle.pg_operator.specs.Lines.{words_of, is_plain, all_plain, edit_of, edit_of_words, edit_by, add_sub, limit_in, one, two};
 ghost use Rattle.pg_operator.specs.Words.{number_in, stream_id_in, subscriber_in, key_in};
-ghost use Rattle.pg_operator.specs.Clap.{asked_in, line_app, verb_app, with_verb, words_rule};
 
 use crate::define::define;
-use crate::verb::{VERBS, Verb};
+use crate::verb::Verb;
 use crate::words;
-use clap::error::ErrorKind;
-use clap::{Arg, ArgMatches, Command};
 use pg_gateway::Edit;
 use pg_ring::RingBytes;
 use pg_wire::{PmuKey, Refusal, StreamId, SubId};
@@ -74,115 +69,18 @@ fn all_plain(words: &[&str]) -> bool
     words.iter().all(|word| is_plain(word))
 }
 
-/// The edit that words ask for, of which none begins with a hyphen.
-fn edit_of_words<'a>(alloc: Global, words: &'a [&'a str]) -> Result<Edit, Refusal>
-    requires { all_plain (map (λ w. w.now) words.now) ≡ true }
-    ensures ok { IfOk result (λ e. edit_of_words (map (λ w. w.now) words.entry.now) ≡ Some e) }
-    ensures err { IfErr result (λ r. (r ≡ Refusal.NoMemory) ⊎ ((r ≡ Refusal.BadLine) × (edit_of_words (map (λ w. w.now) words.entry.now) ≡ None))) }
+/// The edit that words ask for.
+fn edit_of_words(alloc: Global, words: &[&str]) -> Result<Edit, Refusal>
+    ensures ok { IfOk result (λ e. edit_of_words (map (λ w. w.now) words.now) ≡ Some e) }
+    ensures err { IfErr result (λ r. (r ≡ Refusal.NoMemory) ⊎ ((r ≡ Refusal.BadLine) × (edit_of_words (map (λ w. w.now) words.now) ≡ None))) }
 {
-    let matches = match matched(alloc, words) {
-        Ok(matches) => matches,
-        Err(refusal) => return Err(refusal),
+    let [verb, args @ ..] = words else {
+        return Err(Refusal::BadLine);
     };
-    match asked(&matches) {
-        Some((verb, args)) => edit_asked(alloc, verb, args),
-        None => Err(Refusal::BadLine),
-    }
-}
-
-/// The verb that was found, and the words after it.
-fn asked<'a, 'm>(matches: &'m ArgMatches<'a>) -> Option<(&'a str, &'m [&'a str])>
-    ensures { option_map (λ p. (p.0.now, map (λ w. w.now) p.1.now)) result ≡ asked_in (subcommand_rows_of matches.now) }
-{
-    let (verb, inner) = matches.subcommand()?;
-    let args = words_found(inner)?;
-    Some((verb, args))
-}
-
-/// The words that were found in their place.
-fn words_found<'a, 'm>(matches: &'m ArgMatches<'a>) -> Option<&'m [&'a str]>
-    ensures { option_map (λ s. map (λ w. w.now) s.now) result ≡ all_of (codes "words") (rows_of (found_of matches.now)) }
-{
-    matches.get_strs(WORDS)
-}
-
-/// The edit of a verb, as it is written, and the words after it.
-fn edit_asked(alloc: Global, verb: &str, args: &[&str]) -> Result<Edit, Refusal>
-    ensures ok { IfOk result (λ e. edit_asked verb.now (map (λ w. w.now) args.now) ≡ Some e) }
-    ensures err { IfErr result (λ r. (r ≡ Refusal.NoMemory) ⊎ ((r ≡ Refusal.BadLine) × (edit_asked verb.now (map (λ w. w.now) args.now) ≡ None))) }
-{
     match Verb::of(verb) {
         Some(verb) => edit_by(alloc, verb, args),
         None => Err(Refusal::BadLine),
     }
-}
-
-/// The name of the place of a verb's words.
-const WORDS: &str = "words";
-
-/// The most words after a verb: those of a definition with 32 members.
-const WORD_LIMIT: usize = 39;
-
-/// What `clap` makes of the words.
-fn matched<'a>(alloc: Global, words: &'a [&'a str]) -> Result<ArgMatches<'a>, Refusal>
-    ensures ok { IfOk result (λ m. (fault_of line_app (map (λ w. w.now) words.entry.now) ≡ [])
-        × (subcommand_rows_of m ≡ subcommand_of line_app (map (λ w. w.now) words.entry.now))) }
-    ensures err { IfErr result (λ r. (r ≡ Refusal.NoMemory) ⊎ ((r ≡ Refusal.BadLine)
-        × (0 < length (fault_of line_app (map (λ w. w.now) words.entry.now))))) }
-{
-    let command = command(alloc)?;
-    match command.try_get_matches_from(words) {
-        Ok(matches) => Ok(matches),
-        Err(error) => match error.kind() {
-            ErrorKind::OutOfMemory => Err(Refusal::NoMemory),
-            _ => Err(Refusal::BadLine),
-        },
-    }
-}
-
-/// The command with a subcommand for each verb. It takes no word for help.
-fn command<'a>(alloc: Global) -> Result<Command<'a>, AllocError>
-    ensures { IfOk result (λ c. app_of c ≡ line_app) }
-{
-    let start = Command::new(alloc, "line")
-        .no_binary_name(true)
-        .disable_help_flag(true)
-        .disable_help_subcommand(true)
-        .subcommand_required(true);
-    with_verbs(alloc, start, &VERBS)
-}
-
-/// The command with a further subcommand for each of these verbs.
-fn with_verbs<'a>(
-    alloc: Global,
-    start: Command<'a>,
-    verbs: &[&'a str],
-) -> Result<Command<'a>, AllocError>
-    ensures { IfOk result (λ c. app_of c ≡ fold with_verb (app_of start.entry) (map (λ v. v.now) verbs.now)) }
-{
-    let mut command = start;
-    'verbs: for verb in verbs {
-        command = command.subcommand(verb_command(alloc, verb)?)?;
-    }
-    Ok(command)
-}
-
-/// The subcommand of a verb: its name, and then its words.
-fn verb_command<'a>(alloc: Global, verb: &'a str) -> Result<Command<'a>, AllocError>
-    ensures shape { IfOk result (λ c. app_of c ≡ verb_app verb.entry.now) }
-    ensures local { IfOk result (λ c. (out-Command c).has_globals ≡ false) }
-{
-    Command::new(alloc, verb).arg(words_arg(alloc))
-}
-
-/// The place of one to 39 words.
-fn words_arg<'a>(alloc: Global) -> Arg<'a>
-    ensures rule { rule_of result ≡ words_rule }
-    ensures local { result.global ≡ false }
-{
-    Arg::new(alloc, WORDS)
-        .required(true)
-        .num_args(1..=WORD_LIMIT)
 }
 
 /// The edit that a verb makes of the words after it.

@@ -18,12 +18,6 @@ pub(crate) enum Verb {
     Audit,
 }
 
-/// The verbs, as they are written.
-pub(crate) const VERBS: [&str; 11] = [
-    "addpmu", "droppmu", "addsub", "dropsub", "grant", "revoke", "define", "remove", "stats",
-    "pmustats", "audit",
-];
-
 impl Verb {
     /// The verb that is written so.
     pub(crate) fn of(word: &str) -> Option<Verb>

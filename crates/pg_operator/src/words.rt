@@ -93,7 +93,7 @@ pub fn ring_bytes(word: &str) -> Option<RingBytes>
 }
 
 /// What stands before the first such character of the word, and what after it.
-pub(crate) fn halves(word: &str, at: char) -> Option<(&str, &str)>
+pub fn halves(word: &str, at: char) -> Option<(&str, &str)>
     requires { at < 128 }
     ensures { option_map (λ p. (p.0.now, p.1.now)) result ≡ halves at word.now }
 {

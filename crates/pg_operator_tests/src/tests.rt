@@ -1,6 +1,7 @@
 use crate::asserts::same;
 use pg_gateway::Edit;
-use pg_operator::{Setup, parse_line, read_setup, words};
+use pg_operator::{parse_line, words};
+use pg_setup::{Setup, read_setup};
 use pg_wire::{PmuKey, Refusal};
 use std::alloc::{AllocError, Global};
 use std::net::Ipv4Addr;

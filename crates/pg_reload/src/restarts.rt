@@ -5,7 +5,7 @@ ghost use Rattle.std.specs.Str.{bytes_eq};
 ghost use Rattle.pg_operator.specs.Addresses.{endpoint};
 ghost use Rattle.pg_reload.specs.Restarts.{endpoint_eq, keys_of, restarts_between, told_unless};
 
-use pg_operator::Setup;
+use pg_setup::Setup;
 use pg_wire::Refusal;
 use std::alloc::Global;
 use std::net::SocketAddrV4;

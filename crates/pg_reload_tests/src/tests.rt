@@ -1,7 +1,7 @@
 use crate::asserts::same;
 use pg_gateway::{Edit, Event, Gate, Gateway, Reply};
-use pg_operator::{Setup, read_setup};
 use pg_reload::{Changes, Order, Port, Restart, changes_between};
+use pg_setup::{Setup, read_setup};
 use pg_wire::PmuKey;
 use std::alloc::{AllocError, Global};
 use std::process::Abort;

@@ -1,6 +1,6 @@
 //! Why the service does not run.
 
-use pg_operator::BoundBy;
+use pg_setup::BoundBy;
 use pg_wire::Refusal;
 use std::io;
 use std::io::ErrorKind;

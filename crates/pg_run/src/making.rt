@@ -8,12 +8,12 @@ use crate::reloading::InForce;
 use crate::serving::{Plan, Waits};
 use crate::workers::{Worker, share_ports, share_sources, told_as};
 use pg_console::{Counter, Told};
-use pg_operator::Setup;
 use pg_serve::{Named, Seat, Shared, SharedGate};
 use pg_service::{
     Detail, Dial, Entry, Finder, Journal, Logger, Neighbours, Notice, Port, PortWorker,
     SourceWorker, Ticker, Waiting, Whom,
 };
+use pg_setup::Setup;
 use pg_window::Window;
 use pg_wire::Refusal;
 use std::alloc::Global;
@@ -82,15 +82,56 @@ pub(crate) fn make_workers<
     requires seat { seat.table ≡ N.table }
     ensures seat { IfOk result (λ made. made.0 ≡ seat) }
 {
+    let Waits {
+        sources,
+        ports,
+        names,
+        window,
+    } = waits;
     let mut workers = Vec::new(makings.alloc);
-    let seat = add_callers(makings, seat, waits.sources, plan.dials, &mut workers)?;
-    let seat = add_servers(makings, seat, waits.ports, plan.ports, &mut workers)?;
-    add_finder(makings, waits.names, &mut workers)?;
-    let seat = add_window(makings, seat, waits.window, plan.openings, &mut workers)?;
-    let seat = add_ticker(makings, seat, plan.tick, &mut workers)?;
-    add_logger(makings, &mut workers)?;
+    let seat = add_callers(makings, seat, sources, plan.dials, &mut workers)?;
+    let seat = add_servers(makings, seat, ports, plan.ports, &mut workers)?;
+    let seat = add_watchers(
+        makings,
+        seat,
+        names,
+        window,
+        plan.openings,
+        plan.tick,
+        &mut workers,
+    )?;
     let seat = add_operator(makings, seat, desk, &mut workers)?;
     Ok((seat, workers))
+}
+
+/// Adds the workers that look up names, serve the control socket and the page, post ticks and write the log.
+fn add_watchers<
+    'a,
+    R: Input<Reader = StdinLock<'static>>
+        + Print
+        + Eprint
+        + Clock
+        + Net<Listener = TcpListener, Stream = TcpStream>
+        + Wait,
+    N: Named,
+>(
+    makings: &Makings<'a, R>,
+    seat: Seat,
+    names: Waiting,
+    window: Option<Waiting>,
+    openings: Openings,
+    tick: Duration,
+    workers: &mut Vec<Worker<'a, R, N>>,
+) -> Result<Seat, Refusal>
+    requires shared { makings.now.shared.now ≡ N.table }
+    requires seat { seat.table ≡ N.table }
+    ensures seat { IfOk result (λ rest. rest ≡ seat) }
+{
+    add_finder(makings, names, workers)?;
+    let seat = add_window(makings, seat, window, openings, workers)?;
+    let seat = add_ticker(makings, seat, tick, workers)?;
+    add_logger(makings, workers)?;
+    Ok(seat)
 }
 
 /// Adds the workers that call sources, one for each of these waits. Each source is given to one of them, in turn.

@@ -15,8 +15,8 @@ use crate::workers::told_as;
 use mio::net::TcpListener as PortListener;
 use pg_console::{SetUp, set_up};
 use pg_limits::ClockGuard;
-use pg_operator::{BoundBy, PortRules, Setup, SourceRules, read_setup};
-use pg_service::{Address, Board, Dial, DoorRules, Journal, Port};
+use pg_service::{Address, Board, Dial, DoorRules, Journal, Port, Registered};
+use pg_setup::{BoundBy, LogLevel, PortRules, Setup, SourceRules, read_setup};
 use pg_wire::{PmuId, Refusal, SubId};
 use std::alloc::Global;
 use std::io::{BufReader, BufWriter, StdinLock};
@@ -27,7 +27,7 @@ use std::sync::atomic::AtomicBool;
 use std::sync::{Mutex, Wait};
 use std::thread::Threads;
 use std::time::{Duration, Instant};
-use std::{fs, io};
+use std::{fs, io, mem};
 
 /// The work of `pdcgw run`, with the lines of standard input, answered on standard output: reads the setup, posts its edits, listens
 /// on the subscribers' ports and where an operator is served, and then serves until the line `quit` comes (own rule). The end of the
@@ -117,8 +117,77 @@ where
         + Alloc<A = Global>,
 {
     let alloc = rt.alloc();
+    let setup = setup_in(files, alloc, file)?;
+    let in_force = Mutex::new(setup_in(files, alloc, file)?);
+    let place = Place {
+        files,
+        file,
+        setup: &in_force,
+    };
+    run_by(rt, place, setup, desk, stop)
+}
+
+/// Serves by this setup, whose edits are posted before anything is listened to.
+fn run_by<'a, R>(
+    rt: &'a R,
+    place: Place<'a>,
+    mut setup: Setup,
+    desk: Desk<'a, R>,
+    stop: &'a AtomicBool,
+) -> Result<(), Failure>
+where
+    R: Input<Reader = StdinLock<'static>>
+        + Print
+        + Eprint
+        + Clock
+        + Net<Listener = TcpListener, Stream = TcpStream>
+        + Threads
+        + Wait
+        + Sync
+        + Alloc<A = Global>,
+{
+    let alloc = rt.alloc();
+    let edits = mem::replace(&mut setup.edits, Vec::new(alloc));
+    let SetUp {
+        shared,
+        seat,
+        registered,
+    } = set_up(rt, alloc, edits)?;
+    let known = known_by(rt, alloc, setup.log, registered)?;
+    let (plan, control) = plan_of(rt, place.files, alloc, setup)?;
+    let ended = serve_all::<R, Brand>(rt, alloc, &shared, seat, plan, desk, &known, place, stop);
+    if let Some(path) = control {
+        // Where it can't be removed, the next start replaces it.
+        let _ = fs::remove_file(place.files, path.as_str());
+    }
+    ended?;
+    Ok(())
+}
+
+/// What all workers know at first: a log of this level, an empty board, and what the edits registered.
+fn known_by<R: Wait>(
+    rt: &R,
+    alloc: Global,
+    log: LogLevel,
+    registered: Registered,
+) -> Result<Known, Refusal> {
+    let journal = Journal::new(alloc)?;
+    journal.set_filter(rt, filter_of(log));
+    Ok(Known {
+        journal,
+        board: Board::new(alloc),
+        registered: Mutex::new(registered),
+    })
+}
+
+/// What is served by this setup, on ports and sockets that are bound, and the path of its control socket.
+fn plan_of<R: Net + Clock>(
+    rt: &R,
+    files: &HostRuntime,
+    alloc: Global,
+    setup: Setup,
+) -> Result<(Plan, Option<String>), Failure> {
     let Setup {
-        edits,
         links,
         sources,
         ports,
@@ -126,16 +195,10 @@ where
         tick_ms,
         ingest,
         serve,
-        log,
         control,
         status,
-    } = setup_in(files, alloc, file)?;
-    let in_force = Mutex::new(setup_in(files, alloc, file)?);
-    let SetUp {
-        shared,
-        seat,
-        registered,
-    } = set_up(rt, alloc, edits)?;
+        ..
+    } = setup;
     let now = match Instant::now(rt) {
         Ok(now) => now,
         Err(error) => return Err(Failure::Refused(told_as(error))),
@@ -149,25 +212,7 @@ where
         serve: usize::from(serve),
         now,
     };
-    let journal = Journal::new(alloc)?;
-    journal.set_filter(rt, filter_of(log));
-    let known = Known {
-        journal,
-        board: Board::new(alloc),
-        registered: Mutex::new(registered),
-    };
-    let place = Place {
-        files,
-        file,
-        setup: &in_force,
-    };
-    let ended = serve_all::<R, Brand>(rt, alloc, &shared, seat, plan, desk, &known, place, stop);
-    if let Some(path) = control {
-        // Where it can't be removed, the next start replaces it.
-        let _ = fs::remove_file(files, path.as_str());
-    }
-    ended?;
-    Ok(())
+    Ok((plan, control))
 }
 
 /// The setup that a file has.

@@ -3,9 +3,9 @@ use Rattle.std.proofs.Common.{◌≡◌, ℕ, nat_eq, is_some, List, [], ◌∷�
 use Rattle.std.specs.Map.{lookup}
 use Rattle.std.proofs.lemmas.List.{map-append}
 use Rattle.pg_session.specs.Shown.{Model}
-use Rattle.pg_session.specs.Commands.{Hearing, items_of, stats_of as session_stats}
+use Rattle.pg_session.specs.Commands.{Hearing, items_of, session_stats}
 use Rattle.pg_ingest.specs.Items.{told_of}
-use Rattle.pg_ingest.specs.Linking.{stats_of as link_stats}
+use Rattle.pg_ingest.specs.Linking.{link_stats}
 use Rattle.pg_serve.specs.declared.source_link.SourceLink.{SourceLink}
 use Rattle.pg_gateway.specs.Occurrences.{Occurrence, measure, Answer}
 use Rattle.pg_gateway.specs.State.{SharedMachine, opening as shared_opening, own_of}

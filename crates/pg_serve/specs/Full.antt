@@ -10,10 +10,10 @@ use Rattle.pg_data.specs.Measurements.{Measurement}
 use Rattle.pg_ring.specs.Numbers.{shown_of}
 use Rattle.pg_session.specs.Shown.{Model}
 use Rattle.pg_session.specs.Shown as session
-use Rattle.pg_session.specs.Commands.{items_of, stats_of as session_stats}
+use Rattle.pg_session.specs.Commands.{items_of, session_stats}
 use Rattle.pg_ingest.specs.Items as link
 use Rattle.pg_ingest.specs.Items.{told_of, break_in}
-use Rattle.pg_ingest.specs.Linking.{stats_of as link_stats}
+use Rattle.pg_ingest.specs.Linking.{link_stats}
 use Rattle.pg_gateway.specs.Occurrences.{Occurrence, add_pmu, drop_pmu, add_sub, drop_sub, grant, asks, announce, measure, tick, stats, pmu_stats, audit, standing, Answer}
 use Rattle.pg_gateway.specs.State.{SharedMachine, opening as shared_opening, slot_of, own_of, refusal}
 use Rattle.pg_gateway.specs.Views.{Seen, full_answer, shared_step, view, private_run, Handed, handed_out, handed_in, Lossless}

@@ -62,6 +62,8 @@ struct Peers<'a, R: Net<Listener = TcpListener, Stream = TcpStream>> {
     boxes: &'a Boxes,
     stop: &'a AtomicBool,
     told: Told,
+    // What would be called anew, or told as hung up, if it ended before the workers do.
+    held: Vec<TcpStream>,
 }
 
 /// What the peers got, and whether the orders were followed.
@@ -141,7 +143,11 @@ impl<R: Net<Listener = TcpListener, Stream = TcpStream> + Wait> Peers<'_, R> {
             .send(self.rt, journal, SourceOrder::Renew(seven_id()?));
         self.told.is_over = self.told.is_over && has_ended(&seven, 1);
         let (again, _) = self.seven.accept()?;
-        get(&again, 18, &mut self.told.seven)
+        get(&again, 18, &mut self.told.seven)?;
+        self.held.push(nine)?;
+        self.held.push(again)?;
+        self.held.push(first)?;
+        Ok(())
     }
 }
 
@@ -347,6 +353,7 @@ fn talked<
         boxes: &boxes,
         stop: &stop,
         told,
+        held: Vec::new(alloc),
     };
     let mut workers = Vec::new(alloc);
     workers.push(Worker::Sources(sources)).expect(rt, "memory");

@@ -13,34 +13,34 @@ use Rattle.pg_command.specs.declared.command.Command.{Command}
 use Rattle.pg_command.specs.Reading.{command_of}
 use Rattle.pg_audit.specs.declared.counters.PmuStats.{PmuStats}
 use Rattle.pg_audit.specs.Counting.{no_pmu_stats}
-use Rattle.pg_session.specs.Commands.{Item, commands, ignores, item_of, item_kept, item_read, items_of, break_in, with_item, with_items, Hearing, ShowsHearing, next_of, GivesCommandOf, Holds}
+use Rattle.pg_session.specs.Commands.{Item, commands, ignores, item_of, item_kept, item_read, items_of, break_in, with_session_item, with_session_items, Hearing, ShowsHearing, next_of, GivesCommandOf, Holds}
 use Rattle.pg_session.specs.declared.session.Next.{Next}
 use Rattle.pg_session.specs.declared.session.Next.TheVariants as next
 
-with_items-append : (stats : PmuStats) (items : List Item) (item : Item) → with_items stats (items ++ item ∷ []) ≡ with_item (with_items stats items) item
-with_items-append stats [] item = refl
-with_items-append stats (x ∷ items) item = with_items-append (with_item stats x) items item
+with_session_items-append : (stats : PmuStats) (items : List Item) (item : Item) → with_session_items stats (items ++ item ∷ []) ≡ with_session_item (with_session_items stats items) item
+with_session_items-append stats [] item = refl
+with_session_items-append stats (x ∷ items) item = with_session_items-append (with_session_item stats x) items item
 
 -- one more item
 item_shown : (old new : Hearing) (stream : List ℕ) (given : List Item) (frame : List ℕ) (item : Item) (shows : ShowsHearing old stream given)
-    → item ≡ item_of frame → wire.ShowsStream new.bytes stream (shows.frames ++ frame ∷ []) → new.stats ≡ with_item old.stats item
+    → item ≡ item_of frame → wire.ShowsStream new.bytes stream (shows.frames ++ frame ∷ []) → new.stats ≡ with_session_item old.stats item
     → ShowsHearing new stream (given ++ item ∷ [])
 item_shown old new stream given frame item shows is bytes stats = record {
   frames = shows.frames ++ frame ∷ [];
   bytes = bytes;
   items = ap₂ (λ x y. x ++ y ∷ []) shows.items is ∙ sym (map-append item_of shows.frames (frame ∷ []));
-  stats = stats ∙ ap (λ s. with_item s item) shows.stats ∙ sym (with_items-append no_pmu_stats given item);
+  stats = stats ∙ ap (λ s. with_session_item s item) shows.stats ∙ sym (with_session_items-append no_pmu_stats given item);
 }
 
 pub frame_given : (old new : Hearing) (frame : Bor (List ℕ)) (read : Result Command Refusal)
-    → taking.GivesFrame old.bytes (taken.Frame frame) new.bytes → read ≡ command_of frame.now → new.stats ≡ with_item old.stats (item_read read)
+    → taking.GivesFrame old.bytes (taken.Frame frame) new.bytes → read ≡ command_of frame.now → new.stats ≡ with_session_item old.stats (item_read read)
     → (stream : List ℕ) (given : List Item) → ShowsHearing old stream given → GivesCommandOf stream given (next_of (item_read read)) new
 frame_given old new frame read gives is stats stream given shows = by read is stats
   where
     kept : item_of frame.now ≡ item_read (command_of frame.now)
     kept = ap (item_kept frame.now) (gives stream shows.frames shows.bytes).0
 
-    by : (r : Result Command Refusal) → r ≡ command_of frame.now → new.stats ≡ with_item old.stats (item_read r)
+    by : (r : Result Command Refusal) → r ≡ command_of frame.now → new.stats ≡ with_session_item old.stats (item_read r)
         → GivesCommandOf stream given (next_of (item_read r)) new
     by (Ok c) is stats =
         item_shown old new stream given frame.now (commands c) shows (ap item_read is ∙ sym kept) (gives stream shows.frames shows.bytes).1 stats
@@ -48,7 +48,7 @@ frame_given old new frame read gives is stats stream given shows = by read is st
         item_shown old new stream given frame.now (ignores r) shows (ap item_read is ∙ sym kept) (gives stream shows.frames shows.bytes).1 stats
 
 pub skipped_given : (old new : Hearing) (refusal : Refusal)
-    → taking.GivesFrame old.bytes (taken.Skipped refusal) new.bytes → new.stats ≡ with_item old.stats (ignores refusal)
+    → taking.GivesFrame old.bytes (taken.Skipped refusal) new.bytes → new.stats ≡ with_session_item old.stats (ignores refusal)
     → (stream : List ℕ) (given : List Item) → ShowsHearing old stream given → GivesCommandOf stream given (next.Ignored refusal) new
 skipped_given old new refusal gives stats stream given shows =
     let g = gives stream shows.frames shows.bytes in

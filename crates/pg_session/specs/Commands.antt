@@ -39,16 +39,16 @@ abbrev pub break_in : List ℕ → Option Refusal
 break_in stream = break_of (rest_in stream)
 
 -- each command counts as taken, each ignored frame under its reason
-abbrev pub with_item : PmuStats → Item → PmuStats
-with_item stats (commands c) = record stats { taken = more stats.taken 1 }
-with_item stats (ignores r) = record stats { by_reason = counted stats.by_reason (number_of r) }
+abbrev pub with_session_item : PmuStats → Item → PmuStats
+with_session_item stats (commands c) = record stats { taken = more stats.taken 1 }
+with_session_item stats (ignores r) = record stats { by_reason = counted stats.by_reason (number_of r) }
 
-abbrev pub with_items : PmuStats → List Item → PmuStats
-with_items stats [] = stats
-with_items stats (item ∷ items) = with_items (with_item stats item) items
+abbrev pub with_session_items : PmuStats → List Item → PmuStats
+with_session_items stats [] = stats
+with_session_items stats (item ∷ items) = with_session_items (with_session_item stats item) items
 
-abbrev pub stats_of : List Item → PmuStats
-stats_of items = with_items no_pmu_stats items
+abbrev pub session_stats : List Item → PmuStats
+session_stats items = with_session_items no_pmu_stats items
 
 -- What a session holds: its subscriber's number, the bytes of a frame that has begun, its counters, the length of the buffer
 -- that it keeps for drains, and what is left to write of what the last drain handed out.
@@ -70,7 +70,7 @@ pub record ShowsHearing (v : Hearing) (stream : List ℕ) (given : List Item) : 
   pub frames : List (List ℕ)
   pub bytes : wire.ShowsStream v.bytes stream frames
   pub items : given ≡ map item_of frames
-  pub stats : v.stats ≡ stats_of given
+  pub stats : v.stats ≡ session_stats given
 
 -- the answer that gives an item
 abbrev pub next_of : Item → Next

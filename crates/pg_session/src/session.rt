@@ -1,7 +1,7 @@
 //! A subscriber's bytes, cut into commands as they come.
 
 ghost use Rattle.std.specs.Prelude.{◌≡◌, ℕ, ◌+◌, ◌≤◌, ◌<◌, List, [], ◌++◌, length, take, drop, vec_len, IfOk, IfErr};
-ghost use Rattle.pg_session.specs.Commands.{Hearing, Item, item_read, with_item, next_of, unheard, heard, ShowsHearing, GivesCommand, Holds};
+ghost use Rattle.pg_session.specs.Commands.{Hearing, Item, item_read, with_session_item, next_of, unheard, heard, ShowsHearing, GivesCommand, Holds};
 
 use crate::pending::Pending;
 use pg_audit::PmuStats;
@@ -151,7 +151,7 @@ impl Session {
     /// Counts a command, or a frame that was ignored.
     fn count(&mut self, read: Result<Command, Refusal>) -> Next
         ensures answer { result ≡ next_of (item_read read) }
-        ensures counted { self.new ≡ record self.old { stats = with_item self.old.stats (item_read read) } }
+        ensures counted { self.new ≡ record self.old { stats = with_session_item self.old.stats (item_read read) } }
     {
         match read {
             Ok(command) => {

@@ -1,5 +1,5 @@
 use Rattle.std.proofs.Common.{refl, inr}
-use Rattle.pg_operator.proofs.Asked.{too_few}
+use Rattle.pg_operator.proofs.Counts.{too_few}
 use Rattle.pg_operator.proofs.define.define.Goals as goal
 
 pub returns-in_default-clause-err : goal.returns-in_default-clause-err

@@ -1,5 +1,5 @@
 use Rattle.std.proofs.Common.{rules}
-use Rattle.pg_operator.proofs.Numbers.{number_value}
+use Rattle.pg_operator.proofs.Numerals.{number_value}
 use Rattle.pg_operator.proofs.words.value_of.Goals as goal
 
 pub unwrap-requires : goal.unwrap-requires

@@ -1,4 +1,0 @@
-use Rattle.pg_run.proofs.running.run_at.Given as goal
-
-abbrev pub ghosts-serve_all : goal.ghosts-serve_all
-ghosts-serve_all g a = record { table = a.shared.now }

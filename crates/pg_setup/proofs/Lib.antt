@@ -1,0 +1,5 @@
+pub mod Keys
+pub mod Lists
+pub mod Plans
+pub mod Labels
+pub mod Sources

@@ -1,0 +1,22 @@
+//! The setup file: what it asks for, and what is wrong with it.
+#![tactic(auto)]
+
+mod address;
+mod door;
+mod faults;
+mod general;
+mod kind;
+mod place;
+mod pmu;
+mod setup;
+mod source;
+mod stream;
+mod table;
+
+pub use door::PortRules;
+pub use faults::{Fault, Wrong, setup_faults};
+pub use general::LogLevel;
+pub use kind::{Found, Heading, Kind, Misfit};
+pub use place::{BoundBy, line_of_key};
+pub use setup::{Setup, read_setup};
+pub use source::SourceRules;
