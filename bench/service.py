@@ -89,12 +89,12 @@ def setup_text(tick_ms, sources, subscribers, ingest=1, serve=1, more=()):
 class Gateway:
     """The program with a setup, until it is told to quit."""
 
-    def __init__(self, program, text):
+    def __init__(self, program, text, begin=None):
         self.file = tempfile.NamedTemporaryFile("w", suffix=".toml")
         self.file.write(text)
         self.file.flush()
         self.process = subprocess.Popen([program, "run", "--setup", self.file.name], stdin=subprocess.PIPE,
-                                        stdout=subprocess.PIPE, stderr=subprocess.PIPE)
+                                        stdout=subprocess.PIPE, stderr=subprocess.PIPE, preexec_fn=begin)
 
     def ask(self, line):
         self.process.stdin.write(line.encode() + b"\n")

@@ -1,11 +1,13 @@
 #!/usr/bin/env python3
 """Soaks the running service: for so many minutes sources are lost and come back, subscribers reconnect in storms, read slowly and
 flood (a second in five, so that the machine is left to others), sources flood, and an operator edits, all beside a quiet neighbour. What the neighbour got is compared byte for byte with
-what `pdcgw replay` hands out for the same frames; the gateway's memory and descriptors are read once a second.
+what `pdcgw replay` hands out for the same frames; the gateway's memory and descriptors, and its counts of the neighbour, are read
+once a second. Where frames were dropped it says when, and how late the neighbour's source and reader were then.
 
-    python3 bench/soak.py PROGRAM [MINUTES]     30 minutes if not told
+    python3 bench/soak.py PROGRAM [MINUTES] [--first]     30 minutes if not told
 
-It ends by itself, with status 1 where a byte differed, a frame was missing, or memory or descriptors grew.
+With --first the gateway, the neighbour and its source run before whatever else the machine does (SCHED_RR), for a machine that has
+other work. It ends by itself, with status 1 where a byte differed, a frame was missing, or memory or descriptors grew.
 """
 import multiprocessing
 import os
@@ -26,17 +28,28 @@ SUBSCRIBERS = [(1, 64, [(1000, RATE, [(100, 100)])]), (2, 64, [(2000, RATE, [(10
                (4, 64, [(2000, RATE, [(102, 102)])]), (5, 64, [(5000, RATE, [(103, 103)])])]
 
 
+# How late a peer of the neighbour may be before that is told, in seconds.
+LATE = 0.25
+
+
+def go_first():
+    """This process runs before those of an ordinary priority."""
+    os.sched_setscheduler(0, os.SCHED_RR, os.sched_param(1))
+
+
 def stamp(slot):
     return slot // RATE, (slot % RATE * 1_000_000 * 2 + RATE) // (2 * RATE)
 
 
-def play(place, source, seconds, breaks, told):
+def play(place, source, seconds, breaks, told, first=False):
     """A source that answers and sends its frames on the clock's slots. With `breaks` it closes its connection now and then, some
     times in the middle of a frame."""
+    if first:
+        go_first()
     listener = listen(FIRST_SOURCE_PORT + place)
     listener.settimeout(1)
     chance = random.Random(source)
-    end, sent = time.time() + seconds, []
+    end, sent, late = time.time() + seconds, [], []
     while time.time() < end:
         try:
             peer, _ = listener.accept()
@@ -65,6 +78,8 @@ def play(place, source, seconds, breaks, told):
                     frame = data(source, 1, soc, frac)
                     if not breaks:
                         sent.append(frame)
+                        if time.time() > slot / RATE + LATE:
+                            late.append((time.time(), time.time() - slot / RATE))
                     peer.sendall(frame)
                 slot += 1
             if breaks and is_on and chance.random() < 0.5:
@@ -72,15 +87,17 @@ def play(place, source, seconds, breaks, told):
         except OSError:
             pass
         peer.close()
-    told.put(sent)
+    told.put((sent, late))
 
 
-def quiet(seconds, told):
+def quiet(seconds, told, first=False):
     """The neighbour: starts its stream and keeps each data frame."""
+    if first:
+        go_first()
     peer = socket.create_connection(("127.0.0.1", FIRST_PORT + 1))
     peer.sendall(command(1000, 2))
     peer.settimeout(0.5)
-    held, got, end = bytearray(), [], time.time() + seconds
+    held, got, late, end, last = bytearray(), [], [], time.time() + seconds, time.time()
     told.put("started")
     while time.time() < end:
         try:
@@ -89,9 +106,12 @@ def quiet(seconds, told):
             continue
         if not piece:
             break
+        if time.time() > last + LATE:
+            late.append((time.time(), time.time() - last))
+        last = time.time()
         held += piece
         got += [it for it in frames_in(held) if it[1] >> 4 == 0]
-    told.put(got)
+    told.put((got, late))
 
 
 def storm(port, stream, slow):
@@ -121,15 +141,28 @@ def storm(port, stream, slow):
 
 
 def edit(gateway, until):
-    """An operator who drops, adds, grants, revokes and defines, of PMU 103 and subscriber 5 alone."""
-    chance, refused = random.Random(5), 0
+    """An operator who drops, adds, grants, revokes and defines, of PMU 103 and subscriber 5 alone, and asks for the neighbour's
+    counters. It answers when frames of the neighbour were dropped, and how many."""
+    chance, asked, dropped, told = random.Random(5), 0, 0, []
     define = "define 5 5000 60 1000000 20 16 none 103"
     lines = ["droppmu 103", "addpmu 103", "grant 5 103", "revoke 5 103", "remove 5 5000", define, "dropsub 5", "addsub 5 64", "stats 1"]
     while time.time() < until:
         if not gateway.ask(chance.choice(lines)):
             break
+        if time.time() > asked + 1:
+            asked = time.time()
+            now = dropped_in(gateway.ask("stats 1"))
+            if now > dropped:
+                told.append((asked, now - dropped))
+                dropped = now
         time.sleep(chance.uniform(0, 0.4))
-    return refused
+    return told
+
+
+def dropped_in(counts):
+    """The dropped frames that a line of counters tells."""
+    words = counts.split()
+    return int(words[words.index("dropped") + 1]) if "dropped" in words[:-1] else 0
 
 
 def used(process):
@@ -159,37 +192,49 @@ def replayed(program, frames):
 def main():
     if len(sys.argv) < 2:
         sys.exit(__doc__)
-    program, minutes = sys.argv[1], float(sys.argv[2]) if len(sys.argv) > 2 else 30
+    words, first = [it for it in sys.argv[1:] if it != "--first"], "--first" in sys.argv
+    program, minutes = words[0], float(words[1]) if len(words) > 1 else 30
     seconds = minutes * 60
     told = {name: multiprocessing.SimpleQueue() for name in ("steady", "broken", "edited", "quiet")}
-    starts = [(play, 0, 100, seconds + 4, False, told["steady"]), (play, 1, 101, seconds + 4, True, told["broken"]),
+    starts = [(play, 0, 100, seconds + 4, False, told["steady"], first), (play, 1, 101, seconds + 4, True, told["broken"]),
               (flood_source, FIRST_SOURCE_PORT + 2, "whole", 4), (play, 3, 103, seconds + 4, True, told["edited"])]
     children = [multiprocessing.Process(target=work, args=args, daemon=True) for work, *args in starts]
     for child in children:
         child.start()
     time.sleep(0.5)
-    gateway = Gateway(program, setup_text(10, SOURCES, SUBSCRIBERS))
+    gateway = Gateway(program, setup_text(10, SOURCES, SUBSCRIBERS), go_first if first else None)
     time.sleep(0.5)
-    starts = [(quiet, seconds + 6, told["quiet"]), (storm, FIRST_PORT + 2, 2000, False), (storm, FIRST_PORT + 3, 3000, True),
+    starts = [(quiet, seconds + 6, told["quiet"], first), (storm, FIRST_PORT + 2, 2000, False), (storm, FIRST_PORT + 3, 3000, True),
               (flood_subscriber, FIRST_PORT + 4, 4)]
     others = [multiprocessing.Process(target=work, args=args, daemon=True) for work, *args in starts]
     for child in others:
         child.start()
     told["quiet"].get()
     until = time.time() + seconds
-    operator = threading.Thread(target=edit, args=(gateway, until), daemon=True)
+    drops = []
+    operator = threading.Thread(target=lambda: drops.extend(edit(gateway, until)), daemon=True)
     operator.start()
     readings = []
     while time.time() < until and gateway.process.poll() is None:
         time.sleep(1)
         readings.append(used(gateway.process))
-    sent, got = told["steady"].get(), told["quiet"].get()
+    (sent, late), (got, waited) = told["steady"].get(), told["quiet"].get()
     operator.join(2)
     counts = gateway.ask("stats 1")
     status = gateway.quit()
     for child in children + others:
         child.kill()
+    tell_late(drops, late, waited)
     judge(program, sent, got, readings, status, counts)
+
+
+def tell_late(drops, late, waited):
+    """When frames were dropped, when the neighbour's source sent late, and when its reader waited long."""
+    for what, met in (("were dropped, so many", drops), ("were sent late, by seconds", late), ("were waited for, for seconds", waited)):
+        for when, much in met[:50]:
+            print(f"{time.strftime('%H:%M:%S', time.gmtime(when))} frames {what}: {much:.3g}")
+        if len(met) > 50:
+            print(f"and {len(met) - 50} times more")
 
 
 def judge(program, sent, got, readings, status, counts):

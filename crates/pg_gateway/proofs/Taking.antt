@@ -1,5 +1,5 @@
 -- One subscriber takes its share of an event for all.
-use Rattle.std.proofs.Common.{◌≡◌, ℕ, ◌<◌, ◌≤◌, ◌⊎◌, Bool, true, true≢false, List, [], ◌∷◌, ◌++◌, length, filter, Option, Some, None, refl, sym, ap, subst, ◌∙◌, arith, inl, inr}
+use Rattle.std.proofs.Common.{◌≡◌, ℕ, ◌<◌, ◌≤◌, ◌⊎◌, Bool, true, true≢false, if◌then◌else◌, List, [], ◌∷◌, ◌++◌, length, filter, Option, Some, None, refl, sym, ap, subst, ◌∙◌, arith, inl, inr}
 use Rattle.std.specs.Prelude.{slice_get, false, Ok, Err}
 use Rattle.pg_wire.specs.declared.refusal.Refusal.{Refusal}
 use Rattle.pg_wire.specs.declared.refusal.Refusal.TheVariants.{NoMemory}
@@ -17,7 +17,7 @@ use Rattle.pg_session.specs.Ready.{AreRising, IsFor, IsReady, NeedsNone}
 use Rattle.pg_session.specs.Steps.{HasNoCopies}
 use Rattle.pg_gateway.specs.Sharing.{SubscriberSlot, Offer, announces, some_announced, some_measured, share, notes_of, frames_in_share, after_share}
 use Rattle.pg_gateway.specs.Shown.{SlotValue, SlotShows}
-use Rattle.pg_gateway.specs.Taking.{measured, part_passes, IsFit, IsLaid, Awaits, Fits, HasNone, LaysShare, TakesShare, TakesOffer, counts_of}
+use Rattle.pg_gateway.specs.Taking.{measured, part_passes, IsFit, IsLaid, IsWhole, Awaits, Fits, HasNone, LaysShare, TakesShare, TakesOffer, counts_of}
 use Rattle.pg_gateway.specs.Frugal.{NeedsNoCopy}
 use Rattle.pg_gateway.proofs.Places.{announced-filter, samples-filter, announced-some, samples-some}
 use Rattle.pg_gateway.proofs.ShareLaws.{Quiet, share_quiet}
@@ -51,6 +51,44 @@ pub measured_share : (m : Measurement) (ps held : List ℕ) (grants : List PmuKe
 measured_share m ps held grants is rising some =
     ap (some_measured m.soc m.quality m.frac) (sym (samples-filter (has_key grants) m ps)) ∙ ap (λ l. some_measured m.soc m.quality m.frac (samples_at m l)) (sym is)
     ∙ (let there = samples-some m 0 held rising some in rw there.2 refl)
+
+-- a list of which all passes a test
+filter_all : (test : ℕ → Bool) (ps : List ℕ) → length (filter test ps) ≤ length ps
+filter_all test [] = omega arith
+filter_all test (p ∷ ps) = by (test p) (filter_all test ps)
+  where
+    by : (b : Bool) → length (filter test ps) ≤ length ps → length (if b then p ∷ filter test ps else filter test ps) ≤ length (p ∷ ps)
+    by true rest = omega arith
+    by false rest = omega arith
+
+filter_same : (test : ℕ → Bool) (ps : List ℕ) → length ps ≤ length (filter test ps) → filter test ps ≡ ps
+filter_same test [] all = refl
+filter_same test (p ∷ ps) all = by (test p) all (λ rest. filter_same test ps rest)
+  where
+    by : (b : Bool) → length (p ∷ ps) ≤ length (if b then p ∷ filter test ps else filter test ps) → (length ps ≤ length (filter test ps) → filter test ps ≡ ps)
+        → (if b then p ∷ filter test ps else filter test ps) ≡ p ∷ ps
+    by true all rest = ap (λ l. p ∷ l) (rest (omega arith))
+    by false all rest = let few = filter_all test ps in absurd (omega arith)
+
+-- a frame whose blocks are granted, all that are offered
+pub measured_whole : (m : Measurement) (ps held : List ℕ) (grants : List PmuKey) → held ≡ filter (λ i. part_passes (has_key grants) m.config (slice_get m.config.parts i)) ps
+    → AreRising 0 (length m.config.parts) held → 0 < length held → length ps ≤ length held → IsWhole (measured m ps) grants
+measured_whole m ps held grants is rising some all =
+    let same : held ≡ ps = is ∙ filter_same (λ i. part_passes (has_key grants) m.config (slice_get m.config.parts i)) ps (subst (λ l. length ps ≤ length l) is all) in
+    measured_share m ps held grants is rising some ∙ ap (λ l. Some (event.measure m.soc m.quality m.frac (samples_at m l))) same
+
+none_is_some : {A : Type 0} {x : Happening} → None ≡ Some x → A
+none_is_some e = cc
+
+-- some of a frame's blocks are offered, where a share is whole
+pub whole_some : (m : Measurement) (ps : List ℕ) (grants : List PmuKey) → IsWhole (measured m ps) grants → 0 < length ps
+whole_some m [] grants whole = none_is_some whole
+whole_some m (p ∷ ps) grants whole = omega arith
+
+-- nothing else than a frame is whole
+pub not_whole : (b : Bool) → (b ≡ true → ⊥) → b ≡ false
+not_whole true never = absurd (never refl)
+not_whole false never = refl
 
 -- a subscriber that has no share
 pub none_taken : (o : Offer) (lost : Bool) (v : SlotValue) (s : SubscriberSlot) → SlotShows v s → share o v.subscriber.own.grants ≡ None → TakesShare o lost 0 0 s v
@@ -123,6 +161,7 @@ lays_nothing o old inner is none nothing = record {
   memory = tt;
   needless = λ _. refl;
   spared = λ _. nothing;
+  whole = λ whole. absurd (true≢false (sym whole ∙ ap (λ (v : SlotValue). v.whole) is ∙ none.2));
   own = ap (λ (v : SlotValue). v.subscriber.own) is;
   audit = ap (λ (v : SlotValue). v.audit) is;
 }
@@ -134,6 +173,21 @@ lays_some o old inner x after is none some ready own = record {
   memory = tt;
   needless = λ _. refl;
   spared = λ spared. absurd (true≢false (sym spared ∙ ap (λ (v : SlotValue). v.spared) is ∙ none.1));
+  whole = λ whole. absurd (true≢false (sym whole ∙ ap (λ (v : SlotValue). v.whole) is ∙ none.2));
+  own = own ∙ ap (λ (v : SlotValue). v.subscriber.own) is;
+  audit = ap (λ (v : SlotValue). v.audit) is;
+}
+
+-- it lays copies for all that is offered of a frame
+pub lays_whole : (o : Offer) (old inner : SlotValue) (x : Happening) (after : SubscriberValue) → inner ≡ old → HasNone old → share o old.subscriber.own.grants ≡ Some x
+    → IsWhole o old.subscriber.own.grants → IsReady after x → after.own ≡ inner.subscriber.own
+    → LaysShare o old (Ok tt) (record inner { subscriber = after; whole = true })
+lays_whole o old inner x after is none some whole ready own = record {
+  laid = lays after _ x some ready;
+  memory = tt;
+  needless = λ _. refl;
+  spared = λ spared. absurd (true≢false (sym spared ∙ ap (λ (v : SlotValue). v.spared) is ∙ none.1));
+  whole = λ _. whole;
   own = own ∙ ap (λ (v : SlotValue). v.subscriber.own) is;
   audit = ap (λ (v : SlotValue). v.audit) is;
 }
@@ -145,6 +199,7 @@ lays_refused o old inner x r after is some memory needless own = record {
   memory = memory;
   needless = λ needs. needless (subst (λ (v : SlotValue). NeedsNone v.subscriber x) (sym is) (needless_at old.subscriber _ x some needs));
   spared = tt;
+  whole = tt;
   own = own ∙ ap (λ (v : SlotValue). v.subscriber.own) is;
   audit = ap (λ (v : SlotValue). v.audit) is;
 }
@@ -174,13 +229,14 @@ fit_same v w None same fit = tt
 fit_same v w (Some x) same fit = subst (λ own. IsFor own x) (sym same) fit
 
 pub awaits_laid : (o : Offer) (v w : SlotValue) → w.subscriber.own ≡ v.subscriber.own → Fits o v → IsLaid w.subscriber (share o v.subscriber.own.grants)
-    → (w.spared ≡ true → share o v.subscriber.own.grants ≡ None) → Awaits o w
-awaits_laid o v w same fit laid spared =
+    → (w.spared ≡ true → share o v.subscriber.own.grants ≡ None) → (w.whole ≡ true → IsWhole o v.subscriber.own.grants) → Awaits o w
+awaits_laid o v w same fit laid spared whole =
     let grants : v.subscriber.own.grants ≡ w.subscriber.own.grants = ap (λ (own : Own). own.grants) (sym same) in
     record {
       fit = subst (λ g. IsFit w.subscriber (share o g)) grants (fit_same v.subscriber w.subscriber (share o v.subscriber.own.grants) same fit);
       laid = subst (λ g. IsLaid w.subscriber (share o g)) grants laid;
       spared = λ is. subst (λ g. share o g ≡ None) grants (spared is);
+      whole = λ is. subst (λ g. IsWhole o g) grants (whole is);
     }
 
 pub shows_kept : (v w : SlotValue) (s : SubscriberSlot) → w.subscriber.own ≡ v.subscriber.own → w.audit ≡ v.audit → SlotShows v s → SlotShows w s

@@ -10,11 +10,13 @@ use Rattle.pg_gateway.specs.Sharing.{SubscriberSlot}
 use Rattle.pg_gateway.specs.State.{SharedMachine, May, next}
 use Rattle.pg_gateway.specs.Related.{Related}
 
--- A subscriber with its audit, and whether it is spared the event that is under way, which does not concern it.
+-- A subscriber with its audit; whether it is spared the event that is under way, which does not concern it; and whether that is a
+-- frame whose blocks it is granted, all of them.
 pub record SlotValue : Type 0 where
   pub subscriber : SubscriberValue
   pub audit : AuditValue
   pub spared : Bool
+  pub whole : Bool
 
 pub record GatewayValue : Type 0 where
   pub pmus : Pmus

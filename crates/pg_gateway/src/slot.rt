@@ -36,6 +36,8 @@ pub(crate) struct SubscriberSlot {
     audit: Audit,
     // Copies were laid for an event that does not concern it, so that it need not be looked at again.
     spared: bool,
+    // Copies were laid for all blocks of a frame that were taken, so that which of them are granted need not be looked up again.
+    whole: bool,
     // Where among its grants the first PMU of the next frame is guessed: behind the last one of the frame before.
     guess: usize,
 }
@@ -45,7 +47,7 @@ impl Model for SubscriberSlot {
 
     ghost Value = { SlotValue };
 
-    ghost view = { λ s. record { subscriber = s.subscriber; audit = s.audit; spared = s.spared } };
+    ghost view = { λ s. record { subscriber = s.subscriber; audit = s.audit; spared = s.spared; whole = s.whole } };
 }
 
 impl SubscriberSlot {
@@ -64,6 +66,7 @@ impl SubscriberSlot {
             subscriber: Subscriber::new(alloc, ring, bytes, last)?,
             audit: Audit::new(alloc)?,
             spared: false,
+            whole: false,
             guess: 0,
         })
     }
@@ -73,6 +76,7 @@ impl SubscriberSlot {
         ensures shows { (s : SlotState) → SlotShows self.old s → SlotShows self.new (with_note (what, code) s) }
         ensures subscriber { self.new.subscriber ≡ self.old.subscriber }
         ensures spared { self.new.spared ≡ self.old.spared }
+        ensures whole { self.new.whole ≡ self.old.whole }
     {
         self.audit.note(what, code);
     }
@@ -221,6 +225,11 @@ impl SubscriberSlot {
             return Ok(());
         }
         self.subscriber.copies(&PrivateEvent::Measure(frame, held))?;
+        if held.len() < places.len() {
+            return Ok(());
+        }
+        self.whole = true;
+        self.guess = guess;
         Ok(())
     }
 
@@ -232,6 +241,7 @@ impl SubscriberSlot {
     {
         self.subscriber.forget();
         self.spared = false;
+        self.whole = false;
     }
 
     /// Takes its share of an event for all, if it has one: with `lost` all data frames that it makes are lost. It answers the
@@ -248,6 +258,7 @@ impl SubscriberSlot {
         requires awaits { Awaits (offered event.now places.now) self.old }
         ensures takes { TakesOffer (offered event.now places.now) lost self.old result self.new }
         ensures spared { self.new.spared ≡ false }
+        ensures whole { self.new.whole ≡ false }
         ensures room { 16 ≤ vec_capacity held.new }
     {
         if self.spared {
@@ -271,6 +282,7 @@ impl SubscriberSlot {
         requires awaits { Awaits (revokes key.now) self.old }
         ensures takes { TakesOffer (revokes key.now) lost self.old result self.new }
         ensures spared { self.new.spared ≡ self.old.spared }
+        ensures whole { self.new.whole ≡ self.old.whole }
     {
         if !self.subscriber.holds(*key) {
             return (0, 0);
@@ -292,6 +304,7 @@ impl SubscriberSlot {
         requires awaits { Awaits (announces (announced_at config.now places.now)) self.old }
         ensures takes { TakesOffer (announces (announced_at config.now places.now)) lost self.old result self.new }
         ensures spared { self.new.spared ≡ self.old.spared }
+        ensures whole { self.new.whole ≡ self.old.whole }
         ensures room { 16 ≤ vec_capacity held.new }
     {
         if !hold(&self.subscriber, config, places, &mut 0, held) {
@@ -316,8 +329,16 @@ impl SubscriberSlot {
         requires awaits { Awaits (measured (arc_value frame.now) places.now) self.old }
         ensures takes { TakesOffer (measured (arc_value frame.now) places.now) lost self.old result self.new }
         ensures spared { self.new.spared ≡ self.old.spared }
+        ensures whole { self.new.whole ≡ false }
         ensures room { 16 ≤ vec_capacity held.new }
     {
+        if self.whole {
+            self.whole = false;
+            return counts(
+                self.subscriber
+                    .take(PrivateEvent::Measure(frame, places), lost),
+            );
+        }
         if !hold_blocks(&self.subscriber, frame, places, &mut self.guess, held) {
             return (0, 0);
         }

@@ -3,13 +3,14 @@
 use crate::digest::Digest;
 use crate::journal::{Detail, Entry, Journal, Notice, Whom};
 use crate::outlet::Outlet;
-use jiff::Timestamp;
+use jiff_core::Timestamp;
+use jiff_fmt::temporal::DateTimePrinter;
 use pg_serve::Work;
 use std::alloc::Global;
 use std::net::Net;
 use std::rt::Clock;
 use std::sync::Wait;
-use std::time::{Duration, Instant};
+use std::time::{Duration, Instant, SystemTime};
 use std::{io, thread};
 
 /// How long a turn waits for what is met, in milliseconds.
@@ -65,11 +66,25 @@ impl<'a, R: Wait + Clock + Eprint + Net> Logger<'a, R> {
             return false;
         }
         let name = level.as_str();
-        let written = match Timestamp::now(self.rt) {
-            Ok(now) => eprintln!(self.rt; "{now:.3} {name} {entry}"),
-            Err(_) => eprintln!(self.rt; "- {name} {entry}"),
+        let written = match self.time() {
+            Some(now) => {
+                let now = DateTimePrinter::new()
+                    .precision(Some(3))
+                    .timestamp_text(now);
+                let now = now.as_str();
+                eprintln!(self.rt; "{now} {name} {entry}")
+            }
+            None => eprintln!(self.rt; "- {name} {entry}"),
         };
         written.is_ok()
+    }
+
+    /// This machine's clock, if it tells a time of the calendar.
+    fn time(&self) -> Option<Timestamp> {
+        let now = SystemTime::now(self.rt).ok()?;
+        let since = now.duration_since(SystemTime::UNIX_EPOCH).ok()?;
+        let nanos = i128::try_from(since.as_nanos()).ok()?;
+        Timestamp::from_nanosecond(nanos).ok()
     }
 
     /// Tells of this, or holds it back.

@@ -5,7 +5,8 @@ ghost use Rattle.std.specs.Prelude.{◌≤◌};
 use crate::moment::Moment;
 use crate::reading::{Cell, Quality, Reading};
 use crate::watcher::Watcher;
-use jiff::Timestamp;
+use jiff_core::Timestamp;
+use jiff_fmt::temporal::DateTimePrinter;
 use pg_config::SourceConfig;
 use pg_data::DataFrame;
 use std::alloc::AllocError;
@@ -51,11 +52,14 @@ impl Instant {
 impl fmt::Display for Instant {
     fn fmt<W: fmt::Write>(&self, f: &mut fmt::Formatter<W>) -> fmt::Result {
         let micros = self.micros();
-        let second = i64::from(self.soc);
-        match Timestamp::from_second(second) {
+        let second = self.soc;
+        let nanos = i128::from(second) * 1_000_000_000 + i128::from(micros) * 1_000;
+        match Timestamp::from_nanosecond(nanos) {
             Ok(time) => {
-                let civil = jiff::tz::Offset::UTC.to_datetime(time);
-                write!(f, "{civil}.{micros:06}Z")
+                let text = DateTimePrinter::new()
+                    .precision(Some(6))
+                    .timestamp_text(time);
+                f.write_str(text.as_str())
             }
             Err(_) => write!(f, "{second}.{micros:06}"),
         }

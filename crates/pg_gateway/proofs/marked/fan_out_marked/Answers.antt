@@ -44,7 +44,7 @@ marked-preserved-then-more_kept-more c =
       marked = kept_marks left c.args.marks i t.4 t.5 inv.marked;
       awaits = still_marked (Awaits o) xs i new left (without left i) t.4 t.5 inv.awaits;
       passed = still_unmarked (IsPassed o) xs i new c.args.marks marked inv.passed;
-      none = now_cleared HasNone xs i new left (without left i) t.5 (takes.none, c.take_share-more.ensures.spared) inv.none;
+      none = now_cleared HasNone xs i new left (without left i) t.5 (takes.none, c.take_share-more.ensures.spared, c.take_share-more.ensures.whole) inv.none;
       walked = walked_turn o c.args.marks left c.marked.made c.marked.kept c.args.subs.now.entries xs inv.len inv.kept inv.passed inv.walked
           i c.take_share-more.result.0 c.take_share-more.result.1 c.marked.lost c.index_mut.result.now new
           (omega (arith, lt, inv.len)) t.1 t.2 t.4 t.5 inv.all c.index_mut.ensures.value takes.shares takes.few takes.kept;
@@ -70,7 +70,7 @@ marked-preserved c =
       marked = kept_marks left c.args.marks i t.4 t.5 inv.marked;
       awaits = still_marked (Awaits o) xs i new left (without left i) t.4 t.5 inv.awaits;
       passed = still_unmarked (IsPassed o) xs i new c.args.marks marked inv.passed;
-      none = now_cleared HasNone xs i new left (without left i) t.5 (takes.none, c.take_share-more.ensures.spared) inv.none;
+      none = now_cleared HasNone xs i new left (without left i) t.5 (takes.none, c.take_share-more.ensures.spared, c.take_share-more.ensures.whole) inv.none;
       walked = walked_turn o c.args.marks left c.marked.made c.marked.kept c.args.subs.now.entries xs inv.len inv.kept inv.passed inv.walked
           i c.take_share-more.result.0 c.take_share-more.result.1 c.marked.lost c.index_mut.result.now new
           (omega (arith, lt, inv.len)) t.1 t.2 t.4 t.5 inv.all c.index_mut.ensures.value takes.shares takes.few takes.kept;

@@ -7,7 +7,7 @@ use Rattle.pg_gateway.specs.Routes.{IsPassed}
 use Rattle.indexmap.proofs.CallerLemmas.{index_map_len-with_value_at}
 use Rattle.pg_gateway.proofs.FanLaws.{Related-kept}
 use Rattle.pg_gateway.proofs.Taking.{awaits_laid, shows_kept}
-use Rattle.pg_gateway.proofs.RouteLaws.{turn, without, bit_within, still_marked, now_cleared, still_unmarked, kept_marks, from_all, awaits_passed}
+use Rattle.pg_gateway.proofs.RouteLaws.{turn, without, bit_within, still_marked, now_cleared, still_unmarked, kept_marks, from_all, to_all, awaits_passed}
 use Rattle.pg_gateway.proofs.marked.lay_marked.Goals as goal
 
 pub marked-init : goal.marked-init
@@ -75,9 +75,15 @@ marked-preserved c =
       fits = still_marked (Fits o) xs i new left (without left i) t.4 t.5 inv.fits;
       none = still_marked HasNone xs i new left (without left i) t.4 t.5 inv.none;
       spares = λ spares. still_marked (Spares o) xs i new left (without left i) t.4 t.5 (inv.spares spares);
-      laid = now_cleared (Awaits o) xs i new left (without left i) t.5 (awaits_laid o old new c.lay.ensures.lays.own fit c.in_ok-lay.ensures.lays.laid c.in_ok-lay.ensures.lays.spared) inv.laid;
+      laid = now_cleared (Awaits o) xs i new left (without left i) t.5 (awaits_laid o old new c.lay.ensures.lays.own fit c.in_ok-lay.ensures.lays.laid c.in_ok-lay.ensures.lays.spared c.in_ok-lay.ensures.lays.whole) inv.laid;
       passed = still_unmarked (IsPassed o) xs i new c.args.marks marked inv.passed;
       passed_none = still_unmarked HasNone xs i new c.args.marks marked inv.passed_none;
       shows = λ ps h. Related-kept SlotShows xs ps i old new (inv.shows ps h) c.index_mut.ensures.value
           (λ s shown. shows_kept old new s c.lay.ensures.lays.own c.lay.ensures.lays.audit shown);
     }
+
+pub returns-clause-laid : goal.returns-clause-laid
+returns-clause-laid c =
+    let o = offered c.args.event.now c.args.places.now in
+    let xs = c.marked.subs.entries in
+    from_all (Awaits o) 1 c.args.marks xs (to_all (Awaits o) c.marked.left xs (omega arith) c.marked.invariant.laid)

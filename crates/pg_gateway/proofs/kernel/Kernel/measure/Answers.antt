@@ -5,7 +5,7 @@ use Rattle.pg_session.specs.Events.{samples_at}
 use Rattle.pg_gateway.specs.Sharing.{measures}
 use Rattle.pg_gateway.specs.Judging.{samples_in}
 use Rattle.pg_gateway.specs.Placing.{placed_counted, placed_refusal, placed_memory}
-use Rattle.pg_gateway.specs.Taking.{Fits, FansOut, measured}
+use Rattle.pg_gateway.specs.Taking.{Awaits, Fits, FansOut, measured, offered}
 use Rattle.pg_gateway.specs.Routes.{WhereBit, IsPassed}
 use Rattle.pg_gateway.proofs.RouteKept.{masks_length, keys_within, marks_within, measured_passes}
 use Rattle.pg_gateway.specs.Frugal.{AllSlots}
@@ -50,6 +50,11 @@ pub fan_out_marked-made-requires-clause-bits : goal.fan_out_marked-made-requires
 fan_out_marked-made-requires-clause-bits c =
     rw c.lay_copies_marked.ensures.len
     (marks_within c.self.inside.subs.entries (keys_of c.self.inside.registry) c.refresh.new.self.masks c.deref-2.result.now c.union_of-marks.result c.refresh.ensures.masks c.union_of-marks.ensures.none)
+
+pub fan_out_marked-made-requires-clause-awaits : goal.fan_out_marked-made-requires-clause-awaits
+fan_out_marked-made-requires-clause-awaits c =
+    subst (λ places. WhereBit 1 c.union_of-marks.result (Awaits (offered c.args.event.now places)) c.lay_copies_marked.new.subs.entries)
+    (c.deref-3.ensures.value ∙ sym c.deref-5.ensures.value) c.in-Ok.ensures.laid
 
 pub lay_copies_marked-requires-clause-fits : goal.lay_copies_marked-requires-clause-fits
 lay_copies_marked-requires-clause-fits c =

@@ -1,9 +1,9 @@
-use Rattle.std.proofs.Common.{sym, ap, ◌∙◌}
+use Rattle.std.proofs.Common.{sym, ap, subst, arith, ◌∙◌}
 use Rattle.std.proofs.lemmas.Result.{err_from_is_err_and}
 use Rattle.std.specs.Arc.{arc_value}
 use Rattle.pg_gateway.specs.Sharing.{share}
-use Rattle.pg_gateway.specs.Taking.{measured}
-use Rattle.pg_gateway.proofs.Taking.{measured_none, measured_share, fit_at, lays_nothing, lays_some, lays_refused}
+use Rattle.pg_gateway.specs.Taking.{measured, IsWhole}
+use Rattle.pg_gateway.proofs.Taking.{measured_none, measured_share, measured_whole, fit_at, lays_nothing, lays_some, lays_whole, lays_refused}
 use Rattle.pg_gateway.proofs.slot.SubscriberSlot.lay_measured.Goals as goal
 
 pub returns-then-not-hold_blocks-clause-lays : goal.returns-then-not-hold_blocks-clause-lays
@@ -33,10 +33,22 @@ returns-in_err-copies-clause-lays c =
     (ap (λ v. share (measured (arc_value c.args.frame.now) c.args.places.now) v.subscriber.own.grants) (sym c.self.view_is) ∙ some)
     c.in_err-copies.ensures.memory needless c.copies.ensures.own)
 
-pub returns-clause-lays : goal.returns-clause-lays
-returns-clause-lays c =
+pub returns-then-len-places-clause-lays : goal.returns-then-len-places-clause-lays
+returns-then-len-places-clause-lays c =
     let some = measured_share (arc_value c.args.frame.now) c.args.places.now c.hold_blocks.new.held.items c.self.inside.subscriber.own.grants c.hold_blocks.ensures.held c.hold_blocks.ensures.rising (c.hold_blocks.ensures.some c.if-not-hold_blocks.false) in
     let ready = rw c.deref.ensures.value at c.in_ok-copies.ensures.ready in
     lays_some (measured (arc_value c.args.frame.now) c.args.places.now) c.args.self.now _ _ c.copies.new.self c.self.view_is c.requires.none
     (ap (λ v. share (measured (arc_value c.args.frame.now) c.args.places.now) v.subscriber.own.grants) (sym c.self.view_is) ∙ some)
+    ready c.copies.ensures.own
+
+pub returns-clause-lays : goal.returns-clause-lays
+returns-clause-lays c =
+    let o = measured (arc_value c.args.frame.now) c.args.places.now in
+    let full = c.hold_blocks.ensures.some c.if-not-hold_blocks.false in
+    let some = measured_share (arc_value c.args.frame.now) c.args.places.now c.hold_blocks.new.held.items c.self.inside.subscriber.own.grants c.hold_blocks.ensures.held c.hold_blocks.ensures.rising full in
+    let whole = measured_whole (arc_value c.args.frame.now) c.args.places.now c.hold_blocks.new.held.items c.self.inside.subscriber.own.grants c.hold_blocks.ensures.held c.hold_blocks.ensures.rising full (omega arith) in
+    let ready = rw c.deref.ensures.value at c.in_ok-copies.ensures.ready in
+    lays_whole o c.args.self.now _ _ c.copies.new.self c.self.view_is c.requires.none
+    (ap (λ v. share o v.subscriber.own.grants) (sym c.self.view_is) ∙ some)
+    (subst (λ v. IsWhole o v.subscriber.own.grants) c.self.view_is whole)
     ready c.copies.ensures.own
