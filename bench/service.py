@@ -67,7 +67,7 @@ def frames_in(buffer):
     return found
 
 
-def setup_text(tick_ms, sources, subscribers, ingest=1, serve=1, more=()):
+def setup_text(tick_ms, sources, subscribers, ingest=1, serve=1, more=(), window=16):
     """sources: {source: pmus}; subscribers: list of (id, ring, [streams]), a stream (id, rate, members); more: lines for the file itself."""
     lines = [f"tick_ms = {tick_ms}", f"ingest = {ingest}", f"serve = {serve}", *more]
     for at, (source, pmus) in enumerate(sources.items()):
@@ -81,7 +81,7 @@ def setup_text(tick_ms, sources, subscribers, ingest=1, serve=1, more=()):
         lines.append("grants = [" + ", ".join(f'"{s}/{p}"' for s, p in keys) + "]")
         for stream, rate, members in streams:
             listed = ", ".join(f'"{s}/{p}"' for s, p in members)
-            lines += ["[[subscriber.stream]]", f"id = {stream}", f"rate = {rate}", f"base = {BASE}", "wait = 20", "window = 16",
+            lines += ["[[subscriber.stream]]", f"id = {stream}", f"rate = {rate}", f"base = {BASE}", "wait = 20", f"window = {window}",
                       f"members = [{listed}]"]
     return "\n".join(lines) + "\n"
 

@@ -6,8 +6,8 @@
 
 PROGRAM is `pdcgw` as `rt run` left it in crates/pdcgw/out. Each figure is the difference of two runs, of few and of many instants, divided
 by the input frames between them, so that start, setup and end do not count. Frames come in bursts, each when all subscribers have the last one: of 64
-instants where there is one source, of eight where streams wait for several. System calls are told for each frame that comes in or goes
-out. A figure past its bound ends the script with status 1.
+instants where there is one source; of eight, and of 32, where streams wait for several, as one source's frames then come before the next one's. System
+calls are told for each frame that comes in or goes out. A figure past its bound ends the script with status 1.
 """
 import os
 import re
@@ -95,28 +95,28 @@ def connect_when_open(port):
     sys.exit(f"port {port} is not open")
 
 
-def run(words, sources, subscribers, instants):
+def run(words, sources, subscribers, instants, burst):
     """The program under `words`, until the frames of so many instants are out."""
     players = Players(sources, subscribers)
     # (no tick between two bursts: what a tick takes is no frame's)
-    text = service.setup_text(1000, sources, subscribers)
+    text = service.setup_text(1000, sources, subscribers, window=64)
     with tempfile.NamedTemporaryFile("w", suffix=".toml") as file:
         file.write(text)
         file.flush()
         process = subprocess.Popen([*words, "run", "--setup", file.name], stdin=subprocess.PIPE, stdout=subprocess.DEVNULL,
                                    stderr=subprocess.DEVNULL)
         players.meet()
-        players.play(instants, 64 if len(sources) == 1 else 8)
+        players.play(instants, burst)
         process.stdin.write(b"quit\n")
         process.stdin.flush()
         process.wait(60)
         players.leave()
 
 
-def instructions_of_service(program, sources, subscribers, instants):
+def instructions_of_service(program, sources, subscribers, instants, burst):
     with tempfile.TemporaryDirectory() as folder:
         out = os.path.join(folder, "callgrind")
-        run(["valgrind", "--tool=callgrind", "--fair-sched=yes", f"--callgrind-out-file={out}", program], sources, subscribers, instants)
+        run(["valgrind", "--tool=callgrind", "--fair-sched=yes", f"--callgrind-out-file={out}", program], sources, subscribers, instants, burst)
         return total_of(out)
 
 
@@ -128,9 +128,9 @@ def total_of(file):
     sys.exit("callgrind told no total")
 
 
-def calls_of_service(program, sources, subscribers, instants):
+def calls_of_service(program, sources, subscribers, instants, burst):
     with tempfile.NamedTemporaryFile("r") as out:
-        run(["strace", "-f", "-c", "-U", "calls,name", "-o", out.name, program], sources, subscribers, instants)
+        run(["strace", "-f", "-c", "-U", "calls,name", "-o", out.name, program], sources, subscribers, instants, burst)
         counts = [int(line.split()[0]) for line in out.read().splitlines() if re.match(r"\s*\d+ +[a-z_0-9]+$", line)]
     # (the last line is their sum)
     return counts[-1]
@@ -153,15 +153,16 @@ def replay_without_text(program, options, instants):
         return total_of(out), total_of(out) - text
 
 
-def load(name, program, sources, subscribers, options):
+def load(name, program, sources, subscribers, options, burst):
     few, many = 128, 384
     frames_in = (many - few) * len(sources)
     frames_out = (many - few) * sum(len(streams) for _, _, streams in subscribers)
-    service_cost = (instructions_of_service(program, sources, subscribers, many)
-                    - instructions_of_service(program, sources, subscribers, few)) / frames_in
+    service_cost = (instructions_of_service(program, sources, subscribers, many, burst)
+                    - instructions_of_service(program, sources, subscribers, few, burst)) / frames_in
     lower, upper = replay_without_text(program, options, 100), replay_without_text(program, options, 200)
     replay_cost = (upper[1] - lower[1]) / (100 * len(sources))
-    calls = (calls_of_service(program, sources, subscribers, many) - calls_of_service(program, sources, subscribers, few)) / (frames_in + frames_out)
+    calls = (calls_of_service(program, sources, subscribers, many, burst)
+             - calls_of_service(program, sources, subscribers, few, burst)) / (frames_in + frames_out)
     service.tell(f"{name}: instructions an input frame; of a replay without its text", f"{service_cost:,.0f}; {replay_cost:,.0f}",
                  "at most 1.2 times", service_cost <= 1.2 * replay_cost)
     service.tell(f"{name}: system calls a frame that comes in or goes out", f"{calls:.3f}", "below 0.1", calls < 0.1)
@@ -172,12 +173,13 @@ def main():
         sys.exit(__doc__)
     program = os.path.abspath(sys.argv[1])
     one = {100: [100]}
-    load("P1 S1", program, one, [(1, 256, [(1000, RATE, [(100, 100)])])], ["--sources", "1"])
-    load("P1 S64", program, one, [(1 + at, 256, [(1000 + at, RATE, [(100, 100)])]) for at in range(64)], ["--sources", "1", "--subscribers", "64"])
+    load("P1 S1", program, one, [(1, 256, [(1000, RATE, [(100, 100)])])], ["--sources", "1"], 64)
+    load("P1 S64", program, one, [(1 + at, 256, [(1000 + at, RATE, [(100, 100)])]) for at in range(64)], ["--sources", "1", "--subscribers", "64"], 64)
     many = {100 + at: [100 + at] for at in range(16)}
     members = [(it, it) for it in many]
-    load("P16 S16, streams of 16", program, many, [(1 + at, 256, [(1000 + at, RATE, members)]) for at in range(16)],
-         ["--sources", "16", "--subscribers", "16", "--members", "16"])
+    for burst in (8, 32):
+        load(f"P16 S16, streams of 16, {burst} instants at once", program, many, [(1 + at, 256, [(1000 + at, RATE, members)]) for at in range(16)],
+             ["--sources", "16", "--subscribers", "16", "--members", "16"], burst)
     sys.exit(1 if service.failures else 0)
 
 

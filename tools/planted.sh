@@ -16,7 +16,9 @@ said=${KEEP:-$room/said}
 said=$(cd "$(dirname "$said")" && pwd)/$(basename "$said")
 
 mkdir "$room/copy"
-git ls-files -z --cached --others --exclude-standard | xargs -0 cp --parents -t "$room/copy"
+# (a file that was taken away, and not yet by a commit, is listed too)
+git ls-files -z --cached --others --exclude-standard |
+    xargs -0 sh -c 'for it; do [ ! -e "$it" ] || cp --parents "$it" "$0"; done' "$room/copy"
 cd "$room/copy"
 names=${*:-$(ls -d crates/*/planted | sed 's|crates/||; s|/planted||')}
 planted=0

@@ -1,5 +1,7 @@
 use crate::asserts::same;
 use pg_wire::*;
+use std::io;
+use std::io::{ErrorKind, Read};
 use std::test::*;
 
 /// The command frame of word 5 (send CFG-2) for stream 101 at SOC 100.
@@ -114,6 +116,142 @@ fn breaks_and_sizes(rt: HostRuntime) {
     assert!(rt; deframer.room() >= 18);
     deframer.feed(&later);
     assert!(rt; matches!(deframer.next(), Taken::Skipped(Refusal::BadVersion)));
+}
+
+/// A reader of these bytes, at most so many a read, whose read number `blocks_at` would block.
+#[derive(Drop)]
+struct Pieces<'a> {
+    left: &'a [u8],
+    most: usize,
+    calls: u32,
+    blocks_at: u32,
+}
+
+impl Read for Pieces<'_> {
+    fn read(&mut self, buf: &mut [u8]) -> io::Result<usize> {
+        self.calls = self.calls.saturating_add(1);
+        if self.calls == self.blocks_at {
+            return Err(io::Error::from(ErrorKind::WouldBlock));
+        }
+        let room = buf.len().min(self.most);
+        self.left.read(&mut buf[..room])
+    }
+}
+
+fn reader_of(bytes: &[u8], most: usize, blocks_at: u32) -> Pieces<'_> {
+    Pieces {
+        left: bytes,
+        most,
+        calls: 0,
+        blocks_at,
+    }
+}
+
+#[test]
+fn read_in_pieces(rt: HostRuntime) {
+    let mut deframer = Deframer::new(rt.alloc()).expect(&rt, "memory");
+    let mut reader = reader_of(&SEND_CONFIG, 10, 2);
+    // Ten bytes of the frame's eighteen, then nothing yet, then one more where no more are asked for, then the others.
+    assert!(rt; matches!(deframer.read_from(&mut reader, 4096), Ok(10)));
+    same(&rt, deframer.room(), CAPACITY - 10);
+    assert!(rt; deframer.room() >= 1);
+    assert!(rt; deframer.read_from(&mut reader, 4096).is_err());
+    same(&rt, deframer.room(), CAPACITY - 10);
+    assert!(rt; deframer.room() >= 1);
+    assert!(rt; matches!(deframer.read_from(&mut reader, 1), Ok(1)));
+    assert!(rt; matches!(deframer.next(), Taken::More));
+    assert!(rt; deframer.room() >= 1);
+    assert!(rt; matches!(deframer.read_from(&mut reader, 4096), Ok(7)));
+    assert!(rt; matches!(deframer.next(), Taken::Frame(frame) if frame == SEND_CONFIG.as_slice()));
+    // The reader has ended.
+    assert!(rt; deframer.room() >= 1);
+    assert!(rt; matches!(deframer.read_from(&mut reader, 4096), Ok(0)));
+    assert!(rt; matches!(deframer.next(), Taken::More));
+    same(&rt, deframer.room(), CAPACITY);
+}
+
+#[test]
+fn broken_reads_and_drops(rt: HostRuntime) {
+    let mut deframer = Deframer::new(rt.alloc()).expect(&rt, "memory");
+    let mut wrong = reader_of(&[0xAB, 0x42], 4096, 0);
+    assert!(rt; matches!(deframer.read_from(&mut wrong, 4096), Ok(2)));
+    assert!(rt; matches!(deframer.next(), Taken::Broken(Refusal::BadFirst)));
+    let mut right = reader_of(&SEND_CONFIG, 4096, 0);
+    assert!(rt; deframer.room() >= 18);
+    assert!(rt; matches!(deframer.read_from(&mut right, 4096), Ok(18)));
+    same(&rt, right.left.len(), 0);
+    same(&rt, deframer.room(), CAPACITY);
+    assert!(rt; matches!(deframer.next(), Taken::Broken(Refusal::BadFirst)));
+    deframer.reset();
+    let mut again = reader_of(&SEND_CONFIG, 4096, 0);
+    assert!(rt; matches!(deframer.read_from(&mut again, 4096), Ok(18)));
+    assert!(rt; matches!(deframer.next(), Taken::Frame(frame) if frame == SEND_CONFIG.as_slice()));
+}
+
+/// The frame number n of a stream of frames that differ: a command to stream n.
+fn numbered(n: usize) -> [u8; 18] {
+    let mut frame = SEND_CONFIG;
+    frame[4] = (n / 256 % 256) as u8;
+    frame[5] = (n % 256) as u8;
+    let [high, low] = check_bytewise(&frame[..16]).to_be_bytes();
+    frame[16] = high;
+    frame[17] = low;
+    frame
+}
+
+#[test]
+fn read_past_the_end_of_the_buffer(rt: HostRuntime) {
+    let mut deframer = Deframer::new(rt.alloc()).expect(&rt, "memory");
+    // 4,000 frames have 72,000 bytes, and pieces of 4,090 end within frames: the bytes that are held reach the end of the
+    // buffer, and are moved to its front.
+    let mut bytes = Vec::with_capacity(rt.alloc(), 72_000).expect(&rt, "memory");
+    for n in 0..4_000 {
+        bytes.extend_from_slice(&numbered(n)).expect(&rt, "memory");
+    }
+    let mut reader = reader_of(&bytes, 4_090, 0);
+    let mut taken = 0;
+    for _ in 0..18 {
+        assert!(rt; deframer.room() >= 1);
+        assert!(rt; deframer.read_from(&mut reader, 4096).is_ok());
+        for _ in 0..228 {
+            match deframer.next() {
+                Taken::Frame(frame) => {
+                    assert!(rt; taken < 4_000);
+                    assert_eq!(rt; frame, numbered(taken).as_slice(), "frame {taken}");
+                    taken += 1;
+                }
+                Taken::More => {}
+                _ => assert!(rt; false),
+            }
+        }
+    }
+    same(&rt, taken, 4_000);
+    same(&rt, deframer.room(), CAPACITY);
+}
+
+#[test]
+fn read_no_more_than_the_room(rt: HostRuntime) {
+    let mut deframer = Deframer::new(rt.alloc()).expect(&rt, "memory");
+    // A frame of 65,535 bytes behind one of 18: all but its last byte come with the first reads, and then there is room for one.
+    let mut bytes = vec![in rt.alloc(); 0; 65_535].expect(&rt, "memory");
+    bytes[0] = 0xAA;
+    bytes[1] = 0x42;
+    bytes[2] = 0xFF;
+    bytes[3] = 0xFF;
+    bytes[65_533] = 0x31;
+    bytes[65_534] = 0xF7;
+    deframer.feed(&SEND_CONFIG);
+    let mut reader = reader_of(&bytes, 65_535, 0);
+    assert!(rt; deframer.room() >= 1);
+    assert!(rt; matches!(deframer.read_from(&mut reader, 40_000), Ok(40_000)));
+    assert!(rt; matches!(deframer.next(), Taken::Frame(frame) if frame == SEND_CONFIG.as_slice()));
+    assert!(rt; deframer.room() >= 1);
+    assert!(rt; matches!(deframer.read_from(&mut reader, 25_534), Ok(25_534)));
+    assert!(rt; matches!(deframer.next(), Taken::More));
+    same(&rt, deframer.room(), 1);
+    assert!(rt; deframer.room() >= 1);
+    assert!(rt; matches!(deframer.read_from(&mut reader, 4096), Ok(1)));
+    assert!(rt; matches!(deframer.next(), Taken::Frame(frame) if frame == bytes.as_slice()));
 }
 
 #[test]

@@ -13,7 +13,7 @@ use Rattle.pg_session.specs.Private as private
 use Rattle.pg_session.specs.Private.{Told, done, refused, handed, frames_of}
 use Rattle.pg_session.specs.Shown.{Model}
 use Rattle.pg_session.specs.ByAll.{by_arrivals, by_numbers}
-use Rattle.pg_gateway.specs.Occurrences.{Occurrence, add_pmu, drop_pmu, add_sub, drop_sub, grant, asks, announce, measure, tick, stats, pmu_stats, audit, standing, Answer, tells}
+use Rattle.pg_gateway.specs.Occurrences.{Occurrence, add_pmu, drop_pmu, add_sub, drop_sub, grant, asks, announce, measure, tick, stats, pmu_stats, audit, standing, who_waits, Answer, tells}
 use Rattle.pg_gateway.specs.Judging.{registered_of}
 use Rattle.pg_gateway.specs.Sharing.{SubscriberSlot, SubscriberSlots, Offer, revokes, announces, measures, ticks, share, total}
 use Rattle.pg_gateway.specs.State.{SharedMachine, slot_of, own_of, granting, taken_in, refusal, takes_memory, Reach, to_all, to_one, adds, drops, to_none, unless, reach, frames_reached, made, own_frames, own_answer, reached_answer, answer, May}
@@ -65,6 +65,7 @@ kept S (measure m) k le full = ap tells (reached_kept (reach S (measure m)) S.su
 kept S (tick soc) k le full = ap tells (reached_kept (reach S (tick soc)) S.subs k le full)
 kept S (stats w) k le full = refl
 kept S (pmu_stats key) k le full = refl
+kept S (who_waits us) k le full = refl
 kept S (audit w index) k le full = refl
 kept S (standing w place) k le full = refl
 
@@ -173,6 +174,7 @@ handed-step u S (measure m) =
 handed-step u S (tick soc) = sym (silent_part u (own_of u S) (to_all (ticks soc)) tt)
 handed-step u S (stats w) = refl
 handed-step u S (pmu_stats key) = refl
+handed-step u S (who_waits us) = refl
 handed-step u S (audit w index) = refl
 handed-step u S (standing w place) = refl
 

@@ -8,7 +8,7 @@ use Rattle.pg_session.specs.Private as private
 use Rattle.pg_session.specs.Private.{Told, refused}
 use Rattle.pg_session.specs.Shown.{Model}
 use Rattle.pg_session.specs.ByAll.{by_arrivals, by_numbers}
-use Rattle.pg_gateway.specs.Occurrences.{Occurrence, add_pmu, drop_pmu, add_sub, drop_sub, grant, asks, announce, measure, tick, stats, pmu_stats, audit, standing, Answer, tells}
+use Rattle.pg_gateway.specs.Occurrences.{Occurrence, add_pmu, drop_pmu, add_sub, drop_sub, grant, asks, announce, measure, tick, stats, pmu_stats, audit, standing, who_waits, Answer, tells}
 use Rattle.pg_gateway.specs.Sharing.{SubscriberSlot, SubscriberSlots}
 use Rattle.pg_gateway.specs.State.{SharedMachine, Reach, to_all, to_one, adds, drops, to_none, reach, takes_memory, own_answer, reached_answer, stats_answer, pmu_answer, audit_answer, standing_answer, slot_of, made, answer}
 use Rattle.pg_gateway.specs.Shown.{GatewayValue, Goes}
@@ -70,6 +70,7 @@ answered S (measure m) k is = reach_answered (reach S (measure m)) S.subs k (tol
 answered S (tick soc) k is = reach_answered (reach S (tick soc)) S.subs k (told_in _ _ is)
 answered S (stats u) k is = stats_answered (slot_of u S.subs) is
 answered S (pmu_stats key) k is = pmu_answered (pmu_of S.pmus key) is
+answered S (who_waits us) k is = cc
 answered S (audit u index) k is = audit_answered (slot_of u S.subs) index is
 answered S (standing u place) k is = standing_answered (slot_of u S.subs) place is
 
@@ -93,5 +94,6 @@ frugally old new (drop_sub u) a goes copies = freely old new (drop_sub u) a goes
 frugally old new (tick soc) a goes copies = freely old new (tick soc) a goes refl
 frugally old new (stats u) a goes copies = freely old new (stats u) a goes refl
 frugally old new (pmu_stats key) a goes copies = freely old new (pmu_stats key) a goes refl
+frugally old new (who_waits us) a goes copies = freely old new (who_waits us) a goes refl
 frugally old new (audit u index) a goes copies = freely old new (audit u index) a goes refl
 frugally old new (standing u place) a goes copies = freely old new (standing u place) a goes refl

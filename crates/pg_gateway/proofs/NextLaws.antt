@@ -20,7 +20,7 @@ use Rattle.pg_session.specs.Private as private
 use Rattle.pg_session.specs.Private.{Told, done, refused, handed, refuse}
 use Rattle.pg_session.specs.Shown.{Model, begin}
 use Rattle.pg_session.specs.ByAll.{by_arrivals, by_numbers}
-use Rattle.pg_gateway.specs.Occurrences.{Occurrence, add_pmu, drop_pmu, add_sub, drop_sub, grant, asks, announce, measure, tick, stats, pmu_stats, audit, standing, Answer, tells, sub_counts, pmu_counts, entry, stands}
+use Rattle.pg_gateway.specs.Occurrences.{Occurrence, add_pmu, drop_pmu, add_sub, drop_sub, grant, asks, announce, measure, tick, stats, pmu_stats, audit, standing, who_waits, Answer, tells, sub_counts, pmu_counts, entry, stands, those_waiting}
 use Rattle.pg_gateway.specs.Judging.{registered_of, memory_counted, blocks_counted, all_announced}
 use Rattle.pg_gateway.specs.Sharing.{SubscriberSlot, SubscriberSlots, revokes, announces, measures, ticks, fan_out}
 use Rattle.pg_gateway.specs.State.{SharedMachine, May, next, refusal, granting, grant_refusal, announce_refusal, slot_of, moved, added, with_note, code_of, is_refusal, wants_memory, kept_of, slots_noted, slots_after, unless, to_all, to_one, to_none, adds, drops, names, taken_in, judged_in}
@@ -223,6 +223,7 @@ module _ (S : SharedMachine) (c : IsConsistent S) (t : Told) where
   told_stays (tick soc) posted may = record { registered = c.registered; keyed = c.keyed; agree = tick_agree soc (is_refusal t) }
   told_stays (stats u) posted may = record { registered = c.registered; keyed = c.keyed; agree = c.agree }
   told_stays (pmu_stats key) posted may = record { registered = c.registered; keyed = c.keyed; agree = c.agree }
+  told_stays (who_waits us) posted may = record { registered = c.registered; keyed = c.keyed; agree = c.agree }
   told_stays (audit u index) posted may = record { registered = c.registered; keyed = c.keyed; agree = c.agree }
   told_stays (standing u place) posted may = record { registered = c.registered; keyed = c.keyed; agree = c.agree }
 
@@ -230,5 +231,6 @@ pub next_stays : (S : SharedMachine) (e : Occurrence) (a : Answer) → IsConsist
 next_stays S e (tells t) c posted may = told_stays S c t e posted may
 next_stays S e (sub_counts s) c posted may = c
 next_stays S e (pmu_counts s) c posted may = c
+next_stays S e (those_waiting us) c posted may = c
 next_stays S e (entry found) c posted may = c
 next_stays S e (stands s) c posted may = c

@@ -25,7 +25,7 @@ use Rattle.pg_session.specs.Shown.{Model}
 use Rattle.pg_session.specs.ByAll.{by_arrivals, by_numbers}
 use Rattle.pg_gateway.specs.declared.event.Event.{Event}
 use Rattle.pg_gateway.specs.declared.event.Event.TheVariants as kind
-use Rattle.pg_gateway.specs.Occurrences.{occurrence, Occurrence, add_pmu, drop_pmu, add_sub, drop_sub, grant, asks, announce, measure, tick, stats, pmu_stats, audit, standing, Answer, tells, sub_counts, pmu_counts, entry, stands}
+use Rattle.pg_gateway.specs.Occurrences.{occurrence, Occurrence, add_pmu, drop_pmu, add_sub, drop_sub, grant, asks, announce, measure, tick, stats, pmu_stats, audit, standing, who_waits, Answer, tells, sub_counts, pmu_counts, entry, stands, those_waiting}
 use Rattle.pg_gateway.specs.Judging.{samples_in, sample_refusal, is_taken, judged, taken_of, registered_of, block_counted, blocks_counted, memory_counted, all_announced}
 use Rattle.pg_gateway.specs.Related.{Related}
 use Rattle.pg_gateway.specs.Sharing.{SubscriberSlot, SubscriberSlots, Offer, announces, measures, ticks, some_announced, some_measured, after_share, shared_to, fan_out}
@@ -167,6 +167,7 @@ module _ (S : SharedMachine) (t : Told) where
   grants_stay (tick soc) keeps = ticked_slots soc (is_refusal t)
   grants_stay (stats u) keeps = refl
   grants_stay (pmu_stats key) keeps = refl
+  grants_stay (who_waits us) keeps = refl
   grants_stay (audit u index) keeps = refl
   grants_stay (standing u place) keeps = refl
 
@@ -204,6 +205,7 @@ module _ (S : SharedMachine) (t : Told) where
   keys_stay (tick soc) keeps = refl
   keys_stay (stats u) keeps = refl
   keys_stay (pmu_stats key) keeps = refl
+  keys_stay (who_waits us) keeps = refl
   keys_stay (audit u index) keeps = refl
   keys_stay (standing u place) keeps = refl
 
@@ -211,6 +213,7 @@ stays : (S : SharedMachine) (e : Occurrence) (a : Answer) → KeepsRoutes e → 
 stays S e (tells t) keeps = (grants_stay S t e keeps, keys_stay S t e keeps)
 stays S e (sub_counts s) keeps = (refl, refl)
 stays S e (pmu_counts s) keeps = (refl, refl)
+stays S e (those_waiting us) keeps = (refl, refl)
 stays S e (entry found) keeps = (refl, refl)
 stays S e (stands s) keeps = (refl, refl)
 
@@ -322,5 +325,6 @@ else_keeps (kind.Command u asked) nAddPmu nDropPmu nAddSub nDropSub nGrant nRevo
 else_keeps (kind.Drain u buf) nAddPmu nDropPmu nAddSub nDropSub nGrant nRevoke = tt
 else_keeps (kind.Stats u) nAddPmu nDropPmu nAddSub nDropSub nGrant nRevoke = tt
 else_keeps (kind.PmuStats key) nAddPmu nDropPmu nAddSub nDropSub nGrant nRevoke = tt
+else_keeps (kind.WhoWaits subs) nAddPmu nDropPmu nAddSub nDropSub nGrant nRevoke = tt
 else_keeps (kind.Audit u index) nAddPmu nDropPmu nAddSub nDropSub nGrant nRevoke = tt
 else_keeps (kind.Standing u place) nAddPmu nDropPmu nAddSub nDropSub nGrant nRevoke = tt

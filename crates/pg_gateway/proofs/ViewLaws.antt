@@ -12,7 +12,7 @@ use Rattle.pg_session.specs.Private as private
 use Rattle.pg_session.specs.Private.{Told, done, refused, handed, refuse, frames_of}
 use Rattle.pg_session.specs.Shown.{Model}
 use Rattle.pg_session.specs.ByAll.{by_arrivals, by_numbers}
-use Rattle.pg_gateway.specs.Occurrences.{Occurrence, add_pmu, drop_pmu, add_sub, drop_sub, grant, asks, announce, measure, tick, stats, pmu_stats, audit, standing, Answer, tells, sub_counts, pmu_counts, entry, stands}
+use Rattle.pg_gateway.specs.Occurrences.{Occurrence, add_pmu, drop_pmu, add_sub, drop_sub, grant, asks, announce, measure, tick, stats, pmu_stats, audit, standing, who_waits, Answer, tells, sub_counts, pmu_counts, entry, stands, those_waiting}
 use Rattle.pg_gateway.specs.Judging.{registered_of}
 use Rattle.pg_gateway.specs.Sharing.{SubscriberSlot, SubscriberSlots, Offer, revokes, announces, measures, ticks, total, fan_out}
 use Rattle.pg_gateway.specs.State.{SharedMachine, slot_of, own_of, at_slot, own_refusal, grant_refusal, granting, taken_in, refusal, Reach, to_all, to_one, adds, drops, to_none, unless, reach, own_frames, frames_reached, made, own_answer, reached_answer, answer, stats_answer, pmu_answer, audit_answer, standing_answer, moved, added, is_refusal, kept_of, slots_after, names, with_note, code_of, slots_noted, next}
@@ -151,6 +151,7 @@ own-step u S (pmu_stats key) alone = by (refusal S (pmu_stats key)) (pmu_of S.pm
     by None None = refl
     by None (Some pmu) = refl
     by (Some r) o = refl
+own-step u S (who_waits us) alone = refl
 own-step u S (audit w index) alone = by (refusal S (audit w index)) (slot_of w S.subs)
   where
     by : (r : Option Refusal) (o : Option SubscriberSlot) → own_of u (next S (audit w index) (full_by r (audit_answer o index))) ≡ own_of u S
@@ -189,6 +190,7 @@ fresh_reach S (measure m) = fresh_unless (refusal S (measure m)) (to_all (measur
 fresh_reach S (tick soc) = tt
 fresh_reach S (stats w) = tt
 fresh_reach S (pmu_stats key) = tt
+fresh_reach S (who_waits us) = tt
 fresh_reach S (audit w index) = tt
 fresh_reach S (standing w place) = tt
 
@@ -220,6 +222,7 @@ Alone-next S e (tells t) alone =
     Alone-noted (names e) t (slots_after (reach S e) t S.subs) (Alone-after (reach S e) t S.subs (fresh_reach S e) alone)
 Alone-next S e (sub_counts s) alone = alone
 Alone-next S e (pmu_counts s) alone = alone
+Alone-next S e (those_waiting us) alone = alone
 Alone-next S e (entry found) alone = alone
 Alone-next S e (stands s) alone = alone
 

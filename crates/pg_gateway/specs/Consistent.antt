@@ -8,7 +8,7 @@ use Rattle.pg_registry.specs.Registered.{Pmus, IsRegistry, config_in}
 use Rattle.pg_session.specs.Events as own
 use Rattle.pg_session.specs.Events.{Happening}
 use Rattle.pg_session.specs.Shown.{Model}
-use Rattle.pg_gateway.specs.Occurrences.{Occurrence, add_pmu, drop_pmu, add_sub, drop_sub, grant, asks, announce, measure, tick, stats, pmu_stats, audit, standing}
+use Rattle.pg_gateway.specs.Occurrences.{Occurrence, add_pmu, drop_pmu, add_sub, drop_sub, grant, asks, announce, measure, tick, stats, pmu_stats, audit, standing, who_waits}
 use Rattle.pg_gateway.specs.Sharing.{SubscriberSlots}
 use Rattle.pg_gateway.specs.State.{SharedMachine}
 use Rattle.pg_gateway.specs.Shown.{GatewayValue, GatewayShows}
@@ -65,5 +65,6 @@ IsPosted (measure m) = Unit {0}
 IsPosted (tick soc) = Unit {0}
 IsPosted (stats u) = Unit {0}
 IsPosted (pmu_stats key) = Unit {0}
+IsPosted (who_waits us) = Unit {0}
 IsPosted (audit u index) = Unit {0}
 IsPosted (standing u place) = Unit {0}

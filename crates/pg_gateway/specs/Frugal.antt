@@ -9,7 +9,7 @@ use Rattle.pg_session.specs.Private.{refused}
 use Rattle.pg_session.specs.Events.{Happening}
 use Rattle.pg_session.specs.Shown.{SubscriberValue}
 use Rattle.pg_session.specs.Ready.{NeedsNone}
-use Rattle.pg_gateway.specs.Occurrences.{Occurrence, add_pmu, drop_pmu, add_sub, drop_sub, grant, asks, announce, measure, tick, stats, pmu_stats, audit, standing, Answer, tells}
+use Rattle.pg_gateway.specs.Occurrences.{Occurrence, add_pmu, drop_pmu, add_sub, drop_sub, grant, asks, announce, measure, tick, stats, pmu_stats, audit, standing, who_waits, Answer, tells}
 use Rattle.pg_gateway.specs.Sharing.{Offer, measures, share}
 use Rattle.pg_gateway.specs.Judging.{taken_of}
 use Rattle.pg_gateway.specs.State.{SharedMachine, refusal}
@@ -43,6 +43,7 @@ NeedsNoMemory v (drop_sub u) = Unit {0}
 NeedsNoMemory v (tick soc) = Unit {0}
 NeedsNoMemory v (stats u) = Unit {0}
 NeedsNoMemory v (pmu_stats key) = Unit {0}
+NeedsNoMemory v (who_waits us) = Unit {0}
 NeedsNoMemory v (audit u index) = Unit {0}
 NeedsNoMemory v (standing u place) = Unit {0}
 

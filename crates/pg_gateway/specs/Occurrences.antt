@@ -1,5 +1,5 @@
 -- What happens to the gateway, and what it answers, wherever it lies in memory.
-use Rattle.std.specs.Prelude.{ℕ, length, Option}
+use Rattle.std.specs.Prelude.{ℕ, List, length, Option}
 use Rattle.std.specs.Arc.{arc_value}
 use Rattle.pg_wire.specs.declared.ids.PmuKey.{PmuKey}
 use Rattle.pg_config.specs.Parts.{Source}
@@ -39,6 +39,8 @@ pub data Occurrence : Type 0 where
   pmu_stats : PmuKey → Occurrence
   audit : ℕ → ℕ → Occurrence
   standing : ℕ → ℕ → Occurrence
+  -- for which of these subscribers something waits is asked for
+  who_waits : List ℕ → Occurrence
 
 -- what an event says
 abbrev pub occurrence : Event → Occurrence
@@ -61,6 +63,7 @@ occurrence (event.Stats u) = stats u
 occurrence (event.PmuStats key) = pmu_stats key
 occurrence (event.Audit u index) = audit u index
 occurrence (event.Standing u place) = standing u place
+occurrence (event.WhoWaits subs) = who_waits subs.items
 
 pub data Answer : Type 0 where
   -- done, refused or handed out, as one subscriber tells it
@@ -69,6 +72,7 @@ pub data Answer : Type 0 where
   pmu_counts : PmuStats → Answer
   entry : Option Entry → Answer
   stands : Standing → Answer
+  those_waiting : List ℕ → Answer
 
 -- what a reply tells
 abbrev pub told : Reply → Answer
@@ -79,3 +83,4 @@ told (reply.Stats s) = sub_counts s
 told (reply.PmuStats s) = pmu_counts s
 told (reply.Audit e) = entry e
 told (reply.Standing s) = stands s
+told (reply.Waiting subs) = those_waiting subs.items

@@ -24,6 +24,7 @@ IsPlain (reply.Refused r) = Unit {0}
 IsPlain (reply.Drained buf out) = ⊥
 IsPlain (reply.Stats s) = Unit {0}
 IsPlain (reply.PmuStats s) = Unit {0}
+IsPlain (reply.Waiting subs) = Unit {0}
 IsPlain (reply.Audit e) = Unit {0}
 IsPlain (reply.Standing s) = Unit {0}
 
@@ -36,6 +37,7 @@ KeepsBuffer bytes (reply.Done made kept) = ⊥
 KeepsBuffer bytes (reply.Refused r) = ⊥
 KeepsBuffer bytes (reply.Stats s) = ⊥
 KeepsBuffer bytes (reply.PmuStats s) = ⊥
+KeepsBuffer bytes (reply.Waiting subs) = ⊥
 KeepsBuffer bytes (reply.Audit e) = ⊥
 KeepsBuffer bytes (reply.Standing s) = ⊥
 
@@ -58,5 +60,6 @@ Answers (event.Hangup u) r = IsPlain r
 Answers (event.Command u asked) r = IsPlain r
 Answers (event.Stats u) r = IsPlain r
 Answers (event.PmuStats key) r = IsPlain r
+Answers (event.WhoWaits subs) r = IsPlain r
 Answers (event.Audit u index) r = IsPlain r
 Answers (event.Standing u place) r = IsPlain r

@@ -7,7 +7,7 @@ use Rattle.pg_entitle.specs.Grants.{has_key}
 use Rattle.pg_registry.specs.Registered.{Pmus}
 use Rattle.pg_session.specs.Events as own
 use Rattle.pg_session.specs.Events.{Happening}
-use Rattle.pg_gateway.specs.Occurrences.{Occurrence, add_pmu, drop_pmu, add_sub, drop_sub, grant, asks, announce, measure, tick, stats, pmu_stats, audit, standing}
+use Rattle.pg_gateway.specs.Occurrences.{Occurrence, add_pmu, drop_pmu, add_sub, drop_sub, grant, asks, announce, measure, tick, stats, pmu_stats, audit, standing, who_waits}
 use Rattle.pg_gateway.specs.Sharing.{Offer, share}
 use Rattle.pg_gateway.specs.Shown.{SlotValue, GatewayValue}
 
@@ -77,5 +77,6 @@ KeepsRoutes (measure m) = Unit {0}
 KeepsRoutes (tick soc) = Unit {0}
 KeepsRoutes (stats u) = Unit {0}
 KeepsRoutes (pmu_stats key) = Unit {0}
+KeepsRoutes (who_waits us) = Unit {0}
 KeepsRoutes (audit u index) = Unit {0}
 KeepsRoutes (standing u place) = Unit {0}

@@ -1,5 +1,6 @@
 -- What is kept of the gateway, what it shows of the shared machine, and one step of the two.
-use Rattle.std.specs.Prelude.{◌≡◌, ◌≤◌, ℕ, Bool, List, length, Option}
+use Rattle.std.specs.Prelude.{◌≡◌, ◌≤◌, ℕ, Bool, false, nat_lt, List, length, Option, Some, None}
+use Rattle.pg_ring.specs.Shown.{frames_to_leave}
 use Rattle.pg_registry.specs.Registered.{Pmus}
 use Rattle.pg_audit.specs.Noting as audit
 use Rattle.pg_audit.specs.Noting.{AuditValue}
@@ -11,12 +12,17 @@ use Rattle.pg_gateway.specs.State.{SharedMachine, May, next}
 use Rattle.pg_gateway.specs.Related.{Related}
 
 -- A subscriber with its audit; whether it is spared the event that is under way, which does not concern it; and whether that is a
--- frame whose blocks it is granted, all of them.
+-- frame of whose blocks it is granted all that were taken.
 pub record SlotValue : Type 0 where
   pub subscriber : SubscriberValue
   pub audit : AuditValue
   pub spared : Bool
   pub whole : Bool
+
+-- whether something waits to be handed out to a subscriber, who may not be there
+abbrev pub slot_waits : Option SlotValue → Bool
+slot_waits None = false
+slot_waits (Some v) = nat_lt 0 (frames_to_leave v.subscriber.own.output.queue)
 
 pub record GatewayValue : Type 0 where
   pub pmus : Pmus

@@ -1,5 +1,5 @@
 -- The shared machine: the registered PMUs, the subscribers, each a private gateway with an audit, and the last tick.
-use Rattle.std.specs.Prelude.{◌≡◌, ◌⊎◌, ℕ, ◌≤◌, ◌==◌, Bool, true, false, not, if◌then◌else◌, nat_eq, nat_le, is_some, List, [], ◌∷◌, ◌++◌, length, map, Option, Some, None, option_map, MatchOption}
+use Rattle.std.specs.Prelude.{◌≡◌, ◌⊎◌, ℕ, ◌≤◌, ◌==◌, Bool, true, false, not, if◌then◌else◌, nat_eq, nat_le, nat_lt, is_some, List, [], ◌∷◌, ◌++◌, length, filter, map, Option, Some, None, option_map, MatchOption}
 use Rattle.std.specs.Map.{lookup, remove_entry}
 use Rattle.pg_wire.specs.declared.refusal.Refusal.{Refusal}
 use Rattle.pg_wire.specs.declared.refusal.Refusal.TheVariants.{NoMemory, NoSuchPmu, PmuExists, PmusFull, NoSuchSub, SubExists, SubsFull}
@@ -11,6 +11,8 @@ use Rattle.pg_audit.specs.Noting.{Noted, newest_at}
 use Rattle.pg_audit.specs.declared.audit.What.{What}
 use Rattle.pg_audit.specs.declared.audit.What.TheVariants.{AddSub, Grant, Revoke, Define, Remove, Connect, Hangup, Command}
 use Rattle.pg_data.specs.Measurements.{Measurement}
+use Rattle.pg_ring.specs.Shown.{frames_to_leave}
+use Rattle.pg_ring.specs.Numbers.{shown_of}
 use Rattle.pg_session.specs.Events as own
 use Rattle.pg_session.specs.Events.{Happening, Announcing, Sample}
 use Rattle.pg_session.specs.Private as private
@@ -18,7 +20,7 @@ use Rattle.pg_session.specs.Private.{Told, done, refused, handed, refuse, frames
 use Rattle.pg_session.specs.Shown.{Model, begin}
 use Rattle.pg_session.specs.ByAll.{by_arrivals, by_numbers}
 use Rattle.pg_session.specs.Standing.{standing_of}
-use Rattle.pg_gateway.specs.Occurrences.{Occurrence, add_pmu, drop_pmu, add_sub, drop_sub, grant, asks, announce, measure, tick, stats, pmu_stats, audit, standing, Answer, tells, sub_counts, pmu_counts, entry, stands}
+use Rattle.pg_gateway.specs.Occurrences.{Occurrence, add_pmu, drop_pmu, add_sub, drop_sub, grant, asks, announce, measure, tick, stats, pmu_stats, audit, standing, who_waits, Answer, tells, sub_counts, pmu_counts, entry, stands, those_waiting}
 use Rattle.pg_gateway.specs.Judging.{registered_of, judged, taken_of, first_refusal, blocks_counted, all_announced, memory_counted}
 use Rattle.pg_gateway.specs.Sharing.{SubscriberSlot, SubscriberSlots, Offer, revokes, announces, measures, ticks, total, fan_out}
 
@@ -85,6 +87,7 @@ module _ (S : SharedMachine) where
   refusal (tick soc) = None
   refusal (stats u) = refuse (not (is_some (slot_of u S.subs))) NoSuchSub None
   refusal (pmu_stats key) = refuse (not (has_key S.pmus key)) NoSuchPmu None
+  refusal (who_waits us) = None
   refusal (audit u index) = refuse (not (is_some (slot_of u S.subs))) NoSuchSub None
   refusal (standing u place) = refuse (not (is_some (slot_of u S.subs))) NoSuchSub None
 
@@ -101,6 +104,7 @@ takes_memory (measure m) = true
 takes_memory (tick soc) = false
 takes_memory (stats u) = false
 takes_memory (pmu_stats key) = false
+takes_memory (who_waits us) = false
 takes_memory (audit u index) = false
 takes_memory (standing u place) = false
 
@@ -130,6 +134,7 @@ reach S (measure m) = unless (refusal S (measure m)) (to_all (measures m.soc m.q
 reach S (tick soc) = to_all (ticks soc)
 reach S (stats u) = to_none
 reach S (pmu_stats key) = to_none
+reach S (who_waits us) = to_none
 reach S (audit u index) = to_none
 reach S (standing u place) = to_none
 
@@ -176,6 +181,14 @@ abbrev pub standing_answer : Option SubscriberSlot → ℕ → Answer
 standing_answer None place = tells (refused NoSuchSub)
 standing_answer (Some s) place = stands (standing_of s.own place)
 
+-- whether something waits to be handed out to a subscriber, who may not be there
+abbrev pub has_waiting : Option SubscriberSlot → Bool
+has_waiting None = false
+has_waiting (Some s) = nat_lt 0 (frames_to_leave (shown_of s.own.output.queue))
+
+abbrev pub waiting_among : SubscriberSlots → List ℕ → List ℕ
+waiting_among slots us = filter (λ u. has_waiting (slot_of u slots)) us
+
 abbrev pub answer : SharedMachine → Occurrence → ℕ → Answer
 answer S (add_pmu key) k = tells (reached_answer (reach S (add_pmu key)) S.subs k)
 answer S (drop_pmu key) k = tells (reached_answer (reach S (drop_pmu key)) S.subs k)
@@ -188,6 +201,7 @@ answer S (measure m) k = tells (reached_answer (reach S (measure m)) S.subs k)
 answer S (tick soc) k = tells (reached_answer (reach S (tick soc)) S.subs k)
 answer S (stats u) k = stats_answer (slot_of u S.subs)
 answer S (pmu_stats key) k = pmu_answer (pmu_of S.pmus key)
+answer S (who_waits us) k = those_waiting (waiting_among S.subs us)
 answer S (audit u index) k = audit_answer (slot_of u S.subs) index
 answer S (standing u place) k = standing_answer (slot_of u S.subs) place
 
@@ -253,6 +267,7 @@ names (measure m) = None
 names (tick soc) = None
 names (stats u) = None
 names (pmu_stats key) = None
+names (who_waits us) = None
 names (audit u index) = None
 names (standing u place) = None
 
@@ -289,6 +304,7 @@ pmus_after S (measure m) t =
 pmus_after S (tick soc) t = S.pmus
 pmus_after S (stats u) t = S.pmus
 pmus_after S (pmu_stats key) t = S.pmus
+pmus_after S (who_waits us) t = S.pmus
 pmus_after S (audit u index) t = S.pmus
 pmus_after S (standing u place) t = S.pmus
 
@@ -304,6 +320,7 @@ tick_after last (measure m) = last
 tick_after last (tick soc) = Some soc
 tick_after last (stats u) = last
 tick_after last (pmu_stats key) = last
+tick_after last (who_waits us) = last
 tick_after last (audit u index) = last
 tick_after last (standing u place) = last
 
@@ -317,5 +334,6 @@ next S e (tells t) =
     }
 next S e (sub_counts s) = S
 next S e (pmu_counts s) = S
+next S e (those_waiting us) = S
 next S e (entry found) = S
 next S e (stands s) = S

@@ -20,7 +20,7 @@ use Rattle.pg_gateway.specs.declared.event.Event.TheVariants as event
 use Rattle.pg_gateway.specs.Sharing.{SubscriberSlot, SubscriberSlots, Offer, revokes, announces, measures, ticks, share, frames_for, shared_to, total, fan_out}
 use Rattle.pg_audit.specs.declared.audit.What.{What}
 use Rattle.pg_audit.specs.declared.audit.What.TheVariants as audited
-use Rattle.pg_gateway.specs.Occurrences.{Occurrence, add_pmu, drop_pmu, add_sub, drop_sub, grant, asks, announce, measure, tick, stats, pmu_stats, audit, standing, Answer, tells}
+use Rattle.pg_gateway.specs.Occurrences.{Occurrence, add_pmu, drop_pmu, add_sub, drop_sub, grant, asks, announce, measure, tick, stats, pmu_stats, audit, standing, who_waits, Answer, tells}
 use Rattle.pg_gateway.specs.State.{slot_of, at_slot, moved, names, with_note, code_of, slots_noted}
 use Rattle.pg_gateway.specs.Related.{Related}
 use Rattle.pg_gateway.specs.Shown.{SlotValue, SlotShows}
@@ -49,6 +49,7 @@ offered (event.Command u asked) places = announces []
 offered (event.Drain u buf) places = announces []
 offered (event.Stats u) places = announces []
 offered (event.PmuStats key) places = announces []
+offered (event.WhoWaits subs) places = announces []
 offered (event.Audit u index) places = announces []
 offered (event.Standing u place) places = announces []
 
@@ -71,6 +72,7 @@ IsRising (event.Command u asked) places = Unit {0}
 IsRising (event.Drain u buf) places = Unit {0}
 IsRising (event.Stats u) places = Unit {0}
 IsRising (event.PmuStats key) places = Unit {0}
+IsRising (event.WhoWaits subs) places = Unit {0}
 IsRising (event.Audit u index) places = Unit {0}
 IsRising (event.Standing u place) places = Unit {0}
 
@@ -221,6 +223,7 @@ IsForAll (event.Command u asked) = ⊥
 IsForAll (event.Drain u buf) = ⊥
 IsForAll (event.Stats u) = ⊥
 IsForAll (event.PmuStats key) = ⊥
+IsForAll (event.WhoWaits subs) = ⊥
 IsForAll (event.Audit u index) = ⊥
 IsForAll (event.Standing u place) = ⊥
 
@@ -237,5 +240,6 @@ MayCopy (drop_sub u) = ⊥
 MayCopy (tick soc) = ⊥
 MayCopy (stats u) = ⊥
 MayCopy (pmu_stats key) = ⊥
+MayCopy (who_waits us) = ⊥
 MayCopy (audit u index) = ⊥
 MayCopy (standing u place) = ⊥

@@ -7,7 +7,7 @@ use Rattle.pg_session.specs.Private as session
 use Rattle.pg_session.specs.Private.{Told, done, refused, handed, frames_of}
 use Rattle.pg_session.specs.Shown.{Model, begin}
 use Rattle.pg_session.specs.ByAll.{by_arrivals, by_numbers}
-use Rattle.pg_gateway.specs.Occurrences.{Occurrence, add_pmu, drop_pmu, add_sub, drop_sub, grant, asks, announce, measure, tick, stats, pmu_stats, audit, standing, Answer, tells, sub_counts, pmu_counts, entry, stands}
+use Rattle.pg_gateway.specs.Occurrences.{Occurrence, add_pmu, drop_pmu, add_sub, drop_sub, grant, asks, announce, measure, tick, stats, pmu_stats, audit, standing, who_waits, Answer, tells, sub_counts, pmu_counts, entry, stands, those_waiting}
 use Rattle.pg_gateway.specs.Sharing.{Offer, share}
 use Rattle.pg_gateway.specs.State.{SharedMachine, own_of, refusal, Reach, to_all, to_one, adds, drops, to_none, reach, made, answer, next}
 
@@ -108,6 +108,7 @@ abbrev pub handed_out : Answer → List Handed
 handed_out (tells t) = handed_by t
 handed_out (sub_counts s) = []
 handed_out (pmu_counts s) = []
+handed_out (those_waiting us) = []
 handed_out (entry found) = []
 handed_out (stands s) = []
 
@@ -123,6 +124,7 @@ handed_one u (measure m) a = []
 handed_one u (tick soc) a = []
 handed_one u (stats w) a = []
 handed_one u (pmu_stats key) a = []
+handed_one u (who_waits us) a = []
 handed_one u (audit w index) a = []
 handed_one u (standing w place) a = []
 
@@ -138,6 +140,7 @@ Lossless (tells (refused r)) = r ≢ NoMemory
 Lossless (tells (handed bytes begun gap)) = Unit {0}
 Lossless (sub_counts s) = Unit {0}
 Lossless (pmu_counts s) = Unit {0}
+Lossless (those_waiting us) = Unit {0}
 Lossless (entry found) = Unit {0}
 Lossless (stands s) = Unit {0}
 

@@ -1,6 +1,6 @@
 //! Events for one subscriber alone.
 
-ghost use Rattle.std.specs.Prelude.{◌≡◌, ◌≤◌, ◌+◌, ◌++◌, [], ◌∷◌, false, Some, None, nat_eq, length, ℕ, List, IfOk, IfErr};
+ghost use Rattle.std.specs.Prelude.{◌≡◌, ◌≤◌, ◌+◌, ◌++◌, [], ◌∷◌, false, Some, None, nat_eq, length, filter, ℕ, List, IfOk, IfErr};
 ghost use Rattle.std.specs.Prelude.{◌≢◌, true, option_map, IfSome};
 ghost use Rattle.std.specs.Map.{lookup};
 ghost use Rattle.std.specs.Arc.{arc_value};
@@ -16,7 +16,7 @@ ghost use Rattle.pg_gateway.specs.Occurrences.{told, tells};
 ghost use Rattle.pg_gateway.specs.Related.{Related};
 ghost use Rattle.pg_gateway.specs.Sharing.{SubscriberSlots};
 ghost use Rattle.pg_gateway.specs.State.{noted_as, code_of, at_slot, with_note, added, slot_of, grant_refusal};
-ghost use Rattle.pg_gateway.specs.Shown.{SlotShows};
+ghost use Rattle.pg_gateway.specs.Shown.{SlotShows, slot_waits};
 ghost use Rattle.pg_gateway.specs.Taking.{AsksNothing, TakesAt, DrainsAt, HasNone};
 ghost use Rattle.pg_gateway.specs.Posting.{IsPlain, KeepsBuffer};
 ghost use Rattle.pg_gateway.specs.Frugal.{AllSlots};
@@ -170,5 +170,26 @@ pub(crate) fn grant_at(
     match subs.get_mut(&sub) {
         None => PrivateReply::Refused(Refusal::NoSuchSub),
         Some(slot) => slot.grant_noted(key, config),
+    }
+}
+
+/// Those of these subscribers for whom something waits to be handed out, in the same order and memory.
+pub(crate) fn waiting_among(
+    subs: &IndexMap<SubId, SubscriberSlot>,
+    mut asked: Vec<SubId>,
+) -> Vec<SubId>
+    ensures { result.items ≡ filter (λ u. slot_waits (lookup (nat_eq u) subs.now.entries)) asked.items }
+{
+    asked.retain(|sub| waits(subs, *sub));
+    asked
+}
+
+/// Whether something waits to be handed out to a subscriber, who may not be there.
+fn waits(subs: &IndexMap<SubId, SubscriberSlot>, sub: SubId) -> bool
+    ensures { result ≡ slot_waits (lookup (nat_eq sub) subs.now.entries) }
+{
+    match subs.get(&sub) {
+        None => false,
+        Some(slot) => slot.has_waiting(),
     }
 }

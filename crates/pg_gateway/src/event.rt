@@ -51,6 +51,8 @@ pub enum Event {
     Audit(SubId, u8),
     /// How a subscriber stands is asked for, and its stream at this place: 0 the one that was defined first.
     Standing(SubId, u8),
+    /// For which of these subscribers something waits to be handed out is asked for.
+    WhoWaits(Vec<SubId>),
 }
 
 /// What the gateway answers.
@@ -80,4 +82,6 @@ pub enum Reply {
     Audit(Option<Entry>),
     /// How a subscriber stands.
     Standing(Standing),
+    /// Those of the subscribers that were asked about for whom something waits, in the same order and memory.
+    Waiting(Vec<SubId>),
 }

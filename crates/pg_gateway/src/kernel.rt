@@ -6,7 +6,7 @@ ghost use Rattle.pg_session.specs.Events.{announced_at, happening, drain};
 ghost use Rattle.pg_session.specs.Private.{told as private_told};
 ghost use Rattle.pg_gateway.specs.Related.{Related};
 ghost use Rattle.pg_gateway.specs.Sharing.{SubscriberSlots, announces, revokes, ticks};
-ghost use Rattle.pg_gateway.specs.Occurrences.{occurrence, told, tells, add_pmu, drop_pmu, add_sub, drop_sub, asks, tick, stats, pmu_stats, audit, standing, announce, measure, grant};
+ghost use Rattle.pg_gateway.specs.Occurrences.{occurrence, told, tells, add_pmu, drop_pmu, add_sub, drop_sub, asks, tick, stats, pmu_stats, audit, standing, who_waits, announce, measure, grant};
 ghost use Rattle.std.specs.Map.{lookup};
 ghost use Rattle.std.specs.Option.{option_map_or};
 ghost use Rattle.pg_registry.specs.Registered.{has_source};
@@ -25,7 +25,7 @@ ghost use Rattle.std.specs.Arc.{arc_value};
 ghost use Rattle.std.specs.Prelude.{List};
 
 use crate::announcing::{announce_all, copy_announced, count_first};
-use crate::asking::{ask_at, drain_at, grant_at, insert_new, note_at, reply_of};
+use crate::asking::{ask_at, drain_at, grant_at, insert_new, note_at, reply_of, waiting_among};
 use crate::blocks::{count_blocks, count_memory, first_refusal, has_registered, judge_shared};
 use crate::event::{Event, Reply};
 use crate::fan::fan_out;
@@ -131,6 +131,7 @@ impl Kernel {
             Event::PmuStats(key) => self.pmu_stats(key),
             Event::Audit(sub, index) => self.audit(sub, index),
             Event::Standing(sub, place) => self.standing(sub, place),
+            Event::WhoWaits(subs) => self.who_waits(subs),
             for_all => self.step_all(&for_all, routes),
         }
     }
@@ -429,5 +430,13 @@ impl Kernel {
             None => Reply::Refused(Refusal::NoSuchSub),
             Some(slot) => Reply::Standing(slot.standing(place)),
         }
+    }
+
+    /// For which of these subscribers something waits is asked for.
+    pub(crate) fn who_waits(&self, subs: Vec<SubId>) -> Reply
+        ensures goes { Goes self.now (who_waits subs.items) (told result) self.now }
+        ensures plain { IsPlain result }
+    {
+        Reply::Waiting(waiting_among(&self.subs, subs))
     }
 }

@@ -14,7 +14,7 @@ ghost use Rattle.pg_session.specs.Standing.{standing_of};
 ghost use Rattle.pg_session.specs.Ready.{ReturnsBuffer, AreRising};
 ghost use Rattle.pg_gateway.specs.Sharing.{SubscriberSlot as SlotState, announces, revokes};
 ghost use Rattle.pg_gateway.specs.State.{added, with_note, noted_as};
-ghost use Rattle.pg_gateway.specs.Shown.{SlotShows};
+ghost use Rattle.pg_gateway.specs.Shown.{SlotShows, slot_waits};
 ghost use Rattle.pg_gateway.specs.Taking.{Asks, AsksNothing, HasNone, offered, measured, part_passes, IsRising, Fits, LaysShare, Awaits, TakesOffer, TakesGrant, counts_of};
 
 use crate::asking::code;
@@ -149,6 +149,13 @@ impl SubscriberSlot {
         ensures { (s : SlotState) → SlotShows self.now s → result ≡ standing_of s.own place }
     {
         self.subscriber.standing(usize::from(place))
+    }
+
+    /// Whether something waits to be handed out.
+    pub(crate) fn has_waiting(&self) -> bool
+        ensures { result ≡ slot_waits (Some self.now) }
+    {
+        self.subscriber.queue().frames_to_leave() > 0
     }
 
     /// What was noted of it: 0 the newest.
@@ -369,7 +376,7 @@ fn is_held(subscriber: &Subscriber, config: &SourceConfig, place: usize, next: &
 }
 
 /// Of a source's PMUs at these places, those that the subscriber is granted. It answers whether there are any. The first is guessed
-/// to stand at `guess` among the grants, which is then where the next frame's first is guessed: behind the last, or at the front.
+/// to stand at `guess` among the grants or right before it; `guess` is then the place behind the last one.
 fn hold(
     subscriber: &Subscriber,
     config: &SourceConfig,
@@ -394,11 +401,7 @@ fn hold(
             held.push_reserved(*place);
         }
     }
-    *guess = if next < subscriber.grant_count() {
-        next
-    } else {
-        0
-    };
+    *guess = next;
     !held.is_empty()
 }
 

@@ -454,6 +454,51 @@ fn what_waits(rt: HostRuntime) {
     refused(&rt, &mut gateway, unknown, Refusal::NoSuchSub);
 }
 
+// Of these subscribers something waits for just those, in this order.
+fn who_waits(
+    rt: &impl Abort,
+    alloc: Global,
+    gateway: &mut Gateway,
+    asked: &[u16],
+    expected: &[u16],
+) {
+    let mut subs = Vec::new(alloc);
+    for number in asked {
+        subs.push(subscriber(rt, *number)).expect(rt, "memory");
+    }
+    let Reply::Waiting(waiting) = gateway.step(Event::WhoWaits(subs)) else {
+        panic!(rt; "nobody is told");
+    };
+    same(rt, waiting.len(), expected.len());
+    for (sub, number) in waiting.iter().zip(expected) {
+        same(rt, sub.get(), *number);
+    }
+}
+
+// Something waits for who has a reply or a frame that was not handed out; one who is not there is left out, and so is who has all.
+#[test]
+fn who_is_waited_for(rt: HostRuntime) {
+    let alloc = rt.alloc();
+    let config = source_7(&rt, alloc);
+    let mut gateway = with_two_streams(&rt, alloc, &config);
+    done(&rt, &mut gateway, add_sub(&rt, 2, 4), 0);
+    who_waits(&rt, alloc, &mut gateway, &[2, 1, 3], &[]);
+    command(&rt, &mut gateway, 1, 101, 2);
+    done(&rt, &mut gateway, frame_7(&rt, alloc, &config), 1);
+    who_waits(&rt, alloc, &mut gateway, &[2, 1, 3], &[1]);
+    who_waits(&rt, alloc, &mut gateway, &[2, 3], &[]);
+    who_waits(&rt, alloc, &mut gateway, &[1, 2, 1], &[1, 1]);
+    who_waits(&rt, alloc, &mut gateway, &[], &[]);
+    drains(&rt, alloc, &mut gateway, 1, &FRAME_7, 0);
+    who_waits(&rt, alloc, &mut gateway, &[2, 1, 3], &[]);
+    done(&rt, &mut gateway, Event::Connect(subscriber(&rt, 2)), 0);
+    let text = stream(&rt, alloc, 201, 0, &[7]);
+    define(&rt, &mut gateway, 2, text);
+    command(&rt, &mut gateway, 2, 201, 3);
+    command(&rt, &mut gateway, 1, 101, 3);
+    who_waits(&rt, alloc, &mut gateway, &[2, 1, 3], &[2, 1]);
+}
+
 // A stream stands as its commands and the grants say: on or off, with those members that are granted and have announced.
 #[test]
 fn how_streams_stand(rt: HostRuntime) {

@@ -47,6 +47,3 @@ appends_keeps (Some x) (Some y) (Some z) xs h k = k ∙ h
 pub appends_zero : (a b c : Option (List ℕ)) (xs buf : List ℕ) (n : ℕ) → n ≡ 0 → Appends a b xs → Appends b c (take n buf) → Appends a c xs
 appends_zero a b c xs buf n zero h k =
     subst (Appends a c) (append-nil xs) (appends_more a b c xs [] h (subst (λ m. Appends b c (take m buf)) zero k))
-
-pub consumes_zero : (a b : Option (List ℕ)) (n : ℕ) (buf : List ℕ) → n ≡ 0 → Consumes a b (take n buf) → Consumes a b []
-consumes_zero a b n buf e h = subst (λ m. Consumes a b (take m buf)) e h

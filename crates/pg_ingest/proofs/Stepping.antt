@@ -1,5 +1,5 @@
 -- Runs of a link's loop, put together from steps.
-use Rattle.std.proofs.Common.{◌≡◌, ◌∙◌, sym, subst, ap, ap₂, refl, ◌≤◌, true, arith, take, length-take, ℕ, List, [], ◌∷◌, ◌++◌, map, length, append-nil, append_assoc, Option, Some}
+use Rattle.std.proofs.Common.{◌≡◌, ◌∙◌, sym, subst, ap, ap₂, refl, ◌≤◌, true, arith, ℕ, List, [], ◌∷◌, ◌++◌, map, length, append-nil, append_assoc, Option, Some, Result, Ok, Err, IfOk}
 use Rattle.std.specs.List.{flat_map}
 use Rattle.std.specs.Io.KnownBytes.{Appends, Consumes}
 use Rattle.std.proofs.lemmas.List.{map-append}
@@ -8,6 +8,7 @@ use Rattle.pg_command.specs.Words.{word_number}
 use Rattle.pg_command.specs.Spelling.{written}
 use Rattle.pg_gateway.specs.Posting.{Posted, Notes}
 use Rattle.pg_wire.specs.declared.refusal.Refusal.{Refusal}
+use Rattle.pg_wire.specs.Reads.{Gave}
 use Rattle.pg_ingest.specs.Items.{Item, announces, measures, skips, rejects_config, rejects_data, passes_over, reason_of}
 use Rattle.pg_ingest.specs.Begun.{Begins}
 use Rattle.pg_ingest.specs.Commands.{tells}
@@ -197,5 +198,7 @@ left_unshown v v' past same shows = subst (λ x. ShowsLink x past) (sym same) (r
 pub ran_same : (P : LinkPast → List Step → Type 0) (v v' v'' : Linking) (r r' w w' : Bytes) (p p' : Calls) → v'' ≡ v' → Ran P v v' (wires r w p) (wires r' w' p') → Ran P v v'' (wires r w p) (wires r' w' p')
 ran_same P v v' v'' r r' w w' p p' same ran = subst (λ x. Ran P v x (wires r w p) (wires r' w' p')) (sym same) ran
 
-pub take_small : (n k : ℕ) (xs : List ℕ) → n ≤ k → n ≤ length xs → length (take n xs) ≤ k
-take_small n k xs small within = omega (arith, small, within, length-take n xs)
+-- a piece is as long as the read told
+pub small_piece : {E : Type 0} (r r' : Bytes) (read : Result ℕ E) (piece : List ℕ) (most : ℕ) → Gave r r' read piece → IfOk read (λ n. n ≤ most) → length piece ≤ most
+small_piece r r' (Ok n) piece most gave small = omega (arith, gave.sized, small)
+small_piece r r' (Err e) piece most gave small = omega (arith, gave.sized)

@@ -7,6 +7,7 @@ use Rattle.pg_wire.specs.declared.refusal.Refusal.TheVariants.{WrongType}
 use Rattle.pg_wire.specs.Frame.{break_of, skip_of}
 use Rattle.pg_wire.specs.Stream as wire
 use Rattle.pg_wire.specs.Stream.{Splits, Deframing}
+use Rattle.pg_wire.proofs.Stream.{shows_fed}
 use Rattle.pg_wire.proofs.Splitting.{frames_in-only}
 use Rattle.pg_audit.specs.declared.counters.PmuStats.{PmuStats}
 use Rattle.pg_audit.specs.Counting.{no_pmu_stats}
@@ -19,9 +20,9 @@ use Rattle.pg_ingest.specs.declared.link.LinkEvent.TheVariants.{Announce, Measur
 use Rattle.pg_ingest.specs.declared.asking.Asking.{Asking}
 use Rattle.pg_ingest.specs.Items.{Item, Tells, announced_last, known_after, break_in, item_unless, announces, measures, skips, rejects_config, rejects_data, passes_over}
 use Rattle.pg_ingest.specs.Commands.{Act, tells, asks, told_in}
-use Rattle.pg_ingest.specs.Linking.{Linking, ignoring, with_link_item, with_link_items, link_stats, after_item}
+use Rattle.pg_ingest.specs.Linking.{Linking, heard, ignoring, with_link_item, with_link_items, link_stats, after_item}
 use Rattle.pg_ingest.specs.Asked.{asking_of, asking_after, asking_less, next_word}
-use Rattle.pg_ingest.specs.Shown.{LinkPast, ShowsLink, IsAllTold, doing, told_before, command_due, commanding, word_due}
+use Rattle.pg_ingest.specs.Shown.{LinkPast, ShowsLink, IsAllTold, feeding, doing, told_before, command_due, commanding, word_due}
 use Rattle.pg_ingest.specs.Links.{IsEventOf, GivesEventOf, Counts}
 use Rattle.pg_ingest.proofs.Owing.{asking_told, asking_given, word_owed}
 
@@ -140,3 +141,15 @@ event_counted stats (Ignored r) (skips reason) is = ap (ignoring stats) (some-sa
 event_counted stats (Ignored r) (rejects_config reason) is = ap (ignoring stats) (some-same reason r is)
 event_counted stats (Ignored r) (rejects_data reason) is = ap (ignoring stats) (some-same reason r is)
 event_counted stats (Ignored r) passes_over is = ap (ignoring stats) (some-same WrongType r is)
+
+-- a piece more was heard
+pub heard_shows : (old new : Linking) (piece : List ℕ) → new ≡ heard old piece → (past : LinkPast) → ShowsLink old past → ShowsLink new (feeding past piece)
+heard_shows old new piece is past shows = subst (λ (v : Linking). ShowsLink v (feeding past piece)) (sym is) (record {
+  source = shows.source;
+  frames = shows.frames;
+  bytes = shows_fed old.bytes piece past.stream shows.frames shows.bytes;
+  told = shows.told;
+  known = shows.known;
+  asking = shows.asking;
+  stats = shows.stats;
+})

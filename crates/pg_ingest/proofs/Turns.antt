@@ -1,11 +1,10 @@
 -- What is known of the steps of a link's loop.
-use Rattle.std.proofs.Common.{◌≡◌, ◌≢◌, ◌∙◌, sym, subst, ap, refl, ◌≤◌, ◌<◌, ◌+◌, inl, inr, Bool, true, false, ◌==◌, arith, ℕ, List, [], ◌∷◌, ◌++◌, map, take, reverse, length, length-append, length-take, append-nil, append_assoc, Option, Some, None}
+use Rattle.std.proofs.Common.{◌≡◌, ◌≢◌, ◌∙◌, sym, subst, ap, refl, ◌≤◌, ◌<◌, ◌+◌, inl, inr, Bool, true, false, ◌==◌, arith, ℕ, List, [], ◌∷◌, ◌++◌, map, reverse, length, length-append, append-nil, append_assoc, Option, Some, None}
 use Rattle.std.proofs.lemmas.List.{map-append}
 use Rattle.std.specs.Io.KnownBytes.{Consumes}
 use Rattle.pg_wire.specs.declared.refusal.Refusal.{Refusal}
 use Rattle.pg_wire.specs.Number.{number_of}
 use Rattle.pg_wire.specs.Held.{IsBreak}
-use Rattle.std.specs.Option.{IfSome}
 use Rattle.std.specs.List.{All}
 use Rattle.std.proofs.lemmas.List.Elements.{All-nil, All-cons, All-head, All-tail, All-append}
 use Rattle.std.proofs.lemmas.Bool.{eqb-true}
@@ -168,9 +167,6 @@ turn_done v v1 v2 v3 r r' w w' p p' piece broken asked none small read fed left 
       ),
     )
 
-take_some : (n : ℕ) (xs : List ℕ) → 0 < n → n ≤ length xs → take n xs ≢ []
-take_some n xs some within empty = omega (arith, some, within, length-take n xs, ap length empty)
-
 -- a turn goes on
 pub goes_on : (left piece : List ℕ) (r : Bytes) (past : LinkPast) (steps : List Step) → piece ≢ [] → Completes piece None past steps → EndsTurn None left r past steps
 goes_on left piece r past steps some done = (done.2, (piece, some, done.1, done.0), done.3)
@@ -186,27 +182,22 @@ ends_broken left piece r n refusal past steps uncut is done = (
   λ cut. absurd (let wrong : false ≡ true = sym uncut ∙ cut in cc),
 )
 
--- a turn ends where the reader gave nothing
-pub ends_read : (end : End) (left xs : List ℕ) (size : ℕ) (r : Bytes) (past : LinkPast) (steps : List Step) → EndsRead end size r
-    → Completes (take size xs) None past steps → EndsTurn (Some end) left r past steps
-ends_read Closed left xs size r past steps is done =
-    (done.2, omega (arith, ap length done.1), λ _. (take size xs, done.0), (is.1, subst (λ n. LastRead (take n xs) steps) is.0 done.0, done.3), λ cut. absurd (cc))
-ends_read Quiet left xs size r past steps is done =
-    (done.2, omega (arith, ap length done.1), λ _. (take size xs, done.0), (subst (λ n. LastRead (take n xs) steps) is done.0, done.3), λ cut. absurd (cc))
-ends_read Stalled left xs size r past steps is done = absurd is
-ends_read (Fault n) left xs size r past steps is done = (
+-- a turn goes on or ends as its read did
+pub ends_or_goes : (end : Option End) (left piece : List ℕ) (r : Bytes) → EndsRead end piece r
+    → (past : LinkPast) (steps : List Step) → Completes piece None past steps → EndsTurn end left r past steps
+ends_or_goes None left piece r is past steps done = goes_on left piece r past steps is done
+ends_or_goes (Some Closed) left piece r is past steps done =
+    (done.2, omega (arith, ap length done.1), λ _. (piece, done.0), (is.1, subst (λ x. LastRead x steps) is.0 done.0, done.3), λ cut. absurd (cc))
+ends_or_goes (Some Quiet) left piece r is past steps done =
+    (done.2, omega (arith, ap length done.1), λ _. (piece, done.0), (subst (λ x. LastRead x steps) is done.0, done.3), λ cut. absurd (cc))
+ends_or_goes (Some Stalled) left piece r is past steps done = absurd is
+ends_or_goes (Some (Fault n)) left piece r is past steps done = (
   done.2,
   omega (arith, ap length done.1),
-  λ _. (take size xs, done.0),
-  inr (inl (is.0, subst (λ n. LastRead (take n xs) steps) is.1 done.0, done.3)),
+  λ _. (piece, done.0),
+  inr (inl (is.0, subst (λ x. LastRead x steps) is.1 done.0, done.3)),
   λ cut. absurd (let wrong : false ≡ true = sym (ap (λ n. is_cut (Fault n)) is.0) ∙ cut in cc),
 )
-
--- a turn ends as its read did
-pub ends_or_goes : (end : Option End) (left xs : List ℕ) (size : ℕ) (r : Bytes) → size ≤ length xs → (end ≡ None → 0 < size) → IfSome end (λ e. EndsRead e size r)
-    → (past : LinkPast) (steps : List Step) → Completes (take size xs) None past steps → EndsTurn end left r past steps
-ends_or_goes None left xs size r within some is past steps done = goes_on left (take size xs) r past steps (take_some size xs (some refl) within) done
-ends_or_goes (Some end) left xs size r within some is past steps done = ends_read end left xs size r past steps is done
 
 uncut_break : (n : ℕ) → n ≤ 4 → is_cut (Fault n) ≡ false
 uncut_break n small = by (n == 40) refl

@@ -15,4 +15,4 @@ pub use laws::{
 };
 pub use link::{Link, LinkEvent};
 pub use run::{End, run_link};
-pub use transfer::{read_piece, write_bytes};
+pub use transfer::{PIECE, end_of_read, write_bytes};

@@ -1,6 +1,7 @@
 //! The link to a source.
 
-ghost use Rattle.std.specs.Prelude.{◌≡◌, ◌+◌, ◌≤◌, ◌<◌, ◌++◌, [], true, false, length, drop, IfOk, IfErr, IfNone, OnSome};
+ghost use Rattle.std.specs.Prelude.{◌≡◌, ℕ, ◌+◌, ◌≤◌, ◌<◌, ◌++◌, List, [], true, false, length, drop, IfOk, IfErr, IfNone, OnSome, OnErr};
+ghost use Rattle.pg_wire.specs.Reads.{Gave};
 ghost use Rattle.pg_ingest.specs.Reading.{item_told, IsPaired};
 ghost use Rattle.pg_ingest.specs.Commands.{told_in};
 ghost use Rattle.pg_ingest.specs.Linking.{unfed, heard, after_item, link_stats, ignoring, words_owed};
@@ -18,6 +19,8 @@ use pg_config::SourceConfig;
 use pg_data::DataFrame;
 use pg_wire::{Deframer, PmuId, Refusal, Taken};
 use std::alloc::Global;
+use std::io;
+use std::io::Read;
 use std::marker::Model;
 use std::sync::Arc;
 
@@ -106,6 +109,21 @@ impl Link {
         ensures shows { (past : LinkPast) → ShowsLink self.old past → ShowsLink self.new (feeding past piece.now) }
     {
         self.deframer.feed(piece);
+    }
+
+    /// Reads once, at most `most` bytes and no more than `room` tells: the next piece of the source's bytes. Behind a break it is
+    /// dropped. It tells how many bytes came, 0 only where the reader has ended, or the reader's error, and then nothing has
+    /// changed.
+    pub fn read_from<R: Read>(&mut self, reader: &mut R, most: usize) -> io::Result<usize>
+        requires some { 0 < most }
+        requires room { length self.old.bytes.held < 65535 }
+        ensures small { IfOk result (λ n. n ≤ most) }
+        ensures read { (piece : List ℕ) × Gave (R.remaining reader.old) (R.remaining reader.new) result piece × (self.new ≡ heard self.old piece)
+            × ((past : LinkPast) → ShowsLink self.old past → ShowsLink self.new (feeding past piece)) }
+        ensures same { self.new ≡ record self.old { bytes = self.new.bytes } }
+        ensures err { OnErr result (self.new ≡ self.old) }
+    {
+        self.deframer.read_from(reader, most)
     }
 
     /// The next event, as soon as its frame is whole, or why a frame was ignored. Events and ignored frames are counted.

@@ -11,7 +11,7 @@ ghost use Rattle.pg_ingest.specs.Served.{IsCall};
 ghost use Rattle.pg_ingest.specs.Shown.{LinkPast, ShowsLink, word_due};
 
 use crate::link::{Link, LinkEvent};
-use crate::transfer::{read_piece, write_bytes};
+use crate::transfer::{PIECE, end_of_read, write_bytes};
 use pg_gateway::{Event, Gate};
 use pg_wire::Refusal;
 use std::io::{Read, Write};
@@ -105,11 +105,8 @@ fn turn<R: Read, W: Write, G: Gate>(
     if let Some(end) = write_owed(link, writer) {
         return Some(end);
     }
-    let mut piece = [0u8; 4096];
-    let most = link.room().min(4096);
-    let buffer = &mut piece[..most];
-    let (size, end) = read_piece(reader, buffer);
-    link.feed(&buffer[..size]);
+    let read = link.read_from(reader, PIECE);
+    let end = end_of_read(read);
     match post_events(link, gate) {
         Some(refusal) => Some(End::Fault(refusal.number())),
         None => end,

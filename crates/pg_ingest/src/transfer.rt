@@ -1,29 +1,28 @@
-//! One read, and the writing of what is left, as the loops of links and of sessions do them.
+//! How a read ends, and the writing of what is left, as the loops of links and of sessions do them.
 
-ghost use Rattle.std.specs.Prelude.{◌≡◌, ◌<◌, ◌≤◌, length, None, IfSome, take, drop};
-ghost use Rattle.std.specs.Io.KnownBytes.{Appends, Consumes};
+ghost use Rattle.std.specs.Prelude.{◌≡◌, ℕ, ◌≤◌, List, length, Option, None, IfSome, take, drop};
+ghost use Rattle.std.specs.Io.KnownBytes.{Appends};
+ghost use Rattle.pg_wire.specs.Reads.{Gave};
 ghost use Rattle.pg_ingest.specs.Transfers.{EndsRead, IsStuck};
 
 use crate::run::End;
-use std::io::{ErrorKind, Read, Write};
+use std::io;
+use std::io::{ErrorKind, Write};
 
-/// Reads a piece of at most 4,096 bytes into this buffer (own rule): how many bytes came, and how a call ends where no more come now: `Closed`, `Quiet`,
-/// or `Fault(39)` where the read failed.
-pub fn read_piece<R: Read>(reader: &mut R, buffer: &mut [u8]) -> (usize, Option<End>)
-    requires some { 0 < length buffer.old }
-    requires few { length buffer.old ≤ 4096 }
-    ensures small { result.0 ≤ 4096 }
-    ensures within { result.0 ≤ length buffer.new }
-    ensures read { Consumes (R.remaining reader.old) (R.remaining reader.new) (take result.0 buffer.new) }
-    ensures some { result.1 ≡ None → 0 < result.0 }
-    ensures end { IfSome result.1 (λ end. EndsRead end result.0 (R.remaining reader.new)) }
+/// The bytes that a turn of a link or of a session reads at most (own rule).
+pub const PIECE: usize = 4096;
+
+/// How a call ends after this read (own rule): `Closed` where the reader has ended, `Quiet` where it would block, `Fault(39)`
+/// where the read failed, and not where bytes came.
+pub fn end_of_read(read: io::Result<usize>) -> Option<End>
+    ensures { (before after : Option (List ℕ)) (piece : List ℕ) → Gave before after read piece → EndsRead result piece after }
 {
-    match reader.read(buffer) {
-        Ok(0) => (0, Some(End::Closed)),
-        Ok(size) => (size, None),
+    match read {
+        Ok(0) => Some(End::Closed),
+        Ok(_) => None,
         Err(error) => match error.kind() {
-            ErrorKind::WouldBlock => (0, Some(End::Quiet)),
-            _ => (0, Some(End::Fault(39))),
+            ErrorKind::WouldBlock => Some(End::Quiet),
+            _ => Some(End::Fault(39)),
         },
     }
 }

@@ -10,7 +10,7 @@ use Rattle.pg_audit.specs.declared.audit.Entry.{Entry}
 use Rattle.pg_audit.specs.Noting.{what_number, result_number}
 use Rattle.pg_ring.specs.Shown.{Framed, Queue}
 use Rattle.pg_session.specs.Private.{done, refused, handed}
-use Rattle.pg_gateway.specs.Occurrences.{Answer, tells, sub_counts, pmu_counts, entry, stands}
+use Rattle.pg_gateway.specs.Occurrences.{Answer, tells, sub_counts, pmu_counts, entry, stands, those_waiting}
 use Rattle.pg_serve.specs.Inputs.{Noted, replied, ignored, closed, Outcome}
 
 -- text, as its bytes
@@ -74,8 +74,9 @@ answer_line (tells (handed bytes begun gap)) = drained_line bytes begun gap
 answer_line (sub_counts s) = stats_line s
 answer_line (pmu_counts s) = counters_line (codes "pmustats") s
 answer_line (entry e) = entry_line e
--- no line of a script asks how a subscriber stands
+-- no line of a script asks how a subscriber stands, or for whom something waits
 answer_line (stands s) = []
+answer_line (those_waiting us) = []
 
 abbrev pub note_line : Noted → Text
 note_line (replied a) = answer_line a

@@ -122,8 +122,8 @@ pub fn print_reply<W: Write>(alloc: Global, out: &mut W, reply: &Reply) -> Resul
         Reply::Stats(stats) => print_stats(out, stats)?,
         Reply::PmuStats(stats) => print_counters(out, "pmustats", stats)?,
         Reply::Audit(entry) => print_entry(out, entry)?,
-        // no line of a script asks for it
-        Reply::Standing(_) => {}
+        // no line of a script asks for these
+        Reply::Standing(_) | Reply::Waiting(_) => {}
     }
     Ok(())
 }

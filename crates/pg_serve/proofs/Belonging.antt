@@ -26,7 +26,7 @@ use Rattle.pg_session.specs.Private.{Told, done, refuse, refused_at}
 use Rattle.pg_session.specs.Shown.{Model}
 use Rattle.pg_session.specs.ByAll.{by_arrivals, by_numbers}
 use Rattle.pg_session.specs.Commands.{Item, commands, ignores, item_of, items_of, break_in}
-use Rattle.pg_gateway.specs.Occurrences.{Occurrence, add_pmu, drop_pmu, add_sub, drop_sub, grant, asks, announce, measure, tick, stats, pmu_stats, audit, standing, Answer, tells, sub_counts, pmu_counts, entry, stands}
+use Rattle.pg_gateway.specs.Occurrences.{Occurrence, add_pmu, drop_pmu, add_sub, drop_sub, grant, asks, announce, measure, tick, stats, pmu_stats, audit, standing, who_waits, Answer, tells, sub_counts, pmu_counts, entry, stands, those_waiting}
 use Rattle.pg_gateway.specs.Judging.{registered_of, block_counted, blocks_counted, memory_counted, all_announced}
 use Rattle.pg_gateway.specs.Sharing.{SubscriberSlot, Offer, revokes, announces, measures, ticks, some_announced, some_measured, share}
 use Rattle.pg_gateway.specs.State.{SharedMachine, slot_of, own_of, refusal, Reach, to_all, to_one, adds, drops, to_none, unless, reach, reached_answer, frames_reached, granting, judged_in, is_refusal, wants_memory, pmus_after, next}
@@ -72,6 +72,7 @@ KeepsKeys (measure m) = Unit {0}
 KeepsKeys (tick soc) = Unit {0}
 KeepsKeys (stats u) = Unit {0}
 KeepsKeys (pmu_stats key) = Unit {0}
+KeepsKeys (who_waits us) = Unit {0}
 KeepsKeys (audit u index) = Unit {0}
 KeepsKeys (standing u place) = Unit {0}
 
@@ -101,6 +102,7 @@ keys_after S (measure m) t keeps = by (wants_memory t)
 keys_after S (tick soc) t keeps = refl
 keys_after S (stats u) t keeps = refl
 keys_after S (pmu_stats key) t keeps = refl
+keys_after S (who_waits us) t keeps = refl
 keys_after S (audit u index) t keeps = refl
 keys_after S (standing u place) t keeps = refl
 
@@ -111,6 +113,7 @@ sources_kept S e (tells t) s keeps = ap (list_source s) (keys_after S e t keeps)
     list_source s keys = list_any (λ (key : PmuKey). nat_eq key.source s) keys
 sources_kept S e (sub_counts x) s keeps = refl
 sources_kept S e (pmu_counts x) s keeps = refl
+sources_kept S e (those_waiting us) s keeps = refl
 sources_kept S e (entry x) s keeps = refl
 sources_kept S e (stands x) s keeps = refl
 
@@ -326,6 +329,7 @@ KeepsSessions (measure m) = Unit {0}
 KeepsSessions (tick soc) = Unit {0}
 KeepsSessions (stats u) = Unit {0}
 KeepsSessions (pmu_stats key) = Unit {0}
+KeepsSessions (who_waits us) = Unit {0}
 KeepsSessions (audit u index) = Unit {0}
 KeepsSessions (standing u place) = Unit {0}
 
@@ -349,6 +353,7 @@ keeps_reach S (measure m) k = unless_keeps (refusal S (measure m)) _
 keeps_reach S (tick soc) k = tt
 keeps_reach S (stats u) k = tt
 keeps_reach S (pmu_stats key) k = tt
+keeps_reach S (who_waits us) k = tt
 keeps_reach S (audit u index) k = tt
 keeps_reach S (standing u place) k = tt
 
@@ -841,6 +846,7 @@ named_belongs m (measure x) is = quiet_belongs m (measure x) is tt tt
 named_belongs m (tick soc) is = quiet_belongs m (tick soc) is tt tt
 named_belongs m (stats w) is = quiet_belongs m (stats w) is tt tt
 named_belongs m (pmu_stats key) is = quiet_belongs m (pmu_stats key) is tt tt
+named_belongs m (who_waits us) is = quiet_belongs m (who_waits us) is tt tt
 named_belongs m (audit w index) is = quiet_belongs m (audit w index) is tt tt
 named_belongs m (standing w place) is = quiet_belongs m (standing w place) is tt tt
 

@@ -96,6 +96,7 @@ full_quiet u S (gateway.measure m) free = refl
 full_quiet u S (gateway.tick soc) free = refl
 full_quiet u S (gateway.stats w) free = refl
 full_quiet u S (gateway.pmu_stats key) free = refl
+full_quiet u S (gateway.who_waits us) free = refl
 full_quiet u S (gateway.audit w index) free = refl
 full_quiet u S (gateway.standing w place) free = refl
 

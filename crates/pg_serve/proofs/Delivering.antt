@@ -13,7 +13,7 @@ use Rattle.pg_gateway.specs.declared.event.Event.{Event}
 use Rattle.pg_gateway.specs.declared.event.Event.TheVariants as event
 use Rattle.pg_gateway.specs.declared.event.Reply.{Reply}
 use Rattle.pg_gateway.specs.declared.event.Reply.TheVariants as reply
-use Rattle.pg_gateway.specs.Occurrences.{Occurrence, occurrence, told, Answer, asks, tells, sub_counts, pmu_counts, entry, stands}
+use Rattle.pg_gateway.specs.Occurrences.{Occurrence, occurrence, told, Answer, asks, tells, sub_counts, pmu_counts, entry, stands, those_waiting}
 use Rattle.pg_gateway.specs.State.{SharedMachine, opening, own_of, next}
 use Rattle.pg_gateway.specs.Histories.{Legal, state_after, said}
 use Rattle.pg_gateway.specs.Laws.{after, events_of, answers_of}
@@ -60,6 +60,7 @@ plain_none (reply.Refused r) h = refl
 plain_none (reply.Drained buf out) h = absurd h
 plain_none (reply.Stats s) h = refl
 plain_none (reply.PmuStats s) h = refl
+plain_none (reply.Waiting subs) h = refl
 plain_none (reply.Audit e) h = refl
 plain_none (reply.Standing s) h = refl
 
@@ -97,6 +98,7 @@ none_given u (event.Hangup w) r h free = asked_none u w r h
 none_given u (event.Command w asked) r h free = asked_none u w r h
 none_given u (event.Stats w) r h free = refl
 none_given u (event.PmuStats key) r h free = refl
+none_given u (event.WhoWaits subs) r h free = refl
 none_given u (event.Audit w index) r h free = refl
 none_given u (event.Standing w place) r h free = refl
 
@@ -167,6 +169,7 @@ told_bytes (tells (refused r)) = refl
 told_bytes (tells (handed bytes begun gap)) = append-nil bytes
 told_bytes (sub_counts s) = refl
 told_bytes (pmu_counts s) = refl
+told_bytes (those_waiting us) = refl
 told_bytes (entry e) = refl
 told_bytes (stands s) = refl
 

@@ -14,7 +14,7 @@ use Rattle.pg_ingest.specs.Items.{AreTold, is_want, told_of, break_in}
 use Rattle.pg_ingest.specs.Commands.{Act, tells, asks, told_in}
 use Rattle.pg_ingest.specs.Shown.{IsAllTold}
 use Rattle.pg_ingest.proofs.Past.{told_of-only}
-use Rattle.pg_gateway.specs.Occurrences.{Occurrence, add_pmu, drop_pmu, add_sub, drop_sub, grant, asks as asks_for, announce, measure, tick, stats, pmu_stats, audit, standing, Answer}
+use Rattle.pg_gateway.specs.Occurrences.{Occurrence, add_pmu, drop_pmu, add_sub, drop_sub, grant, asks as asks_for, announce, measure, tick, stats, pmu_stats, audit, standing, who_waits, Answer}
 use Rattle.pg_gateway.specs.State.{SharedMachine, opening as shared_opening, next}
 use Rattle.pg_gateway.specs.Histories.{Legal, state_after}
 use Rattle.pg_gateway.specs.Views.{full_answer, full_answers, shared_step, shared_run}
@@ -184,6 +184,7 @@ full_by lines S T (measure m) done full = full
 full_by lines S T (tick soc) done full = full
 full_by lines S T (stats u) done full = full
 full_by lines S T (pmu_stats key) done full = full
+full_by lines S T (who_waits us) done full = full
 full_by lines S T (audit u index) done full = full
 full_by lines S T (standing u place) done full = full
 

@@ -15,7 +15,7 @@ use Rattle.pg_session.specs.Events as session
 use Rattle.pg_session.specs.Events.{Happening}
 use Rattle.pg_session.specs.Private.{Told, done, refuse}
 use Rattle.pg_session.specs.Commands.{Item, commands, ignores, items_of, break_in}
-use Rattle.pg_gateway.specs.Occurrences.{Occurrence, add_pmu, drop_pmu, add_sub, drop_sub, grant, asks, announce, measure, tick, stats, pmu_stats, audit, standing, Answer, tells, sub_counts, pmu_counts, entry, stands}
+use Rattle.pg_gateway.specs.Occurrences.{Occurrence, add_pmu, drop_pmu, add_sub, drop_sub, grant, asks, announce, measure, tick, stats, pmu_stats, audit, standing, who_waits, Answer, tells, sub_counts, pmu_counts, entry, stands, those_waiting}
 use Rattle.pg_gateway.specs.Judging.{registered_of}
 use Rattle.pg_gateway.specs.Sharing.{SubscriberSlot, SubscriberSlots, revokes, announces, measures, fan_out}
 use Rattle.pg_gateway.specs.State.{SharedMachine, slot_of, own_of, at_slot, refusal, Reach, to_all, to_one, adds, drops, to_none, unless, reach, reached_answer, frames_reached, granting, moved, added, with_note, code_of, is_refusal, kept_of, slots_after, slots_noted, names as named, taken_in, pmus_after, tick_after, next}
@@ -49,6 +49,7 @@ KeepsPmus (measure m) = ⊥
 KeepsPmus (tick soc) = Unit {0}
 KeepsPmus (stats u) = Unit {0}
 KeepsPmus (pmu_stats key) = Unit {0}
+KeepsPmus (who_waits us) = Unit {0}
 KeepsPmus (audit u index) = Unit {0}
 KeepsPmus (standing u place) = Unit {0}
 
@@ -64,6 +65,7 @@ told_pmus S (measure m) t k = absurd k
 told_pmus S (tick soc) t k = refl
 told_pmus S (stats u) t k = refl
 told_pmus S (pmu_stats key) t k = refl
+told_pmus S (who_waits us) t k = refl
 told_pmus S (audit u index) t k = refl
 told_pmus S (standing u place) t k = refl
 
@@ -71,6 +73,7 @@ kept_pmus : (S : SharedMachine) (e : Occurrence) (a : Answer) → KeepsPmus e �
 kept_pmus S e (tells t) k = told_pmus S e t k
 kept_pmus S e (sub_counts x) k = refl
 kept_pmus S e (pmu_counts x) k = refl
+kept_pmus S e (those_waiting us) k = refl
 kept_pmus S e (entry x) k = refl
 kept_pmus S e (stands x) k = refl
 
@@ -86,6 +89,7 @@ KeepsTick (measure m) = Unit {0}
 KeepsTick (tick soc) = ⊥
 KeepsTick (stats u) = Unit {0}
 KeepsTick (pmu_stats key) = Unit {0}
+KeepsTick (who_waits us) = Unit {0}
 KeepsTick (audit u index) = Unit {0}
 KeepsTick (standing u place) = Unit {0}
 
@@ -101,6 +105,7 @@ told_tick last (measure m) k = refl
 told_tick last (tick soc) k = absurd k
 told_tick last (stats u) k = refl
 told_tick last (pmu_stats key) k = refl
+told_tick last (who_waits us) k = refl
 told_tick last (audit u index) k = refl
 told_tick last (standing u place) k = refl
 
@@ -108,6 +113,7 @@ pub kept_tick : (S : SharedMachine) (e : Occurrence) (a : Answer) → KeepsTick 
 kept_tick S e (tells t) k = told_tick S.last_tick e k
 kept_tick S e (sub_counts x) k = refl
 kept_tick S e (pmu_counts x) k = refl
+kept_tick S e (those_waiting us) k = refl
 kept_tick S e (entry x) k = refl
 kept_tick S e (stands x) k = refl
 
@@ -133,6 +139,7 @@ HasRoom (measure m) S = Unit {0}
 HasRoom (tick soc) S = Unit {0}
 HasRoom (stats u) S = Unit {0}
 HasRoom (pmu_stats key) S = Unit {0}
+HasRoom (who_waits us) S = Unit {0}
 HasRoom (audit u index) S = Unit {0}
 HasRoom (standing u place) S = Unit {0}
 
@@ -181,6 +188,7 @@ same_reach u pmus last ss ts (measure m) own mine_so room room' = refl
 same_reach u pmus last ss ts (tick soc) own mine_so room room' = refl
 same_reach u pmus last ss ts (stats w) own mine_so room room' = refl
 same_reach u pmus last ss ts (pmu_stats key) own mine_so room room' = refl
+same_reach u pmus last ss ts (who_waits us) own mine_so room room' = refl
 same_reach u pmus last ss ts (audit w index) own mine_so room room' = refl
 same_reach u pmus last ss ts (standing w place) own mine_so room room' = refl
 
@@ -228,6 +236,7 @@ same_pmus pmus last ss ts (asks w x) = kept_pmus (parts pmus last ss) (asks w x)
 same_pmus pmus last ss ts (tick soc) = refl
 same_pmus pmus last ss ts (stats w) = kept_pmus (parts pmus last ss) (stats w) (full_answer (parts pmus last ss) (stats w)) tt ∙ sym (kept_pmus (parts pmus last ts) (stats w) (full_answer (parts pmus last ts) (stats w)) tt)
 same_pmus pmus last ss ts (pmu_stats key) = kept_pmus (parts pmus last ss) (pmu_stats key) (full_answer (parts pmus last ss) (pmu_stats key)) tt ∙ sym (kept_pmus (parts pmus last ts) (pmu_stats key) (full_answer (parts pmus last ts) (pmu_stats key)) tt)
+same_pmus pmus last ss ts (who_waits us) = kept_pmus (parts pmus last ss) (who_waits us) (full_answer (parts pmus last ss) (who_waits us)) tt ∙ sym (kept_pmus (parts pmus last ts) (who_waits us) (full_answer (parts pmus last ts) (who_waits us)) tt)
 same_pmus pmus last ss ts (audit w index) = kept_pmus (parts pmus last ss) (audit w index) (full_answer (parts pmus last ss) (audit w index)) tt ∙ sym (kept_pmus (parts pmus last ts) (audit w index) (full_answer (parts pmus last ts) (audit w index)) tt)
 same_pmus pmus last ss ts (standing w place) = kept_pmus (parts pmus last ss) (standing w place) (full_answer (parts pmus last ss) (standing w place)) tt ∙ sym (kept_pmus (parts pmus last ts) (standing w place) (full_answer (parts pmus last ts) (standing w place)) tt)
 
@@ -243,6 +252,7 @@ is_tick (measure m) = inl tt
 is_tick (tick soc) = inr (soc, refl)
 is_tick (stats u) = inl tt
 is_tick (pmu_stats key) = inl tt
+is_tick (who_waits us) = inl tt
 is_tick (audit u index) = inl tt
 is_tick (standing u place) = inl tt
 
@@ -308,6 +318,7 @@ none_seen u S (measure m) other = absurd (cc)
 none_seen u S (tick soc) other = absurd (cc)
 none_seen u S (stats w) other = refl
 none_seen u S (pmu_stats key) other = refl
+none_seen u S (who_waits us) other = refl
 none_seen u S (audit w index) other = refl
 none_seen u S (standing w place) other = refl
 
@@ -323,6 +334,7 @@ other_keeps u (measure m) other = absurd (cc)
 other_keeps u (tick soc) other = absurd (cc)
 other_keeps u (stats w) other = (tt, tt)
 other_keeps u (pmu_stats key) other = (tt, tt)
+other_keeps u (who_waits us) other = (tt, tt)
 other_keeps u (audit w index) other = (tt, tt)
 other_keeps u (standing w place) other = (tt, tt)
 
@@ -556,6 +568,7 @@ named_apart u fed (measure m) done_so other alone = refl
 named_apart u fed (tick soc) done_so other alone = refl
 named_apart u fed (stats w) done_so other alone = refl
 named_apart u fed (pmu_stats key) done_so other alone = refl
+named_apart u fed (who_waits us) done_so other alone = refl
 named_apart u fed (audit w index) done_so other alone = refl
 named_apart u fed (standing w place) done_so other alone = refl
 
@@ -571,6 +584,7 @@ other_lines u lines S T (measure m) done_so other = refl
 other_lines u lines S T (tick soc) done_so other = refl
 other_lines u lines S T (stats w) done_so other = refl
 other_lines u lines S T (pmu_stats key) done_so other = refl
+other_lines u lines S T (who_waits us) done_so other = refl
 other_lines u lines S T (audit w index) done_so other = refl
 other_lines u lines S T (standing w place) done_so other = refl
 
@@ -693,6 +707,7 @@ own_lines u m n (measure x) alike after = alike.lines
 own_lines u m n (tick soc) alike after = alike.lines
 own_lines u m n (stats w) alike after = alike.lines
 own_lines u m n (pmu_stats key) alike after = alike.lines
+own_lines u m n (who_waits us) alike after = alike.lines
 own_lines u m n (audit w index) alike after = alike.lines
 own_lines u m n (standing w place) alike after = alike.lines
 
@@ -748,6 +763,7 @@ fed_named u m n (measure x) alike own = alike.fed
 fed_named u m n (tick soc) alike own = alike.fed
 fed_named u m n (stats w) alike own = alike.fed
 fed_named u m n (pmu_stats key) alike own = alike.fed
+fed_named u m n (who_waits us) alike own = alike.fed
 fed_named u m n (audit w index) alike own = alike.fed
 fed_named u m n (standing w place) alike own = alike.fed
 
@@ -887,6 +903,7 @@ reach_by S (measure m) = adds_unless (refusal S (measure m)) (to_all (measures m
 reach_by S (tick soc) = omega arith
 reach_by S (stats w) = omega arith
 reach_by S (pmu_stats key) = omega arith
+reach_by S (who_waits us) = omega arith
 reach_by S (audit w index) = omega arith
 reach_by S (standing w place) = omega arith
 
@@ -898,6 +915,7 @@ length_next S e (tells t) =
     omega (arith, noted, reached, few)
 length_next S e (sub_counts x) = omega arith
 length_next S e (pmu_counts x) = omega arith
+length_next S e (those_waiting us) = omega arith
 length_next S e (entry x) = omega arith
 length_next S e (stands x) = omega arith
 
@@ -969,6 +987,7 @@ has_room (measure m) S others h = tt
 has_room (tick soc) S others h = tt
 has_room (stats u) S others h = tt
 has_room (pmu_stats key) S others h = tt
+has_room (who_waits us) S others h = tt
 has_room (audit u index) S others h = tt
 has_room (standing u place) S others h = tt
 

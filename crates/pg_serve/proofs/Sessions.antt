@@ -2,7 +2,7 @@
 use Rattle.std.proofs.Common.{◌≡◌, ◌≢◌, ◌∙◌, sym, subst, ap, ap₂, refl, arith, ℕ, zero, suc, ◌<◌, ◌≤◌, Bool, ◌||◌, length, List, [], ◌∷◌, ◌++◌, map, append-nil, append_assoc, Option, Some, None, true, false, take, inl, inr, Result, Ok, Err, ◌==◌}
 use Rattle.std.specs.Prelude.{◌⊎◌, MatchOption, IfSome}
 use Rattle.std.specs.List.{flat_map}
-use Rattle.std.specs.Io.KnownBytes.{Consumes}
+use Rattle.std.specs.Io.KnownBytes.{Consumes, IsAtEnd}
 use Rattle.std.proofs.Math.Bool.{or-true}
 use Rattle.std.proofs.lemmas.Bool.{eqb-true}
 use Rattle.std.proofs.lemmas.List.{map-append}
@@ -13,6 +13,7 @@ use Rattle.pg_wire.specs.Frame.{break_of, IsWhole}
 use Rattle.pg_wire.specs.Stream as wire
 use Rattle.pg_wire.specs.Stream.{Splits, stopped, joined}
 use Rattle.pg_wire.proofs.Stream.{whole_at_front}
+use Rattle.pg_wire.proofs.Placing.{fed_none}
 use Rattle.pg_wire.proofs.Splitting.{frames_in-only}
 use Rattle.pg_command.specs.declared.command.Command.{Command}
 use Rattle.pg_session.specs.Commands.{Hearing, Item, commands, ignores, item_of, items_of, break_in, ShowsHearing, heard}
@@ -23,7 +24,7 @@ use Rattle.pg_gateway.specs.Occurrences.{Answer, tells}
 use Rattle.pg_gateway.specs.Posting.{Posted, Notes}
 use Rattle.pg_ingest.specs.declared.run.End.{End}
 use Rattle.pg_ingest.specs.declared.run.End.TheVariants.{Closed, Quiet, Stalled, Fault}
-use Rattle.pg_ingest.proofs.Known.{notes_nil, notes_more, appends_nil, appends_more, consumes_nil, consumes_more, consumes_zero}
+use Rattle.pg_ingest.proofs.Known.{notes_nil, notes_more, appends_nil, appends_more, consumes_nil, consumes_more}
 use Rattle.pg_ingest.specs.Ends.{is_cut}
 use Rattle.pg_ingest.specs.Transfers.{EndsRead, IsStuck}
 use Rattle.pg_serve.specs.Turned.{HasGivenAll, Writes, DrainsLast, due_after, Turned, EndsSo, TurnedTo, has_failed, is_closed, is_quiet}
@@ -499,21 +500,32 @@ IsReadEnd (Some Quiet) = Unit {0}
 IsReadEnd (Some Stalled) = ⊥
 IsReadEnd (Some (Fault n)) = ⊥
 
-pub read_end : (end : Option End) (size : ℕ) (r : Bytes) → IfSome end (λ e. EndsRead e size r) → has_failed end ≡ false → IsReadEnd end
-read_end None size r is works = tt
-read_end (Some Closed) size r is works = tt
-read_end (Some Quiet) size r is works = tt
-read_end (Some Stalled) size r is works = absurd is
-read_end (Some (Fault n)) size r is works = absurd (let x : true ≡ false = works in cc)
+pub read_end : (end : Option End) (piece : List ℕ) (r : Bytes) → EndsRead end piece r → has_failed end ≡ false → IsReadEnd end
+read_end None piece r is works = tt
+read_end (Some Closed) piece r is works = tt
+read_end (Some Quiet) piece r is works = tt
+read_end (Some Stalled) piece r is works = absurd is
+read_end (Some (Fault n)) piece r is works = absurd (let x : true ≡ false = works in cc)
+
+pub closed_at_end : (end : Option End) (piece : List ℕ) (r : Bytes) → EndsRead end piece r → end ≡ Some Closed → IsAtEnd r
+closed_at_end end piece r is closed = (subst (λ (e : Option End). EndsRead e piece r) closed is).1
 
 -- a read that failed gave nothing
-pub failed_gives_nothing : (end : Option End) (size : ℕ) (buffer : List ℕ) (r r' : Bytes) → IfSome end (λ e. EndsRead e size r') → has_failed end ≡ true
-    → Consumes r r' (take size buffer) → Consumes r r' []
-failed_gives_nothing None size buffer r r' is failed read = absurd (let x : false ≡ true = failed in cc)
-failed_gives_nothing (Some Closed) size buffer r r' is failed read = absurd (let x : false ≡ true = failed in cc)
-failed_gives_nothing (Some Quiet) size buffer r r' is failed read = absurd (let x : false ≡ true = failed in cc)
-failed_gives_nothing (Some Stalled) size buffer r r' is failed read = absurd is
-failed_gives_nothing (Some (Fault n)) size buffer r r' is failed read = consumes_zero r r' size buffer is.1 read
+pub failed_gives_nothing : (end : Option End) (piece : List ℕ) (r : Bytes) → EndsRead end piece r → has_failed end ≡ true → piece ≡ []
+failed_gives_nothing None piece r is failed = absurd (let x : false ≡ true = failed in cc)
+failed_gives_nothing (Some Closed) piece r is failed = absurd (let x : false ≡ true = failed in cc)
+failed_gives_nothing (Some Quiet) piece r is failed = absurd (let x : false ≡ true = failed in cc)
+failed_gives_nothing (Some Stalled) piece r is failed = absurd is
+failed_gives_nothing (Some (Fault n)) piece r is failed = is.1
+
+-- and then nothing has changed
+pub heard_nothing : (v v' : Hearing) (piece : List ℕ) → v' ≡ heard v piece → piece ≡ [] → v' ≡ v
+heard_nothing v v' piece is none = is ∙ ap (heard v) none ∙ ap (λ (d : wire.Deframing). let x : Hearing = record v { bytes = d } in x) (fed_none v.bytes)
+
+pub turned_failed : (due : Bool) (v v' : Hearing) (r r' w : Bytes) (p : Notices) (piece : List ℕ) → piece ≡ [] → Consumes r r' piece → v' ≡ heard v piece
+    → Turned None due due false v v' r r' w w p p
+turned_failed due v v' r r' w p piece none read is =
+    subst (λ (x : Hearing). Turned None due due false v x r r' w w p p) (sym (heard_nothing v v' piece is none)) (turned_unread due v r r' w p (subst (Consumes r r') none read))
 
 -- a write that was cut short
 pub stuck_is_cut : (end : Option End) (left : List ℕ) → IfSome end (λ e. IsStuck e left) → IfSome end (λ e. is_cut e ≡ true)
@@ -530,15 +542,13 @@ stuck_ends (Some Quiet) v is = absurd is
 stuck_ends (Some Stalled) v is = is
 stuck_ends (Some (Fault n)) v is = inr (inl is)
 
-pub drain_is_due : (end : Option End) (size : ℕ) (buffer : List ℕ) → IsReadEnd end → size ≤ length buffer → (end ≡ None → 0 < size) → is_closed end ≡ false
-    → (due_read false (take size buffer) || is_quiet end) ≡ true
-drain_is_due None size [] kind within came going = absurd (omega (arith, came refl, within))
-drain_is_due None zero (byte ∷ buffer) kind within came going = absurd (omega (arith, came refl))
-drain_is_due None (suc size) (byte ∷ buffer) kind within came going = refl
-drain_is_due (Some Closed) size buffer kind within came going = absurd (let x : true ≡ false = going in cc)
-drain_is_due (Some Quiet) size buffer kind within came going = or-true (due_read false (take size buffer))
-drain_is_due (Some Stalled) size buffer kind within came going = absurd kind
-drain_is_due (Some (Fault n)) size buffer kind within came going = absurd kind
+pub drain_is_due : (end : Option End) (piece : List ℕ) (r : Bytes) → EndsRead end piece r → IsReadEnd end → is_closed end ≡ false → (due_read false piece || is_quiet end) ≡ true
+drain_is_due None [] r is kind going = absurd (is refl)
+drain_is_due None (byte ∷ piece) r is kind going = refl
+drain_is_due (Some Closed) piece r is kind going = absurd (let x : true ≡ false = going in cc)
+drain_is_due (Some Quiet) piece r is kind going = or-true (due_read false piece)
+drain_is_due (Some Stalled) piece r is kind going = absurd kind
+drain_is_due (Some (Fault n)) piece r is kind going = absurd kind
 
 -- how turns end
 pub unwaited : (end : End) → WaitsAt end false

@@ -14,7 +14,7 @@ use Rattle.pg_session.specs.Commands.{items_of, session_stats}
 use Rattle.pg_ingest.specs.Items as link
 use Rattle.pg_ingest.specs.Items.{told_of, break_in}
 use Rattle.pg_ingest.specs.Linking.{link_stats}
-use Rattle.pg_gateway.specs.Occurrences.{Occurrence, add_pmu, drop_pmu, add_sub, drop_sub, grant, asks, announce, measure, tick, stats, pmu_stats, audit, standing, Answer}
+use Rattle.pg_gateway.specs.Occurrences.{Occurrence, add_pmu, drop_pmu, add_sub, drop_sub, grant, asks, announce, measure, tick, stats, pmu_stats, audit, standing, who_waits, Answer}
 use Rattle.pg_gateway.specs.State.{SharedMachine, opening as shared_opening, slot_of, own_of, refusal}
 use Rattle.pg_gateway.specs.Views.{Seen, full_answer, shared_step, view, private_run, Handed, handed_out, handed_in, Lossless}
 use Rattle.pg_gateway.specs.Laws.{after, events_of, answers_of, AgreeOn}
@@ -108,6 +108,7 @@ is_asked u (measure m) = false
 is_asked u (tick soc) = false
 is_asked u (stats w) = false
 is_asked u (pmu_stats key) = false
+is_asked u (who_waits us) = false
 is_asked u (audit w index) = false
 is_asked u (standing w place) = false
 

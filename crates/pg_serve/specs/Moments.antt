@@ -15,7 +15,7 @@ use Rattle.pg_session.specs.Commands.{break_in as session_break}
 use Rattle.pg_ingest.specs.Items as link
 use Rattle.pg_ingest.specs.Items.{break_in as link_break}
 use Rattle.pg_ingest.specs.Shown.{LinkPast, beginning, feeding, renewed, IsAllTold}
-use Rattle.pg_gateway.specs.Occurrences.{Occurrence, add_pmu, drop_pmu, add_sub, drop_sub, grant, asks, announce, measure, tick, stats, pmu_stats, audit, standing, Answer, tells, sub_counts, pmu_counts, entry, stands}
+use Rattle.pg_gateway.specs.Occurrences.{Occurrence, add_pmu, drop_pmu, add_sub, drop_sub, grant, asks, announce, measure, tick, stats, pmu_stats, audit, standing, who_waits, Answer, tells, sub_counts, pmu_counts, entry, stands, those_waiting}
 use Rattle.pg_gateway.specs.State.{SharedMachine, opening as shared_opening, slot_of, refusal}
 use Rattle.pg_gateway.specs.Histories.{Legal, state_after}
 use Rattle.pg_serve.specs.Inputs.{Fact, link_up, pmu_bytes, sub_bytes, names, Outcome}
@@ -92,6 +92,7 @@ begins (measure m) = false
 begins (tick soc) = false
 begins (stats u) = false
 begins (pmu_stats key) = false
+begins (who_waits us) = false
 begins (audit u index) = false
 begins (standing u place) = false
 
@@ -124,6 +125,7 @@ abbrev pub is_done : Answer → Bool
 is_done (tells t) = is_done_so t
 is_done (sub_counts s) = false
 is_done (pmu_counts s) = false
+is_done (those_waiting us) = false
 is_done (entry found) = false
 is_done (stands s) = false
 
@@ -150,6 +152,7 @@ lines_by lines S T (measure m) done = lines
 lines_by lines S T (tick soc) done = lines
 lines_by lines S T (stats u) done = lines
 lines_by lines S T (pmu_stats key) done = lines
+lines_by lines S T (who_waits us) done = lines
 lines_by lines S T (audit u index) done = lines
 lines_by lines S T (standing u place) done = lines
 
@@ -179,6 +182,7 @@ fed_by fed (measure m) done = fed
 fed_by fed (tick soc) done = fed
 fed_by fed (stats u) done = fed
 fed_by fed (pmu_stats key) done = fed
+fed_by fed (who_waits us) done = fed
 fed_by fed (audit u index) done = fed
 fed_by fed (standing u place) done = fed
 

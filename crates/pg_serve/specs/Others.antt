@@ -1,6 +1,6 @@
 -- Inputs that name other subscribers.
 use Rattle.std.specs.Prelude.{◌≡◌, ℕ, ◌+◌, ◌≤◌, nat_eq, Bool, false, not, List, [], ◌∷◌, filter}
-use Rattle.pg_gateway.specs.Occurrences.{Occurrence, add_pmu, drop_pmu, add_sub, drop_sub, grant, asks, announce, measure, tick, stats, pmu_stats, audit, standing}
+use Rattle.pg_gateway.specs.Occurrences.{Occurrence, add_pmu, drop_pmu, add_sub, drop_sub, grant, asks, announce, measure, tick, stats, pmu_stats, audit, standing, who_waits}
 use Rattle.pg_serve.specs.Inputs.{Fact, link_up, pmu_bytes, sub_bytes, names}
 use Rattle.pg_serve.specs.Full.{view_of}
 
@@ -17,6 +17,7 @@ names_other u (measure m) = false
 names_other u (tick soc) = false
 names_other u (stats w) = not (nat_eq u w)
 names_other u (pmu_stats key) = false
+names_other u (who_waits us) = false
 names_other u (audit w index) = not (nat_eq u w)
 names_other u (standing w place) = not (nat_eq u w)
 
@@ -44,6 +45,7 @@ adds_by (measure m) = 0
 adds_by (tick soc) = 0
 adds_by (stats u) = 0
 adds_by (pmu_stats key) = 0
+adds_by (who_waits us) = 0
 adds_by (audit u index) = 0
 adds_by (standing u place) = 0
 

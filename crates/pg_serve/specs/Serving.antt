@@ -10,7 +10,7 @@ use Rattle.pg_session.specs.Events as session
 use Rattle.pg_session.specs.Events.{Happening}
 use Rattle.pg_session.specs.Private.{Told, done, refused, handed}
 use Rattle.pg_session.specs.Commands.{Hearing, Item, commands, ignores, items_of, break_in, ShowsHearing}
-use Rattle.pg_gateway.specs.Occurrences.{asks, Answer, tells, sub_counts, pmu_counts, entry, stands}
+use Rattle.pg_gateway.specs.Occurrences.{asks, Answer, tells, sub_counts, pmu_counts, entry, stands, those_waiting}
 use Rattle.pg_gateway.specs.Posting.{Posted, Notes}
 use Rattle.pg_ingest.specs.declared.run.End.{End}
 use Rattle.pg_ingest.specs.declared.run.End.TheVariants.{Closed, Quiet, Stalled, Fault}
@@ -57,6 +57,7 @@ abbrev pub bytes_answered : Answer → List ℕ
 bytes_answered (tells t) = bytes_told t
 bytes_answered (sub_counts s) = []
 bytes_answered (pmu_counts s) = []
+bytes_answered (those_waiting us) = []
 bytes_answered (entry e) = []
 bytes_answered (stands s) = []
 

@@ -8,7 +8,7 @@ ghost use Rattle.pg_serve.specs.Serving.{Served, BreaksBy, EndsBy};
 ghost use Rattle.pg_serve.specs.Turned.{HasGivenAll, has_failed, is_closed, Turned, TurnedTo, Writes, HangsUp};
 
 use pg_gateway::{Event, Gate, Reply};
-use pg_ingest::{End, read_piece, write_bytes};
+use pg_ingest::{End, PIECE, end_of_read, write_bytes};
 use pg_ring::Drained;
 use pg_session::{Next, Session};
 use pg_wire::Refusal;
@@ -125,14 +125,11 @@ fn turn<R: Read, W: Write, G: Gate>(
     if let Some(end) = push_left(session, writer) {
         return Some(end);
     }
-    let mut piece = [0u8; 4096];
-    let most = session.room().min(4096);
-    let buffer = &mut piece[..most];
-    let (size, end) = read_piece(reader, buffer);
+    let read = session.read_from(reader, PIECE);
+    let end = end_of_read(read);
     if has_failed(end) {
         return Some(End::Fault(39));
     }
-    session.feed(&buffer[..size]);
     if let Some(refusal) = post_commands(session, gate) {
         return Some(End::Fault(refusal.number()));
     }

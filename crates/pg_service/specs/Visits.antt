@@ -56,6 +56,7 @@ refusal_of (reply.Refused r) = Some r
 refusal_of (reply.Drained buf out) = Some NoMemory
 refusal_of (reply.Stats s) = Some NoMemory
 refusal_of (reply.PmuStats s) = Some NoMemory
+refusal_of (reply.Waiting subs) = Some NoMemory
 refusal_of (reply.Audit e) = Some NoMemory
 refusal_of (reply.Standing s) = Some NoMemory
 

@@ -18,19 +18,19 @@ use crate::waiting::{Waiting, sooner};
 use crate::watched::Watched;
 use mio::net::{TcpListener, TcpStream};
 use mio::{Interest, Poll, Token};
-use pg_gateway::Gate;
+use pg_gateway::{Event, Gate, Reply};
 use pg_limits::Budget;
 use pg_serve::{Named, SharedGate, Work};
 use pg_status::Histogram;
 use pg_wire::SubId;
 use std::alloc::Global;
-use std::io;
 use std::io::ErrorKind;
 use std::marker::Model;
 use std::net::{IpAddr, Ipv4Addr, Net, SocketAddr};
 use std::rt::Clock;
 use std::sync::Wait;
 use std::time::{Duration, Instant};
+use std::{io, mem};
 
 /// The connections that one turn accepts at most. The others wait for the next turn.
 const ACCEPTED: u32 = 16;
@@ -127,6 +127,8 @@ pub struct PortWorker<'a, R: Wait + Net + Clock, N: Named> {
     journal: &'a Journal,
     board: &'a Board,
     ports: Vec<Option<Port>>,
+    // The subscribers that are asked about, and then those of them for whom something waits; room for each port.
+    asked: Vec<SubId>,
     // How old the data frames were that its ports handed out.
     ages: Histogram,
     // The places of ports that are served, and when a subscriber is waited for no longer.
@@ -167,6 +169,7 @@ impl<'a, R: Wait + Net + Clock, N: Named> PortWorker<'a, R, N> {
             journal,
             board,
             ports: Vec::new(alloc),
+            asked: Vec::new(alloc),
             ages: Histogram::new(),
             agenda: Agenda::new(alloc, now),
         }
@@ -181,6 +184,7 @@ impl<'a, R: Wait + Net + Clock, N: Named> PortWorker<'a, R, N> {
         let free = self.ports.iter().position(|it| it.is_none());
         let place = free.unwrap_or(self.ports.len());
         self.agenda.reserve(self.ports.len() + 1)?;
+        self.asked.try_reserve(self.ports.len() + 1)?;
         self.waiting
             .poll()
             .registry()
@@ -363,15 +367,34 @@ impl<'a, R: Wait + Net + Clock, N: Named> PortWorker<'a, R, N> {
         }
     }
 
-    /// Hands out what waits to all that have connected, but to those that are served in this turn anyway.
+    /// Asks for whom of those that have connected something waits, but for those that are served in this turn anyway.
+    fn ask_who_waits(&mut self) {
+        let mut asked = mem::replace(&mut self.asked, Vec::new(self.alloc));
+        asked.clear();
+        for port in self.ports.iter().flatten() {
+            if port.stream.is_some() && !port.is_ready {
+                // There is room for each port.
+                let _ = asked.push(port.sub());
+            }
+        }
+        if let Reply::Waiting(waiting) = self.gate.post(Event::WhoWaits(asked)) {
+            self.asked = waiting;
+        }
+    }
+
+    /// Hands out what waits to those that have connected, but to those that are served in this turn anyway. One call tells for whom
+    /// something waits, in the order of the ports.
     fn hand_out_all(&mut self) {
+        self.ask_who_waits();
+        let mut next = 0;
         for place in 0..self.ports.len() {
             let Some(Some(port)) = self.ports.get_mut(place) else {
                 continue;
             };
-            if port.is_ready {
+            if port.is_ready || !self.asked.get(next).is_some_and(|sub| port.is_of(*sub)) {
                 continue;
             }
+            next += 1;
             let is_more = port.hand_out(
                 self.rt,
                 &mut self.gate,

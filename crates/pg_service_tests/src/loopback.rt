@@ -39,10 +39,25 @@ pub(crate) const DATA_9: &[u8] =
 const COMMANDS_2000: &[u8] = b"\xAA\x42\0\x12\x07\xD0\0\0\0\x64\0\0\0\0\0\x05\x3C\x51\
     \xAA\x42\0\x12\x07\xD0\0\0\0\x64\0\0\0\0\0\x02\x4C\xB6";
 
-/// Stream 2000's CFG-2 with count 1, and its data frame.
+/// Stream 2000's CFG-2 with count 2, as two PMUs that its subscriber is granted have announced, and its data frame.
 const HANDED_2000: &[u8] = b"\xAA\x32\0\x4A\x07\xD0\0\0\0\0\x0F\0\0\0\0\x0F\x42\x40\0\x01\
-    PMU 9           \0\x09\0\0\0\x01\0\0\0\0VA              \0\0\0\x01\0\0\0\x01\0\x1E\xA4\x35\
+    PMU 9           \0\x09\0\0\0\x01\0\0\0\0VA              \0\0\0\x01\0\0\0\x02\0\x1E\xFD\x65\
     \xAA\x02\0\x1A\x07\xD0\0\0\0\x64\0\x01\x04\x6B\0\0\x30\0\x40\0\0\0\0\0\x2C\x5F";
+
+/// Source 7's next data frame, of SOC 100 and numerator 100,000, and that of stream 101.
+const NEXT_7: &[u8] =
+    b"\xAA\x02\0\x1A\0\x07\0\0\0\x64\0\x01\x86\xA0\0\0\x50\0\x60\0\0\0\0\0\xFE\x49";
+
+const NEXT_101: &[u8] =
+    b"\xAA\x02\0\x1A\0\x65\0\0\0\x64\0\x01\x86\xA0\0\0\x50\0\x60\0\0\0\0\0\xF3\x98";
+
+/// Commands 2 and 5 for stream 2001, which is of PMU 7 too; its CFG-2 with count 2, and its data frame of that time.
+const COMMANDS_2001: &[u8] = b"\xAA\x42\0\x12\x07\xD1\0\0\0\x64\0\0\0\0\0\x02\x94\xFF\
+    \xAA\x42\0\x12\x07\xD1\0\0\0\x64\0\0\0\0\0\x05\xE4\x18";
+
+const HANDED_2001: &[u8] = b"\xAA\x32\0\x4A\x07\xD1\0\0\0\0\x0F\0\0\0\0\x0F\x42\x40\0\x01\
+    PMU 7           \0\x07\0\0\0\x01\0\0\0\0VA              \0\0\0\x01\0\0\0\x02\0\x1E\xD9\x92\
+    \xAA\x02\0\x1A\x07\xD1\0\0\0\x64\0\x01\x86\xA0\0\0\x50\0\x60\0\0\0\0\0\xF1\xB0";
 
 /// Commands 5 and 2 to source 7, and to source 9.
 const ASKED_7: &[u8] = b"\xAA\x42\0\x12\0\x07\0\0\0\0\x0F\0\0\0\0\x05\x32\x3A\
@@ -130,6 +145,12 @@ impl<R: Net<Listener = TcpListener, Stream = TcpStream> + Wait> Peers<'_, R> {
         get(&first, 74, &mut self.told.first)?;
         (&nine).write_all(DATA_9)?;
         (&seven).write_all(DATA_7)?;
+        get(&first, 26, &mut self.told.first)?;
+        get(&second, 26, &mut self.told.second)?;
+        // One event makes a frame for each of the two: what waits is handed out to both.
+        (&second).write_all(COMMANDS_2001)?;
+        get(&second, 74, &mut self.told.second)?;
+        (&seven).write_all(NEXT_7)?;
         get(&first, 26, &mut self.told.first)?;
         get(&second, 26, &mut self.told.second)?;
         // Orders: subscriber 20 is hung up, and source 7 called anew.
@@ -376,6 +397,11 @@ fn loopback(rt: HostRuntime) {
     let machine = Gateway::new(alloc).expect(&rt, "memory");
     let (shared, seat) = Shared::new(alloc, machine).expect(&rt, "memory");
     let seat = set_up(&rt, alloc, &shared, seat);
+    // Subscriber 20 has a second stream, of PMU 7.
+    let second = subscriber(&rt, 20);
+    let seat = post(&rt, &shared, seat, Event::Grant(second, key(&rt, 7)));
+    let defined = definition(&rt, alloc, 2001, key(&rt, 7));
+    let seat = post(&rt, &shared, seat, Event::Define(second, defined));
     let told = talked::<_, Brand>(&rt, alloc, &shared, seat).expect(&rt, "peers");
     assert!(rt; told.is_over);
     // Called anew, source 7 is asked for its CFG-2 again.
@@ -383,8 +409,14 @@ fn loopback(rt: HostRuntime) {
     assert!(rt; asked.starts_with(ASKED_7) && asked.ends_with(&ASKED_7[..18]));
     same(&rt, asked.len(), 54);
     same(&rt, told.nine.as_slice(), ASKED_9);
-    same(&rt, told.first.as_slice(), HANDED_101);
-    same(&rt, told.second.as_slice(), HANDED_2000);
+    assert!(rt; told.first.starts_with(HANDED_101) && told.first.ends_with(NEXT_101));
+    same(&rt, told.first.len(), HANDED_101.len() + NEXT_101.len());
+    assert!(rt; told.second.starts_with(HANDED_2000) && told.second.ends_with(HANDED_2001));
+    same(
+        &rt,
+        told.second.len(),
+        HANDED_2000.len() + HANDED_2001.len(),
+    );
     let times = |notice, whom| met(&told.met, notice, whom);
     let (seven, nine) = (source(&rt, 7), source(&rt, 9));
     same(&rt, times(Notice::Called, Whom::Source(seven)), 2);

@@ -8,12 +8,13 @@ use Rattle.pg_wire.specs.Frame.{break_of}
 use Rattle.pg_wire.specs.Stream as wire
 use Rattle.pg_wire.specs.Stream.{Splits}
 use Rattle.pg_wire.specs.Taking as taking
+use Rattle.pg_wire.proofs.Stream.{shows_fed}
 use Rattle.pg_wire.proofs.Splitting.{frames_in-only}
 use Rattle.pg_command.specs.declared.command.Command.{Command}
 use Rattle.pg_command.specs.Reading.{command_of}
 use Rattle.pg_audit.specs.declared.counters.PmuStats.{PmuStats}
 use Rattle.pg_audit.specs.Counting.{no_pmu_stats}
-use Rattle.pg_session.specs.Commands.{Item, commands, ignores, item_of, item_kept, item_read, items_of, break_in, with_session_item, with_session_items, Hearing, ShowsHearing, next_of, GivesCommandOf, Holds}
+use Rattle.pg_session.specs.Commands.{Item, commands, ignores, item_of, item_kept, item_read, items_of, break_in, with_session_item, with_session_items, Hearing, heard, ShowsHearing, next_of, GivesCommandOf, Holds}
 use Rattle.pg_session.specs.declared.session.Next.{Next}
 use Rattle.pg_session.specs.declared.session.Next.TheVariants as next
 
@@ -81,3 +82,13 @@ broken_given old new refusal gives stats stream given shows =
 pub item_holds : (old new : Hearing) (next : Next) (item : Item) → next ≡ next_of item → length new.bytes.held < length old.bytes.held → Holds old next new
 item_holds old new next (commands c) e h = subst (λ (n : Next). Holds old n new) (sym e) h
 item_holds old new next (ignores r) e h = subst (λ (n : Next). Holds old n new) (sym e) h
+
+-- a piece more was heard
+pub heard_shows : (old new : Hearing) (piece : List ℕ) → new ≡ heard old piece → (stream : List ℕ) (given : List Item)
+    → ShowsHearing old stream given → ShowsHearing new (stream ++ piece) given
+heard_shows old new piece is stream given shows = subst (λ (v : Hearing). ShowsHearing v (stream ++ piece) given) (sym is) (record {
+  frames = shows.frames;
+  bytes = shows_fed old.bytes piece stream shows.frames shows.bytes;
+  items = shows.items;
+  stats = shows.stats;
+})

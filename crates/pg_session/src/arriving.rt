@@ -128,17 +128,7 @@ pub(crate) fn arrive_all_in(
         };
         arrive_one(align, slot, member, block, output);
     }
-    *guess = within(definition, next);
-}
-
-/// The place of a member that is guessed next: behind the last one it is the first.
-#[inline(always)]
-fn within(definition: &Definition, next: usize) -> usize {
-    if next < definition.members.as_slice().len() {
-        next
-    } else {
-        0
-    }
+    *guess = next;
 }
 
 /// Blocks of a frame whose slot lies past the end of time are counted, and their copies given up.

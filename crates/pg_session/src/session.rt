@@ -1,6 +1,7 @@
 //! A subscriber's bytes, cut into commands as they come.
 
-ghost use Rattle.std.specs.Prelude.{◌≡◌, ℕ, ◌+◌, ◌≤◌, ◌<◌, List, [], ◌++◌, length, take, drop, vec_len, IfOk, IfErr};
+ghost use Rattle.std.specs.Prelude.{◌≡◌, ℕ, ◌+◌, ◌≤◌, ◌<◌, List, [], ◌++◌, length, take, drop, vec_len, IfOk, IfErr, OnErr};
+ghost use Rattle.pg_wire.specs.Reads.{Gave};
 ghost use Rattle.pg_session.specs.Commands.{Hearing, Item, item_read, with_session_item, next_of, unheard, heard, ShowsHearing, GivesCommand, Holds};
 
 use crate::pending::Pending;
@@ -8,6 +9,8 @@ use pg_audit::PmuStats;
 use pg_command::{Command, read_command};
 use pg_wire::{Deframer, Refusal, SubId, Taken};
 use std::alloc::Global;
+use std::io;
+use std::io::Read;
 use std::marker::Model;
 
 /// The bytes that a drain hands out at most.
@@ -127,6 +130,21 @@ impl Session {
         ensures shows { (stream : List ℕ) (given : List Item) → ShowsHearing self.old stream given → ShowsHearing self.new (stream ++ piece.now) given }
     {
         self.deframer.feed(piece);
+    }
+
+    /// Reads once, at most `most` bytes and no more than `room` tells: the next piece of the subscriber's bytes. Behind a break it is
+    /// dropped. It tells how many bytes came, 0 only where the reader has ended, or the reader's error, and then nothing has
+    /// changed.
+    pub fn read_from<R: Read>(&mut self, reader: &mut R, most: usize) -> io::Result<usize>
+        requires some { 0 < most }
+        requires room { length self.old.bytes.held < 65535 }
+        ensures small { IfOk result (λ n. n ≤ most) }
+        ensures read { (piece : List ℕ) × Gave (R.remaining reader.old) (R.remaining reader.new) result piece × (self.new ≡ heard self.old piece)
+            × ((stream : List ℕ) (given : List Item) → ShowsHearing self.old stream given → ShowsHearing self.new (stream ++ piece) given) }
+        ensures same { self.new ≡ record self.old { bytes = self.new.bytes } }
+        ensures err { OnErr result (self.new ≡ self.old) }
+    {
+        self.deframer.read_from(reader, most)
     }
 
     /// The next command, as soon as its frame is whole, or why a frame was ignored. Commands and ignored frames are counted.

@@ -104,8 +104,9 @@ pub(crate) fn place_in(definition: &Definition, key: &PmuKey) -> Option<usize>
         .position(|member| *member == *key)
 }
 
-/// The same for a PMU that is guessed to be the member at the place `next`: where it is, no other is looked at. `next` is then
-/// the place behind the one where it was found, so that members which come in their order are found at once.
+/// The same for a PMU that is guessed to be the member at the place `next`, behind the last one the first, or else the one before it:
+/// where it is, no other is looked at. `next` is then the place behind the one where it was found, so that members which come in
+/// their order, and one that comes again, are found at once.
 #[inline(always)]
 pub(crate) fn place_next(definition: &Definition, key: &PmuKey, next: &mut usize) -> Option<usize>
     requires limits { IsWithinLimits definition.now }
@@ -118,17 +119,35 @@ pub(crate) fn place_next(definition: &Definition, key: &PmuKey, next: &mut usize
     place
 }
 
-/// The same for a PMU that may well be the member at the place `guess`.
+/// The same for a PMU that may well be the member at the place `guess`, behind the last one the first, or else the one before it.
 #[inline(always)]
 fn place_near(definition: &Definition, key: &PmuKey, guess: usize) -> Option<usize>
     requires limits { IsWithinLimits definition.now }
     ensures { result ≡ place_of definition.now.members key.now }
 {
-    let members = definition.members.as_slice();
-    if guess < members.len() && members[guess] == *key {
-        return Some(guess);
+    let next = if guess < definition.members.as_slice().len() {
+        guess
+    } else {
+        0
+    };
+    if is_member_at(definition, key, next) {
+        return Some(next);
+    }
+    let last = guess.saturating_sub(1);
+    if is_member_at(definition, key, last) {
+        return Some(last);
     }
     place_in(definition, key)
+}
+
+/// Whether a PMU is the member at a place.
+#[inline(always)]
+fn is_member_at(definition: &Definition, key: &PmuKey, at: usize) -> bool
+    requires limits { IsWithinLimits definition.now }
+    ensures { result ≡ true → place_of definition.now.members key.now ≡ Some at }
+{
+    let members = definition.members.as_slice();
+    at < members.len() && members[at] == *key
 }
 
 /// Counts a change of the CFG-1 list, if it is one.

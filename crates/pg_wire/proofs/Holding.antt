@@ -1,11 +1,11 @@
 -- What is known of the bytes that a deframer holds, call after call.
-use Rattle.std.proofs.Common.{◌≡◌, ℕ, ◌+◌, ◌*◌, ◌<◌, ◌≤◌, List, length, get_or, Option, Some, None, Bool, true, false, not, ◌==◌, ◌&&◌, nat_lt, if◌then◌else◌, sym, ap, ◌∙◌, subst, arith, length-append}
+use Rattle.std.proofs.Common.{◌≡◌, ℕ, zero, suc, ◌+◌, ◌*◌, ◌<◌, ◌≤◌, List, [], ◌∷◌, ◌++◌, length, is_none, get_or, Option, Some, None, Bool, true, false, not, ◌==◌, ◌&&◌, nat_lt, if◌then◌else◌, sym, ap, ◌∙◌, subst, arith, length-append}
 use Rattle.std.proofs.lemmas.List.{get_or-append-add}
 use Rattle.std.specs.Option.{IfSome, MatchOption}
 use Rattle.pg_wire.specs.declared.refusal.Refusal.{Refusal}
 use Rattle.pg_wire.specs.declared.refusal.Refusal.TheVariants.{BadFirst, BadSecond, ShortSize}
 use Rattle.pg_wire.specs.Frame.{IsPartial, break_of, size_of}
-use Rattle.pg_wire.specs.Stream.{Deframing, fresh, stopped}
+use Rattle.pg_wire.specs.Stream.{Deframing, fresh, fed, stopped}
 use Rattle.pg_wire.specs.Taking.{TakesFrame}
 use Rattle.pg_wire.specs.Held.{IsBreak, IsHeld}
 
@@ -58,3 +58,16 @@ partial_held d held partial = small-by (length d.held) (get_or d.held 2 0) (get_
 -- nothing is held at first
 pub fresh_held : IsHeld fresh
 fresh_held = record { octets = λ i. omega arith; broke = tt }
+
+octets_more : (xs ys : List ℕ) → ((i : ℕ) → get_or xs i 0 < 256) → ((i : ℕ) → get_or ys i 0 < 256) → (i : ℕ) → get_or (xs ++ ys) i 0 < 256
+octets_more [] ys a b i = b i
+octets_more (x ∷ xs) ys a b zero = a zero
+octets_more (x ∷ xs) ys a b (suc i) = octets_more xs ys (λ j. a (suc j)) b i
+
+-- a piece more of bytes
+pub fed_held : (d : Deframing) (piece : List ℕ) → IsHeld d → ((i : ℕ) → get_or piece i 0 < 256) → IsHeld (fed d piece)
+fed_held d piece held octets = record { octets = by (is_none d.broken); broke = held.broke }
+  where
+    by : (b : Bool) (i : ℕ) → get_or (if b then d.held ++ piece else d.held) i 0 < 256
+    by true i = octets_more d.held piece held.octets octets i
+    by false i = held.octets i

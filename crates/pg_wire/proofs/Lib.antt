@@ -5,3 +5,4 @@ pub mod Stream
 pub mod Splitting
 pub mod Spelled
 pub mod Holding
+pub mod Placing

@@ -8,10 +8,11 @@ pub mod Frame
 pub mod Kinds
 pub mod Head
 pub mod Heads
--- A stream: its one split into frames, what a deframer shows of it, what a call of `next` gives.
+-- A stream: its one split into frames, what a deframer shows of it, what a call of `next` gives, what one read gave.
 pub mod Stream
 pub mod Split
 pub mod Taking
+pub mod Reads
 -- Only private contracts and proofs use these, here and in the crates above.
 pub mod Front
 pub mod Held

@@ -1,13 +1,16 @@
 //! A stream of bytes, cut into frames as it comes (C37.118.2, 6.2; what breaks a stream and what is skipped is our own rule).
 
-ghost use Rattle.std.specs.Prelude.{◌≡◌, ℕ, ◌+◌, ◌≤◌, ◌↔◌, List, [], ◌++◌, length, drop, vec_len, vec_capacity, IfOk, IfErr, IsTrue, Option, Some, None};
+ghost use Rattle.std.specs.Prelude.{◌≡◌, ℕ, ◌+◌, ◌-◌, ◌<◌, ◌≤◌, ◌↔◌, List, [], ◌++◌, length, take, drop, IfOk, IfErr, OnErr, IsTrue, Option, Some, None};
 ghost use Rattle.pg_wire.specs.Frame.{IsWhole, break_of, size_of, skip_of};
 ghost use Rattle.pg_wire.specs.Stream.{fresh, fed, ShowsStream};
 ghost use Rattle.pg_wire.specs.Front.{IsFront};
+ghost use Rattle.pg_wire.specs.Reads.{Gave, given_by};
 
 use crate::checksum::check;
 use crate::refusal::Refusal;
 use std::alloc::Global;
+use std::io;
+use std::io::Read;
 use std::marker::Model;
 
 /// The most bytes that a deframer holds, and the most that FRAMESIZE can tell.
@@ -20,20 +23,24 @@ pub const CAPACITY: usize = 65_535;
 /// Once broken, a deframer holds nothing, drops what it is fed and answers the same break until a reset (own rule).
 #[derive(Drop)]
 pub struct Deframer {
+    /// `CAPACITY` bytes, so that a reader can write behind those that are held.
     bytes: Vec<u8>,
+    /// Where the bytes that are held begin.
     start: usize,
+    /// Where they end.
+    end: usize,
     broken: Option<Refusal>,
 }
 
 impl Model for Deframer {
-    ghost use Rattle.std.specs.Prelude.{◌≡◌, ◌≤◌, [], drop, vec_len, vec_capacity, OnSome};
+    ghost use Rattle.std.specs.Prelude.{◌≡◌, ◌-◌, ◌≤◌, take, drop, vec_len, OnSome};
     ghost use Rattle.pg_wire.specs.Stream.{Deframing};
 
     ghost Value = { Deframing };
 
-    ghost view = { λ d. record { held = drop d.start d.bytes.items; broken = d.broken } };
+    ghost view = { λ d. record { held = take (d.end - d.start) (drop d.start d.bytes.items); broken = d.broken } };
 
-    ghost invariant = { λ d. (d.start ≤ vec_len d.bytes) × (vec_len d.bytes ≤ 65535) × (65535 ≤ vec_capacity d.bytes) × OnSome d.broken (d.bytes.items ≡ []) };
+    ghost invariant = { λ d. (d.start ≤ d.end) × (d.end ≤ 65535) × (vec_len d.bytes ≡ 65535) × OnSome d.broken (d.start ≡ d.end) };
 }
 
 impl Deframer {
@@ -47,8 +54,9 @@ impl Deframer {
         ensures memory { IfErr result (λ refusal. refusal ≡ Refusal.NoMemory) }
     {
         Ok(Deframer {
-            bytes: Vec::with_capacity(alloc, CAPACITY)?,
+            bytes: vec![in alloc; 0; CAPACITY]?,
             start: 0,
+            end: 0,
             broken: None,
         })
     }
@@ -57,7 +65,7 @@ impl Deframer {
     pub fn room(&self) -> usize
         ensures { result + length self.now.held ≡ 65535 }
     {
-        CAPACITY - (self.bytes.len() - self.start)
+        CAPACITY - (self.end - self.start)
     }
 
     /// Takes the next piece of the stream, which is no longer than `room` tells. A broken deframer drops it.
@@ -72,15 +80,36 @@ impl Deframer {
         if self.broken.is_some() {
             return;
         }
-        if self.start == self.bytes.len() {
-            self.bytes.clear();
-            self.start = 0;
-        } else if piece.len() > CAPACITY - self.bytes.len() {
-            drop_front(&mut self.bytes, self.start);
-            self.start = 0;
+        let held = self.end - self.start;
+        self.start = make_room(&mut self.bytes, self.start, self.end, piece.len());
+        let at = self.start + held;
+        put_at(&mut self.bytes, at, piece);
+        self.end = at + piece.len();
+    }
+
+    /// Reads once, at most `most` bytes and no more than `room` tells, straight behind the bytes that are held: the next piece of
+    /// the stream. A broken deframer drops what it reads. It tells how many bytes came, 0 only where the reader has ended, or the
+    /// reader's error, and then nothing has changed.
+    ///
+    /// Bytes of less than a frame are moved to the front only where so many do not fit behind them.
+    pub fn read_from<R: Read>(&mut self, reader: &mut R, most: usize) -> io::Result<usize>
+        requires some { 0 < most }
+        requires room { length self.old.held < 65535 }
+        ensures small { IfOk result (λ n. n ≤ most) }
+        ensures read { (piece : List ℕ) × Gave (R.remaining reader.old) (R.remaining reader.new) result piece × (self.new ≡ fed self.old piece)
+            × ((stream : List ℕ) (frames : List (List ℕ)) → ShowsStream self.old stream frames → ShowsStream self.new (stream ++ piece) frames) }
+        ensures err { OnErr result (self.new ≡ self.old) }
+    {
+        let held = self.end - self.start;
+        let size = most.min(CAPACITY - held);
+        self.start = make_room(&mut self.bytes, self.start, self.end, size);
+        self.end = self.start + held;
+        let read = read_at(reader, &mut self.bytes, self.end, size)?;
+        if self.broken.is_some() {
+            return Ok(read);
         }
-        // It is there, since `new` reserved it.
-        let _ = self.bytes.extend_from_slice(piece);
+        self.end += read;
+        Ok(read)
     }
 
     /// What comes next of the stream: a frame, or that one was skipped, that it broke, or that more bytes have to come.
@@ -99,18 +128,18 @@ impl Deframer {
         if let Some(refusal) = self.broken {
             return Taken::Broken(refusal);
         }
-        match front_of(&self.bytes[self.start..]) {
+        match front_of(&self.bytes[self.start..self.end]) {
             Front::Partial => Taken::More,
             Front::Break(refusal) => {
-                self.bytes.clear();
                 self.start = 0;
+                self.end = 0;
                 self.broken = Some(refusal);
                 Taken::Broken(refusal)
             }
             Front::Whole(size) => {
                 let start = self.start;
                 self.start += size;
-                let frame = &self.bytes[start..][..size];
+                let frame = &self.bytes[start..self.end][..size];
                 match skip_reason(frame) {
                     None => Taken::Frame(frame),
                     Some(refusal) => Taken::Skipped(refusal),
@@ -124,8 +153,8 @@ impl Deframer {
         ensures state { self.new ≡ fresh }
         ensures shows { ShowsStream self.new [] [] }
     {
-        self.bytes.clear();
         self.start = 0;
+        self.end = 0;
         self.broken = None;
     }
 }
@@ -151,15 +180,38 @@ enum Front {
     Break(Refusal),
 }
 
-/// Removes the first n bytes.
-fn drop_front(bytes: &mut Vec<u8>, n: usize)
-    requires { n ≤ vec_len bytes.old }
-    ensures items { bytes.new.items ≡ drop n bytes.old.items }
-    ensures capacity { vec_capacity bytes.new ≡ vec_capacity bytes.old }
+/// Moves the bytes from start to end to the front, where so many more do not fit behind them: where they begin now.
+fn make_room(bytes: &mut [u8], start: usize, end: usize, more: usize) -> usize
+    requires order { start ≤ end }
+    requires within { end ≤ length bytes.old }
+    requires room { end - start + more ≤ length bytes.old }
+    ensures fits { result + (end - start) + more ≤ length bytes.old }
+    ensures held { take (end - start) (drop result bytes.new) ≡ take (end - start) (drop start bytes.old) }
 {
-    let rest = bytes.len() - n;
-    bytes.copy_within(n.., 0);
-    bytes.truncate(rest);
+    if start < end && more <= bytes.len() - end {
+        return start;
+    }
+    bytes.copy_within(start..end, 0);
+    0
+}
+
+/// Writes a piece from `at` on.
+fn put_at(bytes: &mut [u8], at: usize, piece: &[u8])
+    requires { at + length piece.now ≤ length bytes.old }
+    ensures { take (at + length piece.now) bytes.new ≡ take at bytes.old ++ piece.now }
+{
+    bytes[at..at + piece.len()].copy_from_slice(piece);
+}
+
+/// Reads once, into `size` bytes from `at` on.
+fn read_at<R: Read>(reader: &mut R, bytes: &mut [u8], at: usize, size: usize) -> io::Result<usize>
+    requires within { at + size ≤ length bytes.old }
+    requires some { 0 < size }
+    ensures small { IfOk result (λ n. n ≤ size) }
+    ensures front { take at bytes.new ≡ take at bytes.old }
+    ensures read { (piece : List ℕ) × Gave (R.remaining reader.old) (R.remaining reader.new) result piece × (take (at + given_by result) bytes.new ≡ take at bytes.old ++ piece) }
+{
+    reader.read(&mut bytes[at..at + size])
 }
 
 /// The break that shows at a frame's place.

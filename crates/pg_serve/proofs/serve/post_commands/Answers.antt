@@ -22,6 +22,19 @@ commands-preserved-in-Cmd-2 g c =
       left = c.next_command.ensures.left ∙ c.commands.invariant.left;
     }
 
+pub commands-preserved-in-Cmd-3 : goal.commands-preserved-in-Cmd-3
+commands-preserved-in-Cmd-3 g c =
+    let asked = c.in-Cmd.command in
+    let posted = subst (λ u. Notes (g.G.Gate.posts c.commands.gate) (g.G.Gate.posts c.post.new.self) ((asks u (command asked.stream asked.word), told c.post.result) ∷ []))
+    c.sub.ensures.value c.post.ensures.posted in
+    record {
+      ran = λ r w due.
+          turned_more _ _ _ _ _ _ _ _ _ _ _ _ _ _ _ _ _ _ (c.commands.invariant.ran r w due)
+          (turned_passed due _ _ r w _ _ asked _ c.in-Cmd.ensures.gives posted c.next_command.ensures.same c.next_command.ensures.buffer c.next_command.ensures.left);
+      onward = g.met.G.Gate.joins _ _ _ c.commands.invariant.onward c.post.ensures.goes_on;
+      left = c.next_command.ensures.left ∙ c.commands.invariant.left;
+    }
+
 pub commands-preserved : goal.commands-preserved
 commands-preserved g c = record {
   ran = λ r w due.

@@ -1,7 +1,8 @@
-use Rattle.std.proofs.Common.{refl, sym, ◌∙◌, inr, take, None, Some, false}
-use Rattle.pg_serve.proofs.Sessions.{turned_more, turned_wrote, turned_read, turned_unread, turned_pushed, turned_any, turned_end, given_same, breaks_same, cut_not_quiet, cut_waits, drain_is_due, ends_read, ends_so, unwaited, failed_gives_nothing, read_end}
+use Rattle.std.proofs.Common.{refl, sym, ◌∙◌, ◌<◌, subst, inr, length, None, Some, false}
+use Rattle.pg_session.specs.Commands.{Hearing}
+use Rattle.pg_serve.proofs.Sessions.{turned_more, turned_wrote, turned_read, turned_failed, turned_pushed, turned_any, turned_end, given_same, breaks_same, cut_not_quiet, cut_waits, drain_is_due, ends_read, ends_so, unwaited, failed_gives_nothing, heard_nothing, closed_at_end, read_end}
 use Rattle.pg_serve.specs.Serving.{due_read}
-use Rattle.pg_serve.specs.Turned.{is_quiet}
+use Rattle.pg_serve.specs.Turned.{HasGivenAll, is_quiet}
 use Rattle.pg_serve.proofs.serve.turn.Goals as goal
 
 pub returns-in-Some-clause-ran : goal.returns-in-Some-clause-ran
@@ -17,54 +18,70 @@ pub returns-in-Some-clause-given : goal.returns-in-Some-clause-given
 returns-in-Some-clause-given g c = given_same _ _ c.push_left.ensures.same c.requires.given
 
 pub returns-then-has_failed-clause-ran : goal.returns-then-has_failed-clause-ran
-returns-then-has_failed-clause-ran g c = (
-  false,
-  false,
-  inr refl,
-  turned_end _ _ _ _ _ _ _ _ _ _ _ _ tt
-      (turned_more _ _ _ _ _ _ _ _ _ _ _ _ _ _ _ _ _ _ (turned_wrote _ _ _ _ _ _ _ c.push_left.ensures.writes c.push_left.ensures.same)
-      (turned_unread _ _ _ _ _ _ (failed_gives_nothing _ _ _ _ _ c.read_piece-size.ensures.end (sym c.has_failed.ensures ∙ c.if-has_failed.true) c.read_piece-size.ensures.read))),
-)
-
-pub returns-then-has_failed-clause-given : goal.returns-then-has_failed-clause-given
-returns-then-has_failed-clause-given g c = given_same _ _ c.push_left.ensures.same c.requires.given
-
-pub returns-in-Some-post_commands-clause-ran : goal.returns-in-Some-post_commands-clause-ran
-returns-in-Some-post_commands-clause-ran g c =
-    let piece = take c.read_piece-size.result.0 c.read_piece-size.new.buffer in (
-      due_read false piece,
+returns-then-has_failed-clause-ran g c =
+    let read = c.read_from-read.ensures.read in
+    let none = failed_gives_nothing c.end_of_read-end.result read.0 (g.R.Read.remaining c.read_from-read.new.reader) (c.end_of_read-end.ensures _ _ read.0 read.1) (sym c.has_failed.ensures ∙ c.if-has_failed.true) in (
+      false,
       false,
       inr refl,
       turned_end _ _ _ _ _ _ _ _ _ _ _ _ tt
           (turned_more _ _ _ _ _ _ _ _ _ _ _ _ _ _ _ _ _ _ (turned_wrote _ _ _ _ _ _ _ c.push_left.ensures.writes c.push_left.ensures.same)
-          (turned_more _ _ _ _ _ _ _ _ _ _ _ _ _ _ _ _ _ _ (turned_read _ _ _ _ _ _ _ piece c.read_piece-size.ensures.read c.feed.ensures.state c.feed.ensures.shows)
+          (turned_failed _ _ _ _ _ _ _ read.0 none read.1.consumed read.2)),
+    )
+
+pub returns-then-has_failed-clause-room : goal.returns-then-has_failed-clause-room
+returns-then-has_failed-clause-room g c =
+    let read = c.read_from-read.ensures.read in
+    let none = failed_gives_nothing c.end_of_read-end.result read.0 (g.R.Read.remaining c.read_from-read.new.reader) (c.end_of_read-end.ensures _ _ read.0 read.1) (sym c.has_failed.ensures ∙ c.if-has_failed.true) in
+    subst (λ (v : Hearing). length v.bytes.held < 65535) (sym (heard_nothing _ _ read.0 read.2 none ∙ c.push_left.ensures.same)) c.requires.room
+
+pub returns-then-has_failed-clause-given : goal.returns-then-has_failed-clause-given
+returns-then-has_failed-clause-given g c =
+    let read = c.read_from-read.ensures.read in
+    let none = failed_gives_nothing c.end_of_read-end.result read.0 (g.R.Read.remaining c.read_from-read.new.reader) (c.end_of_read-end.ensures _ _ read.0 read.1) (sym c.has_failed.ensures ∙ c.if-has_failed.true) in
+    subst HasGivenAll (sym (heard_nothing _ _ read.0 read.2 none)) (given_same _ _ c.push_left.ensures.same c.requires.given)
+
+pub returns-in-Some-post_commands-clause-ran : goal.returns-in-Some-post_commands-clause-ran
+returns-in-Some-post_commands-clause-ran g c =
+    let read = c.read_from-read.ensures.read in (
+      due_read false read.0,
+      false,
+      inr refl,
+      turned_end _ _ _ _ _ _ _ _ _ _ _ _ tt
+          (turned_more _ _ _ _ _ _ _ _ _ _ _ _ _ _ _ _ _ _ (turned_wrote _ _ _ _ _ _ _ c.push_left.ensures.writes c.push_left.ensures.same)
+          (turned_more _ _ _ _ _ _ _ _ _ _ _ _ _ _ _ _ _ _ (turned_read _ _ _ _ _ _ _ read.0 read.1.consumed read.2 read.3)
           (c.post_commands.ensures.ran _ _ _))),
     )
 
 pub returns-then-is_closed-clause-ran : goal.returns-then-is_closed-clause-ran
 returns-then-is_closed-clause-ran g c =
-    let piece = take c.read_piece-size.result.0 c.read_piece-size.new.buffer in (
-      due_read false piece,
+    let read = c.read_from-read.ensures.read in (
+      due_read false read.0,
       false,
       refl,
       turned_end _ _ _ _ _ _ _ _ _ _ _ _ tt
           (turned_more _ _ _ _ _ _ _ _ _ _ _ _ _ _ _ _ _ _ (turned_wrote _ _ _ _ _ _ _ c.push_left.ensures.writes c.push_left.ensures.same)
-          (turned_more _ _ _ _ _ _ _ _ _ _ _ _ _ _ _ _ _ _ (turned_read _ _ _ _ _ _ _ piece c.read_piece-size.ensures.read c.feed.ensures.state c.feed.ensures.shows)
+          (turned_more _ _ _ _ _ _ _ _ _ _ _ _ _ _ _ _ _ _ (turned_read _ _ _ _ _ _ _ read.0 read.1.consumed read.2 read.3)
           (c.post_commands.ensures.ran _ _ _))),
     )
 
+pub returns-then-is_closed-clause-closed : goal.returns-then-is_closed-clause-closed
+returns-then-is_closed-clause-closed g c = λ _.
+    closed_at_end c.end_of_read-end.result c.read_from-read.ensures.read.0 (g.R.Read.remaining c.read_from-read.new.reader) (c.end_of_read-end.ensures _ _ c.read_from-read.ensures.read.0 c.read_from-read.ensures.read.1)
+    (c.is_closed.ensures.closed c.if-is_closed.true)
+
 pub returns-in-Some-push_left-clause-ran : goal.returns-in-Some-push_left-clause-ran
 returns-in-Some-push_left-clause-ran g c =
-    let piece = take c.read_piece-size.result.0 c.read_piece-size.new.buffer in
-    let due = drain_is_due c.read_piece-size.result.1 c.read_piece-size.result.0 c.read_piece-size.new.buffer (read_end _ _ _ c.read_piece-size.ensures.end (sym c.has_failed.ensures ∙ c.if-has_failed.false))
-    c.read_piece-size.ensures.within c.read_piece-size.ensures.some (sym c.is_closed.ensures.value ∙ c.if-is_closed.false) in (
+    let read = c.read_from-read.ensures.read in
+    let end = c.end_of_read-end.ensures _ _ read.0 read.1 in
+    let due = drain_is_due c.end_of_read-end.result read.0 (g.R.Read.remaining c.read_from-read.new.reader) end (read_end c.end_of_read-end.result read.0 (g.R.Read.remaining c.read_from-read.new.reader) end (sym c.has_failed.ensures ∙ c.if-has_failed.false)) (sym c.is_closed.ensures.value ∙ c.if-is_closed.false) in (
       false,
-      is_quiet c.read_piece-size.result.1,
+      is_quiet c.end_of_read-end.result,
       cut_waits c.in-Some-push_left.cut _ c.in-Some-push_left.ensures.cut,
       turned_pushed _ _ _ _ _ _ _ _ _ _ _ _ _ _
           (turned_any (Some c.in-Some-push_left.cut) _ _ _ _ _ _ _ _ _ _ _
           (turned_more _ _ _ _ _ _ _ _ _ _ _ _ _ _ _ _ _ _ (turned_wrote _ _ _ _ _ _ _ c.push_left.ensures.writes c.push_left.ensures.same)
-          (turned_more _ _ _ _ _ _ _ _ _ _ _ _ _ _ _ _ _ _ (turned_read _ _ _ _ _ _ _ piece c.read_piece-size.ensures.read c.feed.ensures.state c.feed.ensures.shows)
+          (turned_more _ _ _ _ _ _ _ _ _ _ _ _ _ _ _ _ _ _ (turned_read _ _ _ _ _ _ _ read.0 read.1.consumed read.2 read.3)
           (turned_more _ _ _ _ _ _ _ _ _ _ _ _ _ _ _ _ _ _ (c.post_commands.ensures.ran _ _ _) (c.post_drain.ensures.ran _ _ _ _ due)))))
           c.push_left-2.ensures.writes c.push_left-2.ensures.same,
     )
@@ -74,16 +91,16 @@ returns-in-Some-push_left-clause-given g c = given_same _ _ c.push_left-2.ensure
 
 pub returns-in-None-clause-ran : goal.returns-in-None-clause-ran
 returns-in-None-clause-ran g c =
-    let piece = take c.read_piece-size.result.0 c.read_piece-size.new.buffer in
-    let due = drain_is_due c.read_piece-size.result.1 c.read_piece-size.result.0 c.read_piece-size.new.buffer (read_end _ _ _ c.read_piece-size.ensures.end (sym c.has_failed.ensures ∙ c.if-has_failed.false))
-    c.read_piece-size.ensures.within c.read_piece-size.ensures.some (sym c.is_closed.ensures.value ∙ c.if-is_closed.false) in (
+    let read = c.read_from-read.ensures.read in
+    let end = c.end_of_read-end.ensures _ _ read.0 read.1 in
+    let due = drain_is_due c.end_of_read-end.result read.0 (g.R.Read.remaining c.read_from-read.new.reader) end (read_end c.end_of_read-end.result read.0 (g.R.Read.remaining c.read_from-read.new.reader) end (sym c.has_failed.ensures ∙ c.if-has_failed.false)) (sym c.is_closed.ensures.value ∙ c.if-is_closed.false) in (
       false,
-      is_quiet c.read_piece-size.result.1,
-      ends_so c.read_piece-size.result.1,
+      is_quiet c.end_of_read-end.result,
+      ends_so c.end_of_read-end.result,
       turned_pushed _ _ _ _ _ _ _ _ _ _ _ _ _ _
-          (turned_any c.read_piece-size.result.1 _ _ _ _ _ _ _ _ _ _ _
+          (turned_any c.end_of_read-end.result _ _ _ _ _ _ _ _ _ _ _
           (turned_more _ _ _ _ _ _ _ _ _ _ _ _ _ _ _ _ _ _ (turned_wrote _ _ _ _ _ _ _ c.push_left.ensures.writes c.push_left.ensures.same)
-          (turned_more _ _ _ _ _ _ _ _ _ _ _ _ _ _ _ _ _ _ (turned_read _ _ _ _ _ _ _ piece c.read_piece-size.ensures.read c.feed.ensures.state c.feed.ensures.shows)
+          (turned_more _ _ _ _ _ _ _ _ _ _ _ _ _ _ _ _ _ _ (turned_read _ _ _ _ _ _ _ read.0 read.1.consumed read.2 read.3)
           (turned_more _ _ _ _ _ _ _ _ _ _ _ _ _ _ _ _ _ _ (c.post_commands.ensures.ran _ _ _) (c.post_drain.ensures.ran _ _ _ _ due)))))
           c.push_left-2.ensures.writes c.push_left-2.ensures.same,
     )
@@ -93,7 +110,7 @@ returns-in-None-clause-given g c = given_same _ _ c.push_left-2.ensures.same (gi
 
 pub returns-in-None-clause-ends : goal.returns-in-None-clause-ends
 returns-in-None-clause-ends g c =
-    ends_read c.read_piece-size.result.1 _ (read_end _ _ _ c.read_piece-size.ensures.end (sym c.has_failed.ensures ∙ c.if-has_failed.false))
+    ends_read c.end_of_read-end.result _ (read_end c.end_of_read-end.result c.read_from-read.ensures.read.0 (g.R.Read.remaining c.read_from-read.new.reader) (c.end_of_read-end.ensures _ _ c.read_from-read.ensures.read.0 c.read_from-read.ensures.read.1) (sym c.has_failed.ensures ∙ c.if-has_failed.false))
     (breaks_same None _ _ c.push_left-2.ensures.same (breaks_same None _ _ c.post_drain.ensures.same c.in_default-post_commands.ensures.breaks))
     (c.push_left-2.ensures.whole c.in-None.is)
 

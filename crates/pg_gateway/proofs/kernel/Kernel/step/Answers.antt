@@ -40,3 +40,9 @@ returns-in-Standing-clause-copies c = λ may. absurd (subst (λ e. MayCopy (occu
 
 pub returns-in-Grant-clause-copies : goal.returns-in-Grant-clause-copies
 returns-in-Grant-clause-copies c = λ may. subst (λ e. Frugal c.args.self.now (occurrence e) (told c.grant.result)) (sym c.in-Grant.is) c.grant.ensures.frugal
+
+pub returns-in-WhoWaits-clause-goes : goal.returns-in-WhoWaits-clause-goes
+returns-in-WhoWaits-clause-goes c = subst (λ e. Goes c.args.self.now (occurrence e) (told c.who_waits.result) c.args.self.now) (sym c.in-WhoWaits.is) c.who_waits.ensures.goes
+
+pub returns-in-WhoWaits-clause-copies : goal.returns-in-WhoWaits-clause-copies
+returns-in-WhoWaits-clause-copies c = λ may. absurd (subst (λ e. MayCopy (occurrence e)) c.in-WhoWaits.is may)
