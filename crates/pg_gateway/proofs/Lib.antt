@@ -28,3 +28,4 @@ pub mod FrugalLaws
 pub mod AlikeLaws
 pub mod RouteLaws
 pub mod RouteKept
+pub mod MaskLaws

@@ -235,7 +235,7 @@ masks_length xs [] (n ∷ masks) all = absurd all
 masks_length xs (k ∷ keys) [] all = absurd all
 masks_length xs (k ∷ keys) (n ∷ masks) all = ap suc (masks_length xs keys masks all.1)
 
-mask_at : (xs : List (ℕ × SlotValue)) (keys : List PmuKey) (masks : List ℕ) → AreMasks xs keys masks → (i : ℕ) (d : PmuKey) → i < length keys → IsMask xs (get_or keys i d) (get_or masks i 0)
+pub mask_at : (xs : List (ℕ × SlotValue)) (keys : List PmuKey) (masks : List ℕ) → AreMasks xs keys masks → (i : ℕ) (d : PmuKey) → i < length keys → IsMask xs (get_or keys i d) (get_or masks i 0)
 mask_at xs [] masks all i d lt = absurd (omega (arith, lt))
 mask_at xs (k ∷ keys) [] all i d lt = absurd all
 mask_at xs (k ∷ keys) (n ∷ masks) all zero d lt = all.0

@@ -32,7 +32,7 @@ le_or_gt (suc a) (suc b) =
       | inr gt ↦ inr (omega arith)
     ]
 
-one_zero : (n : ℕ) → n ≡ 1 → n ≡ 0 → ⊥
+pub one_zero : (n : ℕ) → n ≡ 1 → n ≡ 0 → ⊥
 one_zero n a b = omega arith
 
 -- clearing a bit that is set makes the word smaller, and leaves the other bits
@@ -83,13 +83,13 @@ length_set [] i w = refl
 length_set (x ∷ xs) zero w = refl
 length_set (x ∷ xs) (suc i) w = ap suc (length_set xs i w)
 
-value_set_same : (xs : List (ℕ × SlotValue)) (i : ℕ) (w v : SlotValue) → slice_get (values_of (set_value_at xs i w)) i ≡ Some v → w ≡ v
+pub value_set_same : (xs : List (ℕ × SlotValue)) (i : ℕ) (w v : SlotValue) → slice_get (values_of (set_value_at xs i w)) i ≡ Some v → w ≡ v
 value_set_same [] zero w v at = cc
 value_set_same [] (suc i) w v at = cc
 value_set_same (x ∷ xs) zero w v at = cc
 value_set_same (x ∷ xs) (suc i) w v at = value_set_same xs i w v at
 
-value_set_other : (xs : List (ℕ × SlotValue)) (i j : ℕ) (w : SlotValue) → j ≢ i → slice_get (values_of (set_value_at xs i w)) j ≡ slice_get (values_of xs) j
+pub value_set_other : (xs : List (ℕ × SlotValue)) (i j : ℕ) (w : SlotValue) → j ≢ i → slice_get (values_of (set_value_at xs i w)) j ≡ slice_get (values_of xs) j
 value_set_other [] i j w other = refl
 value_set_other (x ∷ xs) zero zero w other = absurd (other refl)
 value_set_other (x ∷ xs) zero (suc j) w other = refl

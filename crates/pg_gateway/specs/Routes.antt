@@ -1,8 +1,10 @@
 -- Which subscribers hold a PMU, as the bits of a number: subscriber j's is bit j.
-use Rattle.std.specs.Prelude.{◌≡◌, ◌≤◌, ℕ, Bool, true, if◌then◌else◌, List, [], ◌∷◌, slice_get, Option, Some, None}
+use Rattle.std.specs.Prelude.{◌≡◌, ◌≤◌, ℕ, nat_eq, Bool, true, if◌then◌else◌, List, [], ◌∷◌, ◌++◌, filter, get_or, slice_get, Option, Some, None}
 use Rattle.std.specs.Int.{bit_at}
 use Rattle.std.specs.Map.{keys_of, values_of}
 use Rattle.pg_wire.specs.declared.ids.PmuKey.{PmuKey}
+use Rattle.pg_wire.specs.declared.refusal.Refusal.{Refusal}
+use Rattle.pg_config.specs.Parts.{Source}
 use Rattle.pg_entitle.specs.Grants.{has_key}
 use Rattle.pg_registry.specs.Registered.{Pmus}
 use Rattle.pg_session.specs.Events as own
@@ -10,6 +12,7 @@ use Rattle.pg_session.specs.Events.{Happening}
 use Rattle.pg_gateway.specs.Occurrences.{Occurrence, add_pmu, drop_pmu, add_sub, drop_sub, grant, asks, announce, measure, tick, stats, pmu_stats, audit, standing, who_waits}
 use Rattle.pg_gateway.specs.Sharing.{Offer, share}
 use Rattle.pg_gateway.specs.Shown.{SlotValue, GatewayValue}
+use Rattle.pg_gateway.specs.Taking.{part_passes}
 
 -- This holds of each subscriber whose bit in n is b.
 abbrev pub WhereBit : ℕ → ℕ → (SlotValue → Type 0) → List (ℕ × SlotValue) → Type 0
@@ -38,6 +41,29 @@ AreMasks entries [] [] = Unit {0}
 AreMasks entries (k ∷ keys) (n ∷ masks) = IsMask entries k n × AreMasks entries keys masks
 AreMasks entries [] (n ∷ masks) = ⊥
 AreMasks entries (k ∷ keys) [] = ⊥
+
+-- the masks of the PMUs whose blocks were taken, of blocks each with its PMU's place and why it is refused, if it is
+abbrev pub mask_where : Option Refusal → ℕ → List ℕ
+mask_where None mask = mask ∷ []
+mask_where (Some r) mask = []
+
+abbrev pub masks_taken : List ℕ → List (ℕ × Option Refusal) → List ℕ
+masks_taken masks [] = []
+masks_taken masks (b ∷ blocks) = mask_where b.1 (get_or masks b.0 0) ++ masks_taken masks blocks
+
+-- of these places, each with a mask, those whose mask has a subscriber's bit set
+abbrev pub places_marked : ℕ → List ℕ → List ℕ → List ℕ
+places_marked j [] masks = []
+places_marked j (p ∷ places) [] = []
+places_marked j (p ∷ places) (n ∷ masks) = (if nat_eq (bit_at n j) 1 then p ∷ [] else []) ++ places_marked j places masks
+
+-- By the masks of these places of a source's PMUs, those that subscriber j holds are those that it is granted.
+abbrev pub MasksTell : List ℕ → Source → List ℕ → ℕ → SlotValue → Type 0
+MasksTell masks source places j v =
+    places_marked j places masks ≡ filter (λ i. part_passes (has_key v.subscriber.own.grants) source (slice_get source.parts i)) places
+
+abbrev pub MasksTellAll : List ℕ → Source → List ℕ → List (ℕ × SlotValue) → Type 0
+MasksTellAll masks source places entries = (j : ℕ) (v : SlotValue) → slice_get (values_of entries) j ≡ Some v → MasksTell masks source places j v
 
 -- the masks that are kept, and whether nothing happened since that may have changed who holds what
 pub record RoutesValue : Type 0 where

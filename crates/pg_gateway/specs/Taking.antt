@@ -76,6 +76,29 @@ IsRising (event.WhoWaits subs) places = Unit {0}
 IsRising (event.Audit u index) places = Unit {0}
 IsRising (event.Standing u place) places = Unit {0}
 
+-- the event is no data frame
+abbrev pub IsNoFrame : Event → Type 0
+IsNoFrame (event.Measure frame) = ⊥
+IsNoFrame (event.Announce config) = Unit {0}
+IsNoFrame (event.DropPmu key) = Unit {0}
+IsNoFrame (event.Tick soc) = Unit {0}
+IsNoFrame (event.AddPmu key) = Unit {0}
+IsNoFrame (event.AddSub u size bytes) = Unit {0}
+IsNoFrame (event.DropSub u) = Unit {0}
+IsNoFrame (event.Grant u key) = Unit {0}
+IsNoFrame (event.Revoke u key) = Unit {0}
+IsNoFrame (event.Define u definition) = Unit {0}
+IsNoFrame (event.Remove u number) = Unit {0}
+IsNoFrame (event.Connect u) = Unit {0}
+IsNoFrame (event.Hangup u) = Unit {0}
+IsNoFrame (event.Command u asked) = Unit {0}
+IsNoFrame (event.Drain u buf) = Unit {0}
+IsNoFrame (event.Stats u) = Unit {0}
+IsNoFrame (event.PmuStats key) = Unit {0}
+IsNoFrame (event.WhoWaits subs) = Unit {0}
+IsNoFrame (event.Audit u index) = Unit {0}
+IsNoFrame (event.Standing u place) = Unit {0}
+
 -- the PMU at a place passes a test of its key
 abbrev pub part_passes : (PmuKey → Bool) → Source → Option Part → Bool
 part_passes test config None = false

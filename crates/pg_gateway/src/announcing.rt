@@ -10,7 +10,7 @@ ghost use Rattle.pg_gateway.specs.Judging.{all_announced, memory_counted};
 ghost use Rattle.pg_gateway.specs.Related.{Related};
 ghost use Rattle.pg_gateway.specs.Sharing.{SubscriberSlots};
 ghost use Rattle.pg_gateway.specs.Shown.{SlotShows};
-ghost use Rattle.pg_gateway.specs.Taking.{offered, IsRising, Awaits, HasNone, Fits};
+ghost use Rattle.pg_gateway.specs.Taking.{offered, IsNoFrame, IsRising, Awaits, HasNone, Fits};
 ghost use Rattle.pg_gateway.specs.Frugal.{AllSlots};
 
 use crate::event::Event;
@@ -38,7 +38,8 @@ pub(crate) fn copy_announced(
     held: &mut Vec<usize>,
     copies: &mut HeapCircularBuffer<Arc<PmuConfig>>,
 ) -> Result<(), Refusal>
-    requires event { IsRising event.now places.now }
+    requires event { IsNoFrame event.now }
+    requires places { IsRising event.now places.now }
     requires rising { AreRising 0 (length config.now.parts) places.now }
     requires room { 16 ≤ vec_capacity held.old }
     requires capacity { copies.old.capacity ≡ 16 }

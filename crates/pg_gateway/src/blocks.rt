@@ -130,6 +130,8 @@ pub(crate) fn judge(
     ensures blocks { ArePlaced registry.now blocks.new.items (judged registry.now last frame.now) }
     ensures taken { samples_at frame.now taken.new.items ≡ taken_of registry.now last frame.now }
     ensures rising { AreRising 0 (length frame.now.config.parts) taken.new.items }
+    ensures few { vec_len blocks.new ≤ 16 }
+    ensures few_taken { vec_len taken.new ≤ 16 }
     ensures room { 16 ≤ vec_capacity blocks.new }
     ensures places { 16 ≤ vec_capacity taken.new }
 {
@@ -152,7 +154,7 @@ fn is_registered(config: &SourceConfig, place: usize, registry: &Registry) -> bo
 }
 
 /// Puts a place behind the others, if it is to be kept.
-fn keep_place(places: &mut Vec<usize>, place: usize, keeps: bool)
+pub(crate) fn keep_place(places: &mut Vec<usize>, place: usize, keeps: bool)
     requires room { vec_len places.old < vec_capacity places.old }
     ensures places { places.new.items ≡ places.old.items ++ (if keeps then place ∷ [] else []) }
     ensures few { vec_len places.new ≤ vec_len places.old + 1 }
@@ -230,6 +232,8 @@ pub(crate) fn judge_shared(
     ensures blocks { ArePlaced registry.now blocks.new.items (judged registry.now last (arc_value frame.now)) }
     ensures taken { samples_at (arc_value frame.now) taken.new.items ≡ taken_of registry.now last (arc_value frame.now) }
     ensures rising { AreRising 0 (length (arc_value frame.now).config.parts) taken.new.items }
+    ensures few { vec_len blocks.new ≤ 16 }
+    ensures few_taken { vec_len taken.new ≤ 16 }
     ensures room { 16 ≤ vec_capacity blocks.new }
     ensures places { 16 ≤ vec_capacity taken.new }
 {

@@ -1,11 +1,11 @@
-//! An event for all subscribers, taken by one after another.
+//! An event for all subscribers but a data frame, taken by one after another.
 
 ghost use Rattle.std.specs.Prelude.{◌≡◌, ◌≤◌, ℕ, List, vec_capacity, IfOk, IfErr, IsOk};
 ghost use Rattle.indexmap.specs.IndexMap.{index_map_len};
 ghost use Rattle.pg_gateway.specs.Related.{Related};
 ghost use Rattle.pg_gateway.specs.Sharing.{SubscriberSlots};
 ghost use Rattle.pg_gateway.specs.Shown.{SlotShows};
-ghost use Rattle.pg_gateway.specs.Taking.{offered, IsRising, Awaits, HasNone, Fits, FansOut};
+ghost use Rattle.pg_gateway.specs.Taking.{offered, IsNoFrame, IsRising, Awaits, HasNone, Fits, FansOut};
 ghost use Rattle.pg_gateway.specs.Frugal.{AllSlots, Spares};
 
 use crate::event::Event;
@@ -22,6 +22,7 @@ pub(crate) fn fan_out(
     held: &mut Vec<usize>,
 ) -> (u64, u64)
     requires few { index_map_len subs.old ≤ 64 }
+    requires event { IsNoFrame event.now }
     requires rising { IsRising event.now places.now }
     requires room { 16 ≤ vec_capacity held.old }
     requires awaits { AllSlots (Awaits (offered event.now places.now)) subs.old.entries }
@@ -57,6 +58,7 @@ pub(crate) fn lay_copies(
     places: &[usize],
     held: &mut Vec<usize>,
 ) -> Result<(), Refusal>
+    requires event { IsNoFrame event.now }
     requires rising { IsRising event.now places.now }
     requires room { 16 ≤ vec_capacity held.old }
     requires none { AllSlots HasNone subs.old.entries }
@@ -85,6 +87,7 @@ fn lay_all(
     places: &[usize],
     held: &mut Vec<usize>,
 ) -> Result<(), Refusal>
+    requires event { IsNoFrame event.now }
     requires rising { IsRising event.now places.now }
     requires room { 16 ≤ vec_capacity held.old }
     requires none { AllSlots HasNone subs.old.entries }

@@ -12,7 +12,7 @@ ghost use Rattle.std.specs.Option.{option_map_or};
 ghost use Rattle.pg_registry.specs.Registered.{has_source};
 ghost use Rattle.pg_gateway.specs.State.{SharedMachine, added, noted_as, slot_of, own_of};
 ghost use Rattle.pg_gateway.specs.Shown.{SlotShows, SlotValue, GatewayShows, Goes, IsWithinLimits};
-ghost use Rattle.pg_gateway.specs.Taking.{offered, IsRising, AsksNothing, HasNone, measured};
+ghost use Rattle.pg_gateway.specs.Taking.{offered, IsNoFrame, IsRising, AsksNothing, HasNone};
 ghost use Rattle.pg_gateway.specs.Frugal.{AllSlots, Frugal};
 ghost use Rattle.pg_gateway.specs.Posting.{IsPlain, KeepsBuffer};
 ghost use Rattle.pg_gateway.specs.Taking.{MayCopy};
@@ -64,6 +64,8 @@ pub(crate) struct Kernel {
     // Room for the places of a frame's blocks: those that were taken, and of them those that a subscriber holds.
     taken: Vec<usize>,
     held: Vec<usize>,
+    // And for the masks of who holds each of those that were taken.
+    masks: Vec<u64>,
     // And for what became of them: where their PMUs stand in the registry, and why a block is refused, if it is.
     judged: Vec<(usize, Option<Refusal>)>,
     // And for the copies of what they announce, on their way to the registry.
@@ -81,7 +83,7 @@ impl Model for Kernel {
 
     ghost view = { λ g. record { pmus = g.registry; subs = g.subs.entries; last_tick = g.last_tick } };
 
-    ghost invariant = { λ g. (index_map_len g.subs ≤ 64) × AllSlots HasNone g.subs.entries × (16 ≤ vec_capacity g.taken) × (16 ≤ vec_capacity g.held) × (16 ≤ vec_capacity g.judged) × (g.copies.capacity ≡ 16) };
+    ghost invariant = { λ g. (index_map_len g.subs ≤ 64) × AllSlots HasNone g.subs.entries × (16 ≤ vec_capacity g.taken) × (16 ≤ vec_capacity g.held) × (16 ≤ vec_capacity g.masks) × (16 ≤ vec_capacity g.judged) × (g.copies.capacity ≡ 16) };
 }
 
 impl Kernel {
@@ -97,6 +99,7 @@ impl Kernel {
             last_tick: None,
             taken: Vec::with_capacity(alloc, MOST_BLOCKS)?,
             held: Vec::with_capacity(alloc, MOST_BLOCKS)?,
+            masks: Vec::with_capacity(alloc, MOST_BLOCKS)?,
             judged: Vec::with_capacity(alloc, MOST_BLOCKS)?,
             copies: HeapCircularBuffer::with_capacity(alloc, MOST_BLOCKS)?,
         })
@@ -152,7 +155,7 @@ impl Kernel {
                 let config = announced(config);
                 self.announce(event, config)
             }
-            Event::Measure(frame) => self.measure(event, frame, routes),
+            Event::Measure(frame) => self.measure(frame, routes),
             Event::Tick(soc) => self.tick(event, *soc),
             _ => unreachable!(),
         }
@@ -289,6 +292,7 @@ impl Kernel {
 
     /// A tick.
     fn tick(&mut self, event: &Event, soc: u32) -> Reply
+        requires kind { IsNoFrame event.now }
         requires event { offered event.now [] ≡ ticks soc }
         requires rising { IsRising event.now [] }
         ensures goes { Goes self.old (tick soc) (told result) self.new }
@@ -301,6 +305,7 @@ impl Kernel {
 
     /// A PMU leaves the registry, and is revoked from each subscriber that holds it.
     fn drop_pmu(&mut self, event: &Event, key: &PmuKey) -> Reply
+        requires kind { IsNoFrame event.now }
         requires event { offered event.now [] ≡ revokes key.now }
         requires rising { IsRising event.now [] }
         ensures goes { Goes self.old (drop_pmu key.now) (told result) self.new }
@@ -316,6 +321,7 @@ impl Kernel {
 
     /// A source announced a configuration. All copies are made before anything changes.
     fn announce(&mut self, event: &Event, config: &SourceConfig) -> Reply
+        requires kind { IsNoFrame event.now }
         requires event { (places : List ℕ) → offered event.now places ≡ announces (announced_at config.now places) }
         requires rising { (places : List ℕ) → AreRising 0 (length config.now.parts) places → IsRising event.now places }
         ensures goes { Goes self.old (announce config.now) (told result) self.new }
@@ -346,10 +352,7 @@ impl Kernel {
 
     /// A source sent a data frame. All copies are made before anything changes. Subscribers that hold no PMU of a block that was
     /// taken are not visited.
-    fn measure(&mut self, event: &Event, frame: &Arc<DataFrame>, routes: &mut Routes) -> Reply
-        requires event { (places : List ℕ) → offered event.now places ≡ measured (arc_value frame.now) places }
-        requires rising { (places : List ℕ) → AreRising 0 (length (arc_value frame.now).config.parts) places
-            → IsRising event.now places }
+    fn measure(&mut self, frame: &Arc<DataFrame>, routes: &mut Routes) -> Reply
         requires reached { IsReached self.old }
         requires routed { IsRouted self.old routes.old }
         ensures routed { IsRouted self.old routes.new }
@@ -370,7 +373,15 @@ impl Kernel {
         }
         routes.refresh(&self.registry, &self.subs);
         let marks = routes.union_of(&self.judged);
-        match lay_copies_marked(&mut self.subs, marks, event, &self.taken, &mut self.held) {
+        routes.masks_of(&self.judged, &mut self.masks);
+        match lay_copies_marked(
+            &mut self.subs,
+            marks,
+            frame,
+            &self.taken,
+            &self.masks,
+            &mut self.held,
+        ) {
             Err(refusal) => {
                 count_memory(&mut self.registry, &self.judged);
                 return Reply::Refused(refusal);
@@ -381,8 +392,9 @@ impl Kernel {
         let (made, kept) = fan_out_marked(
             &mut self.subs,
             marks,
-            event,
+            frame,
             &self.taken,
+            &self.masks,
             &mut self.held,
         );
         Reply::Done { made, kept }

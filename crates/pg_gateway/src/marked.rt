@@ -1,37 +1,44 @@
-//! An event taken by marked subscribers alone.
+//! A data frame taken by marked subscribers alone.
 
-ghost use Rattle.std.specs.Prelude.{◌≡◌, ◌≤◌, ℕ, List, vec_capacity, IfOk, IfErr, IsOk};
+ghost use Rattle.std.specs.Prelude.{◌≡◌, ◌≤◌, ℕ, List, length, vec_capacity, IfOk, IfErr, IsOk};
+ghost use Rattle.std.specs.Arc.{arc_value};
 ghost use Rattle.indexmap.specs.IndexMap.{index_map_len};
+ghost use Rattle.pg_session.specs.Ready.{AreRising};
 ghost use Rattle.pg_gateway.specs.Related.{Related};
 ghost use Rattle.pg_gateway.specs.Sharing.{SubscriberSlots};
 ghost use Rattle.pg_gateway.specs.Shown.{SlotShows};
-ghost use Rattle.pg_gateway.specs.Taking.{offered, IsRising, Awaits, HasNone, Fits, FansOut};
+ghost use Rattle.pg_gateway.specs.Taking.{measured, Awaits, HasNone, Fits, FansOut};
 ghost use Rattle.pg_gateway.specs.Frugal.{AllSlots, Spares};
-ghost use Rattle.pg_gateway.specs.Routes.{WhereBit, HasBits, IsPassed};
+ghost use Rattle.pg_gateway.specs.Routes.{WhereBit, HasBits, IsPassed, MasksTellAll};
 
-use crate::event::Event;
 use crate::fan::forget_all;
 use crate::slot::SubscriberSlot;
 use indexmap::IndexMap;
+use pg_data::DataFrame;
 use pg_wire::{Refusal, SubId};
+use std::sync::Arc;
 
-/// Each marked subscriber takes its share, in their order. The event is nothing to the others.
+/// Each marked subscriber takes its share, in their order. The frame is nothing to the others. The masks tell who holds each block.
 pub(crate) fn fan_out_marked(
     subs: &mut IndexMap<SubId, SubscriberSlot>,
     marks: u64,
-    event: &Event,
+    frame: &Arc<DataFrame>,
     places: &[usize],
+    masks: &[u64],
     held: &mut Vec<usize>,
 ) -> (u64, u64)
     requires few { index_map_len subs.old ≤ 64 }
     requires bits { HasBits (index_map_len subs.old) marks }
-    requires rising { IsRising event.now places.now }
+    requires rising { AreRising 0 (length (arc_value frame.now).config.parts) places.now }
+    requires masks { length masks.now ≡ length places.now }
+    requires places { length places.now ≤ 16 }
+    requires tell { MasksTellAll masks.now (arc_value frame.now).config places.now subs.old.entries }
     requires room { 16 ≤ vec_capacity held.old }
-    requires awaits { WhereBit 1 marks (Awaits (offered event.now places.now)) subs.old.entries }
-    requires passed { WhereBit 0 marks (IsPassed (offered event.now places.now)) subs.old.entries }
+    requires awaits { WhereBit 1 marks (Awaits (measured (arc_value frame.now) places.now)) subs.old.entries }
+    requires passed { WhereBit 0 marks (IsPassed (measured (arc_value frame.now) places.now)) subs.old.entries }
     requires none { WhereBit 0 marks HasNone subs.old.entries }
     ensures fans_out { (slots : SubscriberSlots) → Related SlotShows subs.old.entries slots
-        → FansOut (offered event.now places.now) result.0 result.1 slots subs.new.entries }
+        → FansOut (measured (arc_value frame.now) places.now) result.0 result.1 slots subs.new.entries }
     ensures none { AllSlots HasNone subs.new.entries }
     ensures kept { result.1 ≤ result.0 }
     ensures len { index_map_len subs.new ≡ index_map_len subs.old }
@@ -44,7 +51,9 @@ pub(crate) fn fan_out_marked(
     'marked: while left != 0 {
         let bit = left.trailing_zeros();
         left &= !(1u64 << bit);
-        let (more, more_kept) = subs[bit as usize].take_share(event, places, held, lost);
+        let (more, more_kept) = subs[bit as usize].take_measured(
+            frame, places, masks, bit, held, lost,
+        );
         made += more;
         kept += more_kept;
         if more_kept < more {
@@ -62,27 +71,32 @@ pub(crate) fn fan_out_marked(
 pub(crate) fn lay_copies_marked(
     subs: &mut IndexMap<SubId, SubscriberSlot>,
     marks: u64,
-    event: &Event,
+    frame: &Arc<DataFrame>,
     places: &[usize],
+    masks: &[u64],
     held: &mut Vec<usize>,
 ) -> Result<(), Refusal>
     requires bits { HasBits (index_map_len subs.old) marks }
-    requires rising { IsRising event.now places.now }
+    requires rising { AreRising 0 (length (arc_value frame.now).config.parts) places.now }
+    requires masks { length masks.now ≡ length places.now }
+    requires places { length places.now ≤ 16 }
+    requires tell { MasksTellAll masks.now (arc_value frame.now).config places.now subs.old.entries }
     requires room { 16 ≤ vec_capacity held.old }
     requires none { AllSlots HasNone subs.old.entries }
-    requires fits { AllSlots (Fits (offered event.now places.now)) subs.old.entries }
-    requires passed { WhereBit 0 marks (IsPassed (offered event.now places.now)) subs.old.entries }
-    ensures laid { IfOk result (λ u. WhereBit 1 marks (Awaits (offered event.now places.now)) subs.new.entries) }
-    ensures passed { IfOk result (λ u. WhereBit 0 marks (IsPassed (offered event.now places.now)) subs.new.entries) }
+    requires fits { AllSlots (Fits (measured (arc_value frame.now) places.now)) subs.old.entries }
+    requires passed { WhereBit 0 marks (IsPassed (measured (arc_value frame.now) places.now)) subs.old.entries }
+    ensures laid { IfOk result (λ u. WhereBit 1 marks (Awaits (measured (arc_value frame.now) places.now)) subs.new.entries) }
+    ensures passed { IfOk result (λ u. WhereBit 0 marks (IsPassed (measured (arc_value frame.now) places.now)) subs.new.entries) }
+    ensures tell { IfOk result (λ u. MasksTellAll masks.now (arc_value frame.now).config places.now subs.new.entries) }
     ensures passed_none { IfOk result (λ u. WhereBit 0 marks HasNone subs.new.entries) }
     ensures none { IfErr result (λ refusal. AllSlots HasNone subs.new.entries) }
     ensures memory { IfErr result (λ refusal. refusal ≡ Refusal.NoMemory) }
-    ensures needless { AllSlots (Spares (offered event.now places.now)) subs.old.entries → IsOk result }
+    ensures needless { AllSlots (Spares (measured (arc_value frame.now) places.now)) subs.old.entries → IsOk result }
     ensures shows { (slots : SubscriberSlots) → Related SlotShows subs.old.entries slots → Related SlotShows subs.new.entries slots }
     ensures len { index_map_len subs.new ≡ index_map_len subs.old }
     ensures room { 16 ≤ vec_capacity held.new }
 {
-    match lay_marked(subs, marks, event, places, held) {
+    match lay_marked(subs, marks, frame, places, masks, held) {
         Ok(_) => Ok(()),
         Err(refusal) => {
             forget_all(subs);
@@ -95,21 +109,26 @@ pub(crate) fn lay_copies_marked(
 fn lay_marked(
     subs: &mut IndexMap<SubId, SubscriberSlot>,
     marks: u64,
-    event: &Event,
+    frame: &Arc<DataFrame>,
     places: &[usize],
+    masks: &[u64],
     held: &mut Vec<usize>,
 ) -> Result<(), Refusal>
     requires bits { HasBits (index_map_len subs.old) marks }
-    requires rising { IsRising event.now places.now }
+    requires rising { AreRising 0 (length (arc_value frame.now).config.parts) places.now }
+    requires masks { length masks.now ≡ length places.now }
+    requires places { length places.now ≤ 16 }
+    requires tell { MasksTellAll masks.now (arc_value frame.now).config places.now subs.old.entries }
     requires room { 16 ≤ vec_capacity held.old }
     requires none { AllSlots HasNone subs.old.entries }
-    requires fits { AllSlots (Fits (offered event.now places.now)) subs.old.entries }
-    requires passed { WhereBit 0 marks (IsPassed (offered event.now places.now)) subs.old.entries }
-    ensures laid { IfOk result (λ u. WhereBit 1 marks (Awaits (offered event.now places.now)) subs.new.entries) }
-    ensures passed { IfOk result (λ u. WhereBit 0 marks (IsPassed (offered event.now places.now)) subs.new.entries) }
+    requires fits { AllSlots (Fits (measured (arc_value frame.now) places.now)) subs.old.entries }
+    requires passed { WhereBit 0 marks (IsPassed (measured (arc_value frame.now) places.now)) subs.old.entries }
+    ensures laid { IfOk result (λ u. WhereBit 1 marks (Awaits (measured (arc_value frame.now) places.now)) subs.new.entries) }
+    ensures passed { IfOk result (λ u. WhereBit 0 marks (IsPassed (measured (arc_value frame.now) places.now)) subs.new.entries) }
+    ensures tell { IfOk result (λ u. MasksTellAll masks.now (arc_value frame.now).config places.now subs.new.entries) }
     ensures passed_none { IfOk result (λ u. WhereBit 0 marks HasNone subs.new.entries) }
     ensures memory { IfErr result (λ refusal. refusal ≡ Refusal.NoMemory) }
-    ensures needless { AllSlots (Spares (offered event.now places.now)) subs.old.entries → IsOk result }
+    ensures needless { AllSlots (Spares (measured (arc_value frame.now) places.now)) subs.old.entries → IsOk result }
     ensures shows { (slots : SubscriberSlots) → Related SlotShows subs.old.entries slots → Related SlotShows subs.new.entries slots }
     ensures len { index_map_len subs.new ≡ index_map_len subs.old }
     ensures room { 16 ≤ vec_capacity held.new }
@@ -118,7 +137,7 @@ fn lay_marked(
     'marked: while left != 0 {
         let bit = left.trailing_zeros();
         left &= !(1u64 << bit);
-        subs[bit as usize].lay(event, places, held)?;
+        subs[bit as usize].lay_measured(frame, places, masks, bit, held)?;
     }
     Ok(())
 }

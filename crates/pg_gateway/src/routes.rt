@@ -1,11 +1,11 @@
 //! Which subscribers hold each registered PMU.
 
-ghost use Rattle.std.specs.Prelude.{◌≡◌, ◌≢◌, ◌<◌, ◌≤◌, ℕ, All, None, true, false, get_or, length, if◌then◌else◌, IfOk, IfErr};
+ghost use Rattle.std.specs.Prelude.{◌≡◌, ◌≢◌, ◌<◌, ◌≤◌, ◌+◌, ◌++◌, ℕ, All, None, true, false, get_or, length, vec_len, vec_capacity, if◌then◌else◌, IfOk, IfErr};
 ghost use Rattle.std.specs.Int.{bit_at};
 ghost use Rattle.std.specs.Map.{keys_of};
 ghost use Rattle.indexmap.specs.IndexMap.{index_map_len};
 ghost use Rattle.pg_entitle.specs.Grants.{has_key};
-ghost use Rattle.pg_gateway.specs.Routes.{IsMask, AreMasks, AreRoutes};
+ghost use Rattle.pg_gateway.specs.Routes.{IsMask, AreMasks, AreRoutes, mask_where, masks_taken};
 
 use crate::slot::SubscriberSlot;
 use indexmap::IndexMap;
@@ -60,6 +60,18 @@ fn with_mask(marks: u64, mask: u64, on: bool) -> u64
         return marks | mask;
     }
     marks
+}
+
+/// Puts a mask behind the others where a block was not refused.
+fn keep_mask(masks: &mut Vec<u64>, mask: u64, refusal: Option<Refusal>)
+    requires room { vec_len masks.old < vec_capacity masks.old }
+    ensures masks { masks.new.items ≡ masks.old.items ++ mask_where refusal mask }
+    ensures few { vec_len masks.new ≤ vec_len masks.old + 1 }
+    ensures room { vec_capacity masks.new ≡ vec_capacity masks.old }
+{
+    if refusal.is_none() {
+        masks.push_reserved(mask);
+    }
 }
 
 /// Whether a subscriber holds a PMU.
@@ -138,5 +150,19 @@ impl Routes {
             marks = with_mask(marks, self.masks[block.0], block.1.is_none());
         }
         marks
+    }
+
+    /// The masks of the PMUs whose blocks were taken.
+    pub(crate) fn masks_of(&self, blocks: &[(usize, Option<Refusal>)], masks: &mut Vec<u64>)
+        requires within { All (λ b. b.0 < length self.now.masks) blocks.now }
+        requires few { length blocks.now ≤ 16 }
+        requires room { 16 ≤ vec_capacity masks.old }
+        ensures masks { masks.new.items ≡ masks_taken self.now.masks blocks.now }
+        ensures room { 16 ≤ vec_capacity masks.new }
+    {
+        masks.clear();
+        for block in blocks {
+            keep_mask(masks, self.masks[block.0], block.1);
+        }
     }
 }

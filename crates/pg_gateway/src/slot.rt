@@ -1,7 +1,8 @@
 //! One subscriber with its audit.
 
-ghost use Rattle.std.specs.Prelude.{◌≡◌, ◌<◌, ◌≤◌, true, false, length, filter, vec_capacity, slice_get, IfOk, IfErr, Some, None, option_map, IfSome};
+ghost use Rattle.std.specs.Prelude.{◌≡◌, ◌<◌, ◌≤◌, nat_eq, true, false, length, filter, vec_capacity, slice_get, IfOk, IfErr, Some, None, option_map, IfSome};
 ghost use Rattle.std.specs.Arc.{arc_value};
+ghost use Rattle.std.specs.Int.{bit_at};
 ghost use Rattle.pg_audit.specs.Noting.{newest_at};
 ghost use Rattle.pg_config.specs.Parts.{block_id};
 ghost use Rattle.pg_session.specs.Events.{grant};
@@ -15,9 +16,11 @@ ghost use Rattle.pg_session.specs.Ready.{ReturnsBuffer, AreRising};
 ghost use Rattle.pg_gateway.specs.Sharing.{SubscriberSlot as SlotState, announces, revokes};
 ghost use Rattle.pg_gateway.specs.State.{added, with_note, noted_as};
 ghost use Rattle.pg_gateway.specs.Shown.{SlotShows, slot_waits};
-ghost use Rattle.pg_gateway.specs.Taking.{Asks, AsksNothing, HasNone, offered, measured, part_passes, IsRising, Fits, LaysShare, Awaits, TakesOffer, TakesGrant, counts_of};
+ghost use Rattle.pg_gateway.specs.Taking.{Asks, AsksNothing, HasNone, offered, measured, part_passes, IsNoFrame, IsRising, Fits, LaysShare, Awaits, TakesOffer, TakesGrant, counts_of};
+ghost use Rattle.pg_gateway.specs.Routes.{places_marked, MasksTell};
 
 use crate::asking::code;
+use crate::blocks::keep_place;
 use crate::event::Event;
 use pg_audit::{Audit, Entry, Stats, What};
 use pg_config::{PmuConfig, SourceConfig};
@@ -36,10 +39,8 @@ pub(crate) struct SubscriberSlot {
     audit: Audit,
     // Copies were laid for an event that does not concern it, so that it need not be looked at again.
     spared: bool,
-    // Copies were laid for all blocks of a frame that were taken, so that which of them are granted need not be looked up again.
+    // Copies were laid for all blocks of a frame that were taken, so that which of them are granted need not be asked again.
     whole: bool,
-    // Where among its grants the first PMU of the next frame is guessed: behind the last one of the frame before.
-    guess: usize,
 }
 
 impl Model for SubscriberSlot {
@@ -67,7 +68,6 @@ impl SubscriberSlot {
             audit: Audit::new(alloc)?,
             spared: false,
             whole: false,
-            guess: 0,
         })
     }
 
@@ -165,13 +165,15 @@ impl SubscriberSlot {
         self.audit.last(usize::from(index))
     }
 
-    /// Lays the copies that its share of an event for all needs. Nothing else changes. The one refusal is `NoMemory`.
+    /// Lays the copies that its share of an event for all but a data frame needs. Nothing else changes. The one refusal is
+    /// `NoMemory`.
     pub(crate) fn lay(
         &mut self,
         event: &Event,
         places: &[usize],
         held: &mut Vec<usize>,
     ) -> Result<(), Refusal>
+        requires event { IsNoFrame event.now }
         requires rising { IsRising event.now places.now }
         requires room { 16 ≤ vec_capacity held.old }
         requires none { HasNone self.old }
@@ -184,7 +186,6 @@ impl SubscriberSlot {
                 let config = announced(config);
                 self.lay_announced(config, places, held)
             }
-            Event::Measure(frame) => self.lay_measured(frame, places, held),
             _ => Ok(()),
         }
     }
@@ -203,7 +204,7 @@ impl SubscriberSlot {
         ensures lays { LaysShare (announces (announced_at config.now places.now)) self.old result self.new }
         ensures room { 16 ≤ vec_capacity held.new }
     {
-        if !hold(&self.subscriber, config, places, &mut 0, held) {
+        if !hold(&self.subscriber, config, places, held) {
             self.spared = true;
             return Ok(());
         }
@@ -212,22 +213,28 @@ impl SubscriberSlot {
         Ok(())
     }
 
-    /// Lays the copies of granted PMUs' blocks that its streams ask for.
-    fn lay_measured(
+    /// Lays the copies of granted PMUs' blocks that its streams ask for. The masks tell who holds each block; its bit is this one.
+    /// Nothing else changes. The one refusal is `NoMemory`.
+    pub(crate) fn lay_measured(
         &mut self,
         frame: &Arc<DataFrame>,
         places: &[usize],
+        masks: &[u64],
+        bit: u32,
         held: &mut Vec<usize>,
     ) -> Result<(), Refusal>
         requires rising { AreRising 0 (length (arc_value frame.now).config.parts) places.now }
+        requires masks { length masks.now ≡ length places.now }
+        requires few { length places.now ≤ 16 }
+        requires bit { bit < 64 }
+        requires tell { MasksTell masks.now (arc_value frame.now).config places.now bit self.old }
         requires room { 16 ≤ vec_capacity held.old }
         requires none { HasNone self.old }
         requires fit { Fits (measured (arc_value frame.now) places.now) self.old }
         ensures lays { LaysShare (measured (arc_value frame.now) places.now) self.old result self.new }
         ensures room { 16 ≤ vec_capacity held.new }
     {
-        let mut guess = self.guess;
-        if !hold_blocks(&self.subscriber, frame, places, &mut guess, held) {
+        if !hold_marked(places, masks, bit, held) {
             self.spared = true;
             return Ok(());
         }
@@ -236,7 +243,6 @@ impl SubscriberSlot {
             return Ok(());
         }
         self.whole = true;
-        self.guess = guess;
         Ok(())
     }
 
@@ -251,8 +257,8 @@ impl SubscriberSlot {
         self.whole = false;
     }
 
-    /// Takes its share of an event for all, if it has one: with `lost` all data frames that it makes are lost. It answers the
-    /// frames made, and those of them that are kept.
+    /// Takes its share of an event for all but a data frame, if it has one: with `lost` all data frames that it makes are lost. It
+    /// answers the frames made, and those of them that are kept.
     pub(crate) fn take_share(
         &mut self,
         event: &Event,
@@ -260,6 +266,7 @@ impl SubscriberSlot {
         held: &mut Vec<usize>,
         lost: bool,
     ) -> (u64, u64)
+        requires event { IsNoFrame event.now }
         requires rising { IsRising event.now places.now }
         requires room { 16 ≤ vec_capacity held.old }
         requires awaits { Awaits (offered event.now places.now) self.old }
@@ -278,7 +285,6 @@ impl SubscriberSlot {
                 let config = announced(config);
                 self.take_announced(config, places, held, lost)
             }
-            Event::Measure(frame) => self.take_measured(frame, places, held, lost),
             Event::Tick(soc) => counts(self.subscriber.take(PrivateEvent::Tick(*soc), lost)),
             _ => (0, 0),
         }
@@ -314,7 +320,7 @@ impl SubscriberSlot {
         ensures whole { self.new.whole ≡ self.old.whole }
         ensures room { 16 ≤ vec_capacity held.new }
     {
-        if !hold(&self.subscriber, config, places, &mut 0, held) {
+        if !hold(&self.subscriber, config, places, held) {
             return (0, 0);
         }
         counts(
@@ -323,22 +329,33 @@ impl SubscriberSlot {
         )
     }
 
-    /// Blocks of a frame were taken.
-    fn take_measured(
+    /// Takes its share of a data frame's blocks, if it has one, as `take_share` does of other events. The masks tell who holds each
+    /// block; its bit is this one.
+    pub(crate) fn take_measured(
         &mut self,
         frame: &Arc<DataFrame>,
         places: &[usize],
+        masks: &[u64],
+        bit: u32,
         held: &mut Vec<usize>,
         lost: bool,
     ) -> (u64, u64)
         requires rising { AreRising 0 (length (arc_value frame.now).config.parts) places.now }
+        requires masks { length masks.now ≡ length places.now }
+        requires few { length places.now ≤ 16 }
+        requires bit { bit < 64 }
+        requires tell { MasksTell masks.now (arc_value frame.now).config places.now bit self.old }
         requires room { 16 ≤ vec_capacity held.old }
         requires awaits { Awaits (measured (arc_value frame.now) places.now) self.old }
         ensures takes { TakesOffer (measured (arc_value frame.now) places.now) lost self.old result self.new }
-        ensures spared { self.new.spared ≡ self.old.spared }
+        ensures spared { self.new.spared ≡ false }
         ensures whole { self.new.whole ≡ false }
         ensures room { 16 ≤ vec_capacity held.new }
     {
+        if self.spared {
+            self.spared = false;
+            return (0, 0);
+        }
         if self.whole {
             self.whole = false;
             return counts(
@@ -346,7 +363,7 @@ impl SubscriberSlot {
                     .take(PrivateEvent::Measure(frame, places), lost),
             );
         }
-        if !hold_blocks(&self.subscriber, frame, places, &mut self.guess, held) {
+        if !hold_marked(places, masks, bit, held) {
             return (0, 0);
         }
         counts(
@@ -375,13 +392,11 @@ fn is_held(subscriber: &Subscriber, config: &SourceConfig, place: usize, next: &
     subscriber.holds_next(config.key(place), next)
 }
 
-/// Of a source's PMUs at these places, those that the subscriber is granted. It answers whether there are any. The first is guessed
-/// to stand at `guess` among the grants or right before it; `guess` is then the place behind the last one.
+/// Of a source's PMUs at these places, those that the subscriber is granted. It answers whether there are any.
 fn hold(
     subscriber: &Subscriber,
     config: &SourceConfig,
     places: &[usize],
-    guess: &mut usize,
     held: &mut Vec<usize>,
 ) -> bool
     requires rising { AreRising 0 (length config.now.parts) places.now }
@@ -395,42 +410,40 @@ fn hold(
 {
     let _count = config.count();
     held.clear();
-    let mut next = *guess;
+    let mut next = 0;
     for place in places {
         if is_held(subscriber, config, *place, &mut next) {
             held.push_reserved(*place);
         }
     }
-    *guess = next;
     !held.is_empty()
 }
 
-/// The configuration by which a frame was read.
-fn source_of(frame: &DataFrame) -> &SourceConfig
-    ensures { result.now ≡ frame.now.config }
+/// Whether a bit of a mask is set.
+fn has_bit(mask: u64, bit: u32) -> bool
+    requires bit { bit < 64 }
+    ensures { result ≡ nat_eq (bit_at mask bit) 1 }
 {
-    &frame.config
+    (mask >> bit) & 1 == 1
 }
 
-/// Of a frame's blocks at these places, those of PMUs that the subscriber is granted. It answers whether there are any.
-fn hold_blocks(
-    subscriber: &Subscriber,
-    frame: &Arc<DataFrame>,
-    places: &[usize],
-    guess: &mut usize,
-    held: &mut Vec<usize>,
-) -> bool
-    requires rising { AreRising 0 (length (arc_value frame.now).config.parts) places.now }
+/// Of these places of a frame's blocks, each with the mask of who holds it, those of the subscriber whose bit this is. It answers
+/// whether there are any.
+fn hold_marked(places: &[usize], masks: &[u64], bit: u32, held: &mut Vec<usize>) -> bool
+    requires masks { length masks.now ≡ length places.now }
+    requires few { length places.now ≤ 16 }
+    requires bit { bit < 64 }
     requires room { 16 ≤ vec_capacity held.old }
     ensures some { result ≡ true → 0 < length held.new.items }
     ensures none { result ≡ false → length held.new.items ≡ 0 }
-    ensures rising { AreRising 0 (length (arc_value frame.now).config.parts) held.new.items }
-    ensures held { held.new.items
-        ≡ filter (λ i. part_passes (has_key subscriber.now.own.grants) (arc_value frame.now).config (slice_get (arc_value frame.now).config.parts i)) places.now }
+    ensures held { held.new.items ≡ places_marked bit places.now masks.now }
     ensures room { 16 ≤ vec_capacity held.new }
 {
-    let config = source_of(frame);
-    hold(subscriber, config, places, guess, held)
+    held.clear();
+    for i in 0..places.len() {
+        keep_place(held, places[i], has_bit(masks[i], bit));
+    }
+    !held.is_empty()
 }
 
 /// The configuration that is announced.

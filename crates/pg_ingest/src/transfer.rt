@@ -3,7 +3,7 @@
 ghost use Rattle.std.specs.Prelude.{◌≡◌, ℕ, ◌≤◌, List, length, Option, None, IfSome, take, drop};
 ghost use Rattle.std.specs.Io.KnownBytes.{Appends};
 ghost use Rattle.pg_wire.specs.Reads.{Gave};
-ghost use Rattle.pg_ingest.specs.Transfers.{EndsRead, IsStuck};
+ghost use Rattle.pg_ingest.specs.Transfers.{EndsAs, EndsRead, IsStuck};
 
 use crate::run::End;
 use std::io;
@@ -15,7 +15,8 @@ pub const PIECE: usize = 4096;
 /// How a call ends after this read (own rule): `Closed` where the reader has ended, `Quiet` where it would block, `Fault(39)`
 /// where the read failed, and not where bytes came.
 pub fn end_of_read(read: io::Result<usize>) -> Option<End>
-    ensures { (before after : Option (List ℕ)) (piece : List ℕ) → Gave before after read piece → EndsRead result piece after }
+    ensures is { EndsAs result read }
+    ensures gave { (before after : Option (List ℕ)) (piece : List ℕ) → Gave before after read piece → EndsRead result piece after }
 {
     match read {
         Ok(0) => Some(End::Closed),

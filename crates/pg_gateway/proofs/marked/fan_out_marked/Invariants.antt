@@ -1,9 +1,11 @@
 use Rattle.std.proofs.Common.{◌≡◌, ◌≤◌, ℕ, false, vec_capacity}
+use Rattle.std.specs.Arc.{arc_value}
 use Rattle.std.specs.Int.{bit_at}
 use Rattle.indexmap.specs.IndexMap.{index_map_len}
-use Rattle.pg_gateway.specs.Taking.{offered, Awaits, HasNone}
+use Rattle.pg_gateway.specs.Taking.{measured, Awaits, HasNone}
 use Rattle.pg_gateway.specs.Routes.{WhereBit, IsPassed}
 use Rattle.pg_gateway.proofs.RouteLaws.{Walked}
+use Rattle.pg_gateway.proofs.MaskLaws.{MasksTellLeft}
 use Rattle.pg_gateway.proofs.marked.fan_out_marked.Given as goal
 
 abbrev pub invariant-marked : goal.invariant-marked
@@ -13,10 +15,11 @@ invariant-marked l = record {
   all : l.lost ≡ false → l.kept ≡ l.made;
   room : 16 ≤ vec_capacity l.held;
   marked : (j : ℕ) → bit_at l.left j ≡ 1 → bit_at l.marks j ≡ 1;
-  awaits : WhereBit 1 l.left (Awaits (offered l.event l.places)) l.subs.entries;
-  passed : WhereBit 0 l.marks (IsPassed (offered l.event l.places)) l.subs.entries;
+  awaits : WhereBit 1 l.left (Awaits (measured (arc_value l.frame) l.places)) l.subs.entries;
+  passed : WhereBit 0 l.marks (IsPassed (measured (arc_value l.frame) l.places)) l.subs.entries;
   none : WhereBit 0 l.left HasNone l.subs.entries;
-  walked : Walked (offered l.event l.places) l.marks l.left l.made l.kept l.fn.subs.entries l.subs.entries;
+  tell : MasksTellLeft l.masks (arc_value l.frame).config l.places l.left l.subs.entries;
+  walked : Walked (measured (arc_value l.frame) l.places) l.marks l.left l.made l.kept l.fn.subs.entries l.subs.entries;
 }
 
 abbrev pub decreases-marked : goal.decreases-marked

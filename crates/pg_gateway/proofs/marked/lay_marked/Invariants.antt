@@ -1,12 +1,13 @@
 use Rattle.std.proofs.Common.{◌≡◌, ◌≤◌, ℕ, vec_capacity}
+use Rattle.std.specs.Arc.{arc_value}
 use Rattle.std.specs.Int.{bit_at}
 use Rattle.indexmap.specs.IndexMap.{index_map_len}
 use Rattle.pg_gateway.specs.Related.{Related}
 use Rattle.pg_gateway.specs.Sharing.{SubscriberSlots}
 use Rattle.pg_gateway.specs.Shown.{SlotShows}
-use Rattle.pg_gateway.specs.Taking.{offered, Awaits, HasNone, Fits}
+use Rattle.pg_gateway.specs.Taking.{measured, Awaits, HasNone, Fits}
 use Rattle.pg_gateway.specs.Frugal.{AllSlots, Spares}
-use Rattle.pg_gateway.specs.Routes.{WhereBit, IsPassed}
+use Rattle.pg_gateway.specs.Routes.{WhereBit, IsPassed, MasksTellAll}
 use Rattle.pg_gateway.proofs.marked.lay_marked.Given as goal
 
 abbrev pub invariant-marked : goal.invariant-marked
@@ -14,12 +15,13 @@ invariant-marked l = record {
   len : index_map_len l.subs ≡ index_map_len l.fn.subs;
   room : 16 ≤ vec_capacity l.held;
   marked : (j : ℕ) → bit_at l.left j ≡ 1 → bit_at l.marks j ≡ 1;
-  fits : WhereBit 1 l.left (Fits (offered l.event l.places)) l.subs.entries;
+  fits : WhereBit 1 l.left (Fits (measured (arc_value l.frame) l.places)) l.subs.entries;
   none : WhereBit 1 l.left HasNone l.subs.entries;
-  spares : AllSlots (Spares (offered l.event l.places)) l.fn.subs.entries → WhereBit 1 l.left (Spares (offered l.event l.places)) l.subs.entries;
-  laid : WhereBit 0 l.left (Awaits (offered l.event l.places)) l.subs.entries;
-  passed : WhereBit 0 l.marks (IsPassed (offered l.event l.places)) l.subs.entries;
+  spares : AllSlots (Spares (measured (arc_value l.frame) l.places)) l.fn.subs.entries → WhereBit 1 l.left (Spares (measured (arc_value l.frame) l.places)) l.subs.entries;
+  laid : WhereBit 0 l.left (Awaits (measured (arc_value l.frame) l.places)) l.subs.entries;
+  passed : WhereBit 0 l.marks (IsPassed (measured (arc_value l.frame) l.places)) l.subs.entries;
   passed_none : WhereBit 0 l.marks HasNone l.subs.entries;
+  tell : MasksTellAll l.masks (arc_value l.frame).config l.places l.subs.entries;
   shows : (slots : SubscriberSlots) → Related SlotShows l.fn.subs.entries slots → Related SlotShows l.subs.entries slots;
 }
 

@@ -19,7 +19,7 @@ pub returns-in-None-clause-ran : goal.returns-in-None-clause-ran
 returns-in-None-clause-ran g c =
     let read = c.read_from-read.ensures.read in
     let left = g.R.Read.remaining c.read_from-read.new.reader in
-    turn_as _ _ (ends_or_goes c.end_of_read-end.result c.post_events.new.link.left read.0 left (c.end_of_read-end.ensures _ _ read.0 read.1)) _ _ _ _ _ _ _ _
+    turn_as _ _ (ends_or_goes c.end_of_read-end.result c.post_events.new.link.left read.0 left (c.end_of_read-end.ensures.gave _ _ read.0 read.1)) _ _ _ _ _ _ _ _
     (turn_done _ _ _ _ _ left _ _ _ _ read.0 None (c.write_owed.ensures.ran _ _) (c.write_owed.ensures.none c.in_default.is)
     (small_piece _ _ _ read.0 4096 read.1 c.read_from-read.ensures.small) read.1.consumed read.3 (ap (λ (v : Linking). v.left) read.2) (c.in-None.ensures.ran _ _))
 

@@ -20,7 +20,7 @@ returns-in-Some-clause-given g c = given_same _ _ c.push_left.ensures.same c.req
 pub returns-then-has_failed-clause-ran : goal.returns-then-has_failed-clause-ran
 returns-then-has_failed-clause-ran g c =
     let read = c.read_from-read.ensures.read in
-    let none = failed_gives_nothing c.end_of_read-end.result read.0 (g.R.Read.remaining c.read_from-read.new.reader) (c.end_of_read-end.ensures _ _ read.0 read.1) (sym c.has_failed.ensures ∙ c.if-has_failed.true) in (
+    let none = failed_gives_nothing c.end_of_read-end.result read.0 (g.R.Read.remaining c.read_from-read.new.reader) (c.end_of_read-end.ensures.gave _ _ read.0 read.1) (sym c.has_failed.ensures ∙ c.if-has_failed.true) in (
       false,
       false,
       inr refl,
@@ -32,13 +32,13 @@ returns-then-has_failed-clause-ran g c =
 pub returns-then-has_failed-clause-room : goal.returns-then-has_failed-clause-room
 returns-then-has_failed-clause-room g c =
     let read = c.read_from-read.ensures.read in
-    let none = failed_gives_nothing c.end_of_read-end.result read.0 (g.R.Read.remaining c.read_from-read.new.reader) (c.end_of_read-end.ensures _ _ read.0 read.1) (sym c.has_failed.ensures ∙ c.if-has_failed.true) in
+    let none = failed_gives_nothing c.end_of_read-end.result read.0 (g.R.Read.remaining c.read_from-read.new.reader) (c.end_of_read-end.ensures.gave _ _ read.0 read.1) (sym c.has_failed.ensures ∙ c.if-has_failed.true) in
     subst (λ (v : Hearing). length v.bytes.held < 65535) (sym (heard_nothing _ _ read.0 read.2 none ∙ c.push_left.ensures.same)) c.requires.room
 
 pub returns-then-has_failed-clause-given : goal.returns-then-has_failed-clause-given
 returns-then-has_failed-clause-given g c =
     let read = c.read_from-read.ensures.read in
-    let none = failed_gives_nothing c.end_of_read-end.result read.0 (g.R.Read.remaining c.read_from-read.new.reader) (c.end_of_read-end.ensures _ _ read.0 read.1) (sym c.has_failed.ensures ∙ c.if-has_failed.true) in
+    let none = failed_gives_nothing c.end_of_read-end.result read.0 (g.R.Read.remaining c.read_from-read.new.reader) (c.end_of_read-end.ensures.gave _ _ read.0 read.1) (sym c.has_failed.ensures ∙ c.if-has_failed.true) in
     subst HasGivenAll (sym (heard_nothing _ _ read.0 read.2 none)) (given_same _ _ c.push_left.ensures.same c.requires.given)
 
 pub returns-in-Some-post_commands-clause-ran : goal.returns-in-Some-post_commands-clause-ran
@@ -67,13 +67,13 @@ returns-then-is_closed-clause-ran g c =
 
 pub returns-then-is_closed-clause-closed : goal.returns-then-is_closed-clause-closed
 returns-then-is_closed-clause-closed g c = λ _.
-    closed_at_end c.end_of_read-end.result c.read_from-read.ensures.read.0 (g.R.Read.remaining c.read_from-read.new.reader) (c.end_of_read-end.ensures _ _ c.read_from-read.ensures.read.0 c.read_from-read.ensures.read.1)
+    closed_at_end c.end_of_read-end.result c.read_from-read.ensures.read.0 (g.R.Read.remaining c.read_from-read.new.reader) (c.end_of_read-end.ensures.gave _ _ c.read_from-read.ensures.read.0 c.read_from-read.ensures.read.1)
     (c.is_closed.ensures.closed c.if-is_closed.true)
 
 pub returns-in-Some-push_left-clause-ran : goal.returns-in-Some-push_left-clause-ran
 returns-in-Some-push_left-clause-ran g c =
     let read = c.read_from-read.ensures.read in
-    let end = c.end_of_read-end.ensures _ _ read.0 read.1 in
+    let end = c.end_of_read-end.ensures.gave _ _ read.0 read.1 in
     let due = drain_is_due c.end_of_read-end.result read.0 (g.R.Read.remaining c.read_from-read.new.reader) end (read_end c.end_of_read-end.result read.0 (g.R.Read.remaining c.read_from-read.new.reader) end (sym c.has_failed.ensures ∙ c.if-has_failed.false)) (sym c.is_closed.ensures.value ∙ c.if-is_closed.false) in (
       false,
       is_quiet c.end_of_read-end.result,
@@ -92,7 +92,7 @@ returns-in-Some-push_left-clause-given g c = given_same _ _ c.push_left-2.ensure
 pub returns-in-None-clause-ran : goal.returns-in-None-clause-ran
 returns-in-None-clause-ran g c =
     let read = c.read_from-read.ensures.read in
-    let end = c.end_of_read-end.ensures _ _ read.0 read.1 in
+    let end = c.end_of_read-end.ensures.gave _ _ read.0 read.1 in
     let due = drain_is_due c.end_of_read-end.result read.0 (g.R.Read.remaining c.read_from-read.new.reader) end (read_end c.end_of_read-end.result read.0 (g.R.Read.remaining c.read_from-read.new.reader) end (sym c.has_failed.ensures ∙ c.if-has_failed.false)) (sym c.is_closed.ensures.value ∙ c.if-is_closed.false) in (
       false,
       is_quiet c.end_of_read-end.result,
@@ -110,7 +110,7 @@ returns-in-None-clause-given g c = given_same _ _ c.push_left-2.ensures.same (gi
 
 pub returns-in-None-clause-ends : goal.returns-in-None-clause-ends
 returns-in-None-clause-ends g c =
-    ends_read c.end_of_read-end.result _ (read_end c.end_of_read-end.result c.read_from-read.ensures.read.0 (g.R.Read.remaining c.read_from-read.new.reader) (c.end_of_read-end.ensures _ _ c.read_from-read.ensures.read.0 c.read_from-read.ensures.read.1) (sym c.has_failed.ensures ∙ c.if-has_failed.false))
+    ends_read c.end_of_read-end.result _ (read_end c.end_of_read-end.result c.read_from-read.ensures.read.0 (g.R.Read.remaining c.read_from-read.new.reader) (c.end_of_read-end.ensures.gave _ _ c.read_from-read.ensures.read.0 c.read_from-read.ensures.read.1) (sym c.has_failed.ensures ∙ c.if-has_failed.false))
     (breaks_same None _ _ c.push_left-2.ensures.same (breaks_same None _ _ c.post_drain.ensures.same c.in_default-post_commands.ensures.breaks))
     (c.push_left-2.ensures.whole c.in-None.is)
 

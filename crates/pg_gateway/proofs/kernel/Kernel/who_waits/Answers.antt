@@ -1,4 +1,3 @@
-use Rattle.std.proofs.Common.{sym}
 use Rattle.pg_gateway.proofs.AskLaws.{waiting_told}
 use Rattle.pg_gateway.proofs.kernel.Kernel.who_waits.Goals as goal
 

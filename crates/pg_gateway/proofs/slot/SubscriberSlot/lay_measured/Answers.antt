@@ -4,29 +4,36 @@ use Rattle.std.specs.Arc.{arc_value}
 use Rattle.pg_gateway.specs.Sharing.{share}
 use Rattle.pg_gateway.specs.Taking.{measured, IsWhole}
 use Rattle.pg_gateway.proofs.Taking.{measured_none, measured_share, measured_whole, fit_at, lays_nothing, lays_some, lays_whole, lays_refused}
+use Rattle.pg_gateway.proofs.MaskLaws.{held_told, rising_told}
 use Rattle.pg_gateway.proofs.slot.SubscriberSlot.lay_measured.Goals as goal
 
-pub returns-then-not-hold_blocks-clause-lays : goal.returns-then-not-hold_blocks-clause-lays
-returns-then-not-hold_blocks-clause-lays c =
-    let none = measured_none (arc_value c.args.frame.now) c.args.places.now c.hold_blocks.new.held.items c.self.inside.subscriber.own.grants c.hold_blocks.ensures.held (c.hold_blocks.ensures.none c.if-not-hold_blocks.true) in
+pub returns-then-not-hold_marked-clause-lays : goal.returns-then-not-hold_marked-clause-lays
+returns-then-not-hold_marked-clause-lays c =
+    let held = held_told c.args.masks.now (arc_value c.args.frame.now).config c.args.places.now c.args.bit c.args.self.now _ c.hold_marked.new.held.items c.self.view_is c.hold_marked.ensures.held c.requires.tell in
+    let rising = rising_told (arc_value c.args.frame.now).config c.args.places.now c.self.inside.subscriber.own.grants c.hold_marked.new.held.items held c.requires.rising in
+    let none = measured_none (arc_value c.args.frame.now) c.args.places.now c.hold_marked.new.held.items c.self.inside.subscriber.own.grants held (c.hold_marked.ensures.none c.if-not-hold_marked.true) in
     lays_nothing (measured (arc_value c.args.frame.now) c.args.places.now) c.args.self.now _ c.self.view_is c.requires.none
     (ap (λ v. share (measured (arc_value c.args.frame.now) c.args.places.now) v.subscriber.own.grants) (sym c.self.view_is) ∙ none)
 
 pub copies-requires : goal.copies-requires
 copies-requires c =
-    let full = (c.hold_blocks.ensures.some c.if-not-hold_blocks.false) in
-    let some = measured_share (arc_value c.args.frame.now) c.args.places.now c.hold_blocks.new.held.items c.self.inside.subscriber.own.grants c.hold_blocks.ensures.held c.hold_blocks.ensures.rising full in
+    let held = held_told c.args.masks.now (arc_value c.args.frame.now).config c.args.places.now c.args.bit c.args.self.now _ c.hold_marked.new.held.items c.self.view_is c.hold_marked.ensures.held c.requires.tell in
+    let rising = rising_told (arc_value c.args.frame.now).config c.args.places.now c.self.inside.subscriber.own.grants c.hold_marked.new.held.items held c.requires.rising in
+    let full = (c.hold_marked.ensures.some c.if-not-hold_marked.false) in
+    let some = measured_share (arc_value c.args.frame.now) c.args.places.now c.hold_marked.new.held.items c.self.inside.subscriber.own.grants held rising full in
     let fit = rw (← c.self.view_is) at c.requires.fit in
     record {
       accepts = record {
-        placed = rw c.deref.ensures.value (record { some = full; rising = c.hold_blocks.ensures.rising });
+        placed = rw c.deref.ensures.value (record { some = full; rising = rising });
         own = rw c.deref.ensures.value (fit_at c.self.inside.subscriber _ _ some fit);
       };
     }
 
 pub returns-in_err-copies-clause-lays : goal.returns-in_err-copies-clause-lays
 returns-in_err-copies-clause-lays c =
-    let some = measured_share (arc_value c.args.frame.now) c.args.places.now c.hold_blocks.new.held.items c.self.inside.subscriber.own.grants c.hold_blocks.ensures.held c.hold_blocks.ensures.rising (c.hold_blocks.ensures.some c.if-not-hold_blocks.false) in
+    let held = held_told c.args.masks.now (arc_value c.args.frame.now).config c.args.places.now c.args.bit c.args.self.now _ c.hold_marked.new.held.items c.self.view_is c.hold_marked.ensures.held c.requires.tell in
+    let rising = rising_told (arc_value c.args.frame.now).config c.args.places.now c.self.inside.subscriber.own.grants c.hold_marked.new.held.items held c.requires.rising in
+    let some = measured_share (arc_value c.args.frame.now) c.args.places.now c.hold_marked.new.held.items c.self.inside.subscriber.own.grants held rising (c.hold_marked.ensures.some c.if-not-hold_marked.false) in
     let needless = rw c.deref.ensures.value at c.in_err-copies.ensures.needless in
     let err = err_from_is_err_and c.from_residual.result c.from_residual.ensures.1 in
     rw (err.1, err.2) (lays_refused (measured (arc_value c.args.frame.now) c.args.places.now) c.args.self.now _ _ _ c.copies.new.self c.self.view_is
@@ -35,7 +42,9 @@ returns-in_err-copies-clause-lays c =
 
 pub returns-then-len-places-clause-lays : goal.returns-then-len-places-clause-lays
 returns-then-len-places-clause-lays c =
-    let some = measured_share (arc_value c.args.frame.now) c.args.places.now c.hold_blocks.new.held.items c.self.inside.subscriber.own.grants c.hold_blocks.ensures.held c.hold_blocks.ensures.rising (c.hold_blocks.ensures.some c.if-not-hold_blocks.false) in
+    let held = held_told c.args.masks.now (arc_value c.args.frame.now).config c.args.places.now c.args.bit c.args.self.now _ c.hold_marked.new.held.items c.self.view_is c.hold_marked.ensures.held c.requires.tell in
+    let rising = rising_told (arc_value c.args.frame.now).config c.args.places.now c.self.inside.subscriber.own.grants c.hold_marked.new.held.items held c.requires.rising in
+    let some = measured_share (arc_value c.args.frame.now) c.args.places.now c.hold_marked.new.held.items c.self.inside.subscriber.own.grants held rising (c.hold_marked.ensures.some c.if-not-hold_marked.false) in
     let ready = rw c.deref.ensures.value at c.in_ok-copies.ensures.ready in
     lays_some (measured (arc_value c.args.frame.now) c.args.places.now) c.args.self.now _ _ c.copies.new.self c.self.view_is c.requires.none
     (ap (λ v. share (measured (arc_value c.args.frame.now) c.args.places.now) v.subscriber.own.grants) (sym c.self.view_is) ∙ some)
@@ -43,10 +52,12 @@ returns-then-len-places-clause-lays c =
 
 pub returns-clause-lays : goal.returns-clause-lays
 returns-clause-lays c =
+    let held = held_told c.args.masks.now (arc_value c.args.frame.now).config c.args.places.now c.args.bit c.args.self.now _ c.hold_marked.new.held.items c.self.view_is c.hold_marked.ensures.held c.requires.tell in
+    let rising = rising_told (arc_value c.args.frame.now).config c.args.places.now c.self.inside.subscriber.own.grants c.hold_marked.new.held.items held c.requires.rising in
     let o = measured (arc_value c.args.frame.now) c.args.places.now in
-    let full = c.hold_blocks.ensures.some c.if-not-hold_blocks.false in
-    let some = measured_share (arc_value c.args.frame.now) c.args.places.now c.hold_blocks.new.held.items c.self.inside.subscriber.own.grants c.hold_blocks.ensures.held c.hold_blocks.ensures.rising full in
-    let whole = measured_whole (arc_value c.args.frame.now) c.args.places.now c.hold_blocks.new.held.items c.self.inside.subscriber.own.grants c.hold_blocks.ensures.held c.hold_blocks.ensures.rising full (omega arith) in
+    let full = c.hold_marked.ensures.some c.if-not-hold_marked.false in
+    let some = measured_share (arc_value c.args.frame.now) c.args.places.now c.hold_marked.new.held.items c.self.inside.subscriber.own.grants held rising full in
+    let whole = measured_whole (arc_value c.args.frame.now) c.args.places.now c.hold_marked.new.held.items c.self.inside.subscriber.own.grants held rising full (omega arith) in
     let ready = rw c.deref.ensures.value at c.in_ok-copies.ensures.ready in
     lays_whole o c.args.self.now _ _ c.copies.new.self c.self.view_is c.requires.none
     (ap (λ v. share o v.subscriber.own.grants) (sym c.self.view_is) ∙ some)

@@ -4,22 +4,23 @@ use Rattle.std.specs.Arc.{arc_value}
 use Rattle.pg_session.specs.Events.{measure, samples_at}
 use Rattle.pg_session.specs.Private.{told}
 use Rattle.pg_gateway.specs.Sharing.{share}
-use Rattle.pg_gateway.specs.Taking.{measured, TakesOffer}
+use Rattle.pg_gateway.specs.Taking.{measured}
 use Rattle.pg_gateway.proofs.Taking.{measured_none, measured_share, whole_some, offer_none, offer_some, fit_at, laid_at}
 use Rattle.std.proofs.lemmas.List.{append-nil}
+use Rattle.pg_gateway.proofs.MaskLaws.{held_told, rising_told}
 use Rattle.pg_gateway.proofs.slot.SubscriberSlot.take_measured.Goals as goal
 
-pub returns-then-not-hold_blocks-clause-takes : goal.returns-then-not-hold_blocks-clause-takes
-returns-then-not-hold_blocks-clause-takes c =
-    let none = measured_none (arc_value c.args.frame.now) c.args.places.now c.hold_blocks.new.held.items c.self.inside.subscriber.own.grants c.hold_blocks.ensures.held (c.hold_blocks.ensures.none c.if-not-hold_blocks.true) in
-    -- (what is guessed next is not seen)
-    subst (λ v. TakesOffer (measured (arc_value c.args.frame.now) c.args.places.now) c.args.lost c.args.self.now (0, 0) v) (sym c.self.view_is)
-    (offer_none (measured (arc_value c.args.frame.now) c.args.places.now) c.args.lost c.args.self.now (ap (λ v. share (measured (arc_value c.args.frame.now) c.args.places.now) v.subscriber.own.grants) (sym c.self.view_is) ∙ none) c.requires.awaits)
+pub returns-then-not-hold_marked-clause-takes : goal.returns-then-not-hold_marked-clause-takes
+returns-then-not-hold_marked-clause-takes c =
+    let held = held_told c.args.masks.now (arc_value c.args.frame.now).config c.args.places.now c.args.bit c.args.self.now _ c.hold_marked.new.held.items c.self.view_is c.hold_marked.ensures.held c.requires.tell in
+    let rising = rising_told (arc_value c.args.frame.now).config c.args.places.now c.self.inside.subscriber.own.grants c.hold_marked.new.held.items held c.requires.rising in
+    let none = measured_none (arc_value c.args.frame.now) c.args.places.now c.hold_marked.new.held.items c.self.inside.subscriber.own.grants held (c.hold_marked.ensures.none c.if-not-hold_marked.true) in
+    offer_none (measured (arc_value c.args.frame.now) c.args.places.now) c.args.lost c.args.self.now (ap (λ v. share (measured (arc_value c.args.frame.now) c.args.places.now) v.subscriber.own.grants) (sym c.self.view_is) ∙ none) c.requires.awaits
 
 pub take-requires-clause-accepts : goal.take-requires-clause-accepts
 take-requires-clause-accepts c =
     let awaits = rw (← c.self.view_is) at c.requires.awaits in
-    let whole = awaits.whole c.if-self.true in
+    let whole = awaits.whole c.if-self-2.true in
     record {
       placed = record { some = whole_some (arc_value c.args.frame.now) c.args.places.now c.self.inside.subscriber.own.grants whole; rising = c.requires.rising };
       own = fit_at c.self.inside.subscriber _ _ whole awaits.fit;
@@ -28,35 +29,41 @@ take-requires-clause-accepts c =
 pub take-requires-clause-ready : goal.take-requires-clause-ready
 take-requires-clause-ready c =
     let awaits = rw (← c.self.view_is) at c.requires.awaits in
-    laid_at c.self.inside.subscriber _ _ (awaits.whole c.if-self.true) awaits.laid
+    laid_at c.self.inside.subscriber _ _ (awaits.whole c.if-self-2.true) awaits.laid
 
-pub returns-then-self-clause-takes : goal.returns-then-self-clause-takes
-returns-then-self-clause-takes c =
+pub returns-then-self-2-clause-takes : goal.returns-then-self-2-clause-takes
+returns-then-self-2-clause-takes c =
     let o = measured (arc_value c.args.frame.now) c.args.places.now in
     let awaits = rw (← c.self.view_is) at c.requires.awaits in
-    rw (← c.self.view_is) (offer_some o c.args.lost _ _ (measure (arc_value c.args.frame.now).soc (arc_value c.args.frame.now).quality (arc_value c.args.frame.now).frac (samples_at (arc_value c.args.frame.now) c.args.places.now)) (told c.take.result) c.counts.result (awaits.whole c.if-self.true) c.take.ensures.takes
+    rw (← c.self.view_is) (offer_some o c.args.lost _ _ (measure (arc_value c.args.frame.now).soc (arc_value c.args.frame.now).quality (arc_value c.args.frame.now).frac (samples_at (arc_value c.args.frame.now) c.args.places.now)) (told c.take.result) c.counts.result (awaits.whole c.if-self-2.true) c.take.ensures.takes
     (λ s h. subst (λ l. audit.ShowsAudit c.self.inside.audit l) (sym (append-nil s.noted)) h.audit) c.counts.ensures.counts (c.counts.ensures.few c.take.ensures.few) c.take.ensures.none)
 
 pub take-requires-2-clause-accepts : goal.take-requires-2-clause-accepts
 take-requires-2-clause-accepts c =
-    let full = (c.hold_blocks.ensures.some c.if-not-hold_blocks.false) in
-    let some = measured_share (arc_value c.args.frame.now) c.args.places.now c.hold_blocks.new.held.items c.self.inside.subscriber.own.grants c.hold_blocks.ensures.held c.hold_blocks.ensures.rising full in
+    let held = held_told c.args.masks.now (arc_value c.args.frame.now).config c.args.places.now c.args.bit c.args.self.now _ c.hold_marked.new.held.items c.self.view_is c.hold_marked.ensures.held c.requires.tell in
+    let rising = rising_told (arc_value c.args.frame.now).config c.args.places.now c.self.inside.subscriber.own.grants c.hold_marked.new.held.items held c.requires.rising in
+    let full = (c.hold_marked.ensures.some c.if-not-hold_marked.false) in
+    let some = measured_share (arc_value c.args.frame.now) c.args.places.now c.hold_marked.new.held.items c.self.inside.subscriber.own.grants held rising full in
     let awaits = rw (← c.self.view_is) at c.requires.awaits in
     record {
-      placed = rw c.deref.ensures.value (record { some = full; rising = c.hold_blocks.ensures.rising });
+      placed = rw c.deref.ensures.value (record { some = full; rising = rising });
       own = rw c.deref.ensures.value (fit_at c.self.inside.subscriber _ _ some awaits.fit);
     }
 
 pub take-requires-2-clause-ready : goal.take-requires-2-clause-ready
 take-requires-2-clause-ready c =
-    let full = (c.hold_blocks.ensures.some c.if-not-hold_blocks.false) in
-    let some = measured_share (arc_value c.args.frame.now) c.args.places.now c.hold_blocks.new.held.items c.self.inside.subscriber.own.grants c.hold_blocks.ensures.held c.hold_blocks.ensures.rising full in
+    let held = held_told c.args.masks.now (arc_value c.args.frame.now).config c.args.places.now c.args.bit c.args.self.now _ c.hold_marked.new.held.items c.self.view_is c.hold_marked.ensures.held c.requires.tell in
+    let rising = rising_told (arc_value c.args.frame.now).config c.args.places.now c.self.inside.subscriber.own.grants c.hold_marked.new.held.items held c.requires.rising in
+    let full = (c.hold_marked.ensures.some c.if-not-hold_marked.false) in
+    let some = measured_share (arc_value c.args.frame.now) c.args.places.now c.hold_marked.new.held.items c.self.inside.subscriber.own.grants held rising full in
     let awaits = rw (← c.self.view_is) at c.requires.awaits in
     rw c.deref.ensures.value (laid_at c.self.inside.subscriber _ _ some awaits.laid)
 
 pub returns-clause-takes : goal.returns-clause-takes
 returns-clause-takes c =
-    let some = measured_share (arc_value c.args.frame.now) c.args.places.now c.hold_blocks.new.held.items c.self.inside.subscriber.own.grants c.hold_blocks.ensures.held c.hold_blocks.ensures.rising (c.hold_blocks.ensures.some c.if-not-hold_blocks.false) in
+    let held = held_told c.args.masks.now (arc_value c.args.frame.now).config c.args.places.now c.args.bit c.args.self.now _ c.hold_marked.new.held.items c.self.view_is c.hold_marked.ensures.held c.requires.tell in
+    let rising = rising_told (arc_value c.args.frame.now).config c.args.places.now c.self.inside.subscriber.own.grants c.hold_marked.new.held.items held c.requires.rising in
+    let some = measured_share (arc_value c.args.frame.now) c.args.places.now c.hold_marked.new.held.items c.self.inside.subscriber.own.grants held rising (c.hold_marked.ensures.some c.if-not-hold_marked.false) in
     let takes = rw c.deref.ensures.value at c.take-2.ensures.takes in
-    rw (← c.self.view_is) (offer_some (measured (arc_value c.args.frame.now) c.args.places.now) c.args.lost _ _ (measure (arc_value c.args.frame.now).soc (arc_value c.args.frame.now).quality (arc_value c.args.frame.now).frac (samples_at (arc_value c.args.frame.now) c.hold_blocks.new.held.items)) (told c.take-2.result) c.counts-2.result some takes
+    rw (← c.self.view_is) (offer_some (measured (arc_value c.args.frame.now) c.args.places.now) c.args.lost _ _ (measure (arc_value c.args.frame.now).soc (arc_value c.args.frame.now).quality (arc_value c.args.frame.now).frac (samples_at (arc_value c.args.frame.now) c.hold_marked.new.held.items)) (told c.take-2.result) c.counts-2.result some takes
     (λ s h. subst (λ l. audit.ShowsAudit c.self.inside.audit l) (sym (append-nil s.noted)) h.audit) c.counts-2.ensures.counts (c.counts-2.ensures.few c.take-2.ensures.few) c.take-2.ensures.none)
