@@ -5,7 +5,7 @@
 
 PROGRAM is `pdcgw` as `rt run` left it in crates/pdcgw/out; a C compiler is needed. Without scripts it takes two worked rows. Allowed is
 
-- the end with status 1 and `pdcgw: 1 NoMemory`, behind answers that are right as far as they go;
+- the end with status 1, words that say so and `pdcgw: 1 NoMemory`, behind answers that are right as far as they go;
 - `refused 1 NoMemory` or `ignored 1 NoMemory`: from there on the answers have to be those of the script without that line, counters of
   refusals and the audit aside;
 - `done MADE KEPT` with fewer kept than with memory: these frames are missing from what is handed out and are counted as a gap; each
@@ -22,6 +22,7 @@ import tempfile
 HERE = os.path.dirname(os.path.abspath(__file__))
 ROWS = os.path.join(HERE, "..", "crates", "pdcgw_rows", "data")
 NO_MEMORY = (["refused 1 NoMemory"], ["ignored 1 NoMemory"])
+OUT_OF_MEMORY = "pdcgw: memory ran out; the system has to give more, or the setup to ask for less\npdcgw: 1 NoMemory\n"
 # A line that is no line of a script is answered by this: it stands behind each line and parts the answers.
 MARK = "refused 36 BadLine"
 
@@ -120,7 +121,7 @@ def kept(group):
 def judge(program, lines, at):
     """What is wrong with the run in which allocation `at` is refused, and what came of it."""
     status, said, groups, _ = program.run(lines, at)
-    if (status, said) not in ((0, ""), (1, "pdcgw: 1 NoMemory\n")):
+    if (status, said) not in ((0, ""), (1, OUT_OF_MEMORY)):
         return f"status {status}, {said!r}", ""
     if status == 0 and len(groups) != len(lines) + 1:
         return f"{len(groups) - 1} answers to {len(lines)} lines", ""

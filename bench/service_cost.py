@@ -24,7 +24,7 @@ RATE = 60
 # (its own, so that it can run beside the other scripts)
 service.FIRST_SOURCE_PORT, service.FIRST_PORT = 21_100, 21_300
 # What is text alone in a replay: its script's lines and hexadecimal digits are read, and its answers printed.
-TEXT = re.compile(r"pg_replay|pg_operator|hex::|hex\d*_|memchr|fmt|StdoutLock|BufWriter|LineWriter|write_all|read_line|stdin|StdinLock", re.I)
+TEXT = re.compile(r"pg_replay|pg_operator|hex::|hex\d*_|memchr|itoa|fmt|StdoutLock|BufWriter|LineWriter|write_all|read_line|stdin|StdinLock", re.I)
 
 
 class Players:

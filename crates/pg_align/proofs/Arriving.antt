@@ -66,6 +66,19 @@ module _ {X : Type 0} where
       let below = count_more slot slots i here r.1 e l in
       rw yes (omega (arith, below))
 
+  -- one that is this one has those before it below, as their numbers rise
+  pub count_here : (slot : ℕ) (slots : List (OpenSlot X)) (i : ℕ) (here : OpenSlot X) → AreRising slots → slice_get slots i ≡ Some here → here.slot ≡ slot → i ≡ count_below slot slots
+  count_here slot [] i here r e s = absurd cc
+  count_here slot (first ∷ slots) zero here r e s =
+      let same : first ≡ here = cc in
+      let high : first.slot ≡ slot = cc in
+      let no : nat_lt first.slot slot ≡ false = grind (arith, common_steps) in
+      rw no
+  count_here slot (first ∷ slots) (suc i) here r e s =
+      let high : first.slot < here.slot = after_at first.slot slots i here r.0 e in
+      let yes : nat_lt first.slot slot ≡ true = grind (arith, common_steps) in
+      rw yes (ap suc (count_here slot slots i here r.1 e s))
+
   others_after : (slot high : ℕ) (slots : List (OpenSlot X)) → AreAfter high slots → slot ≤ high → others_than slot slots ≡ length slots
   others_after slot high [] h l = refl
   others_after slot high (first ∷ slots) h l =

@@ -1,5 +1,5 @@
 -- What slots count as missing.
-use Rattle.std.proofs.Common.{◌≡◌, ℕ, zero, suc, ◌+◌, ◌-◌, ◌<◌, Bool, true, false, ◌||◌, ◌&&◌, if◌then◌else◌, List, [], ◌∷◌, length, get_or, set, drop, replicate, Option, Some, None, is_some, refl, sym, ap, arith}
+use Rattle.std.proofs.Common.{◌≡◌, ℕ, zero, suc, ◌+◌, ◌-◌, ◌<◌, Bool, true, false, ◌||◌, ◌&&◌, if◌then◌else◌, List, [], ◌∷◌, ◌++◌, length, get_or, set, drop, replicate, Option, Some, None, is_some, refl, sym, ap, arith}
 use Rattle.std.specs.Prelude.{IsTrue, not, nat_lt, insert, slice_get, ◌==◌}
 use Rattle.std.proofs.lemmas.List.{drop_more, length-map}
 use Rattle.std.proofs.lemmas.Grind.{common_steps}
@@ -104,3 +104,7 @@ counted-insert effective [] zero slot h e = (e, tt)
 counted-insert effective [] (suc at) slot h e = (e, tt)
 counted-insert effective (first ∷ slots) zero slot h e = (e, h)
 counted-insert effective (first ∷ slots) (suc at) slot h e = (h.0, counted-insert effective slots at slot h.1 e)
+
+pub counted-end : (effective : List Bool) (slots : List Slot) (slot : Slot) → AreCounted effective slots → slot.missing ≡ lacking effective slot.parts.items → AreCounted effective (slots ++ slot ∷ [])
+counted-end effective [] slot h e = (e, tt)
+counted-end effective (first ∷ slots) slot h e = (h.0, counted-end effective slots slot h.1 e)

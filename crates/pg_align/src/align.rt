@@ -1,5 +1,5 @@
 //! The alignment of a stream. A clause sees it as its open slots.
-ghost use Rattle.std.specs.Prelude.{◌≡◌, ◌<◌, ◌≤◌, ◌↔◌, ℕ, List, [], ◌∷◌, length, slice_index_or, option_map, Option, Some, None, IsTrue, IfSome, IfNone, IsSome, IfOk, IfErr, nat_le, Bool, false};
+ghost use Rattle.std.specs.Prelude.{◌≡◌, ◌<◌, ◌≤◌, ◌↔◌, ℕ, List, [], ◌∷◌, length, slice_index_or, option_map, Option, Some, None, IsTrue, IfSome, IfNone, IsSome, is_some, IfOk, IfErr, nat_le, Bool, false};
 ghost use Rattle.std.specs.Borrow.{sem};
 ghost use Rattle.pg_data.specs.Pieces.{Piece};
 ghost use Rattle.pg_stream.specs.Limits.{IsWithinLimits};
@@ -200,6 +200,15 @@ impl Align {
         tick_all(&mut self.slots);
     }
 
+    /// Whether a slot is to leave: `leave_next` would answer with one.
+    #[inline(always)]
+    pub fn is_leaving(&self) -> bool
+        ensures shown { result ≡ is_some (leaving_of self.now) }
+        ensures history { (h : StreamHistory Piece) → Shows self.now h → result ≡ is_some (next_to_leave h) }
+    {
+        least_is_leaving(&self.slots, self.window)
+    }
+
     /// The least open slot leaves if each effective member has come, if it is due, or if more than the window are open. It
     /// is lent until the next call.
     #[tactic(auto, using(crate::proofs::Kept::kept_steps))]
@@ -254,6 +263,7 @@ fn is_after(last: Option<u64>, slot: u64) -> bool
 }
 
 /// Whether the least slot is complete or due, or one of more than the window.
+#[inline(always)]
 fn least_is_leaving(slots: &[Slot], window: usize) -> bool
     ensures leaves { (effective : List Bool) → AreCounted effective slots.now
         → result ≡ leaves_now window effective (slots_of slots.now) }

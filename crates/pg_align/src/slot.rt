@@ -81,6 +81,12 @@ pub(crate) fn take_least(slots: &mut Vec<Slot>) -> Slot
     ensures len { length slots.old.items ≡ length slots.new.items + 1 }
     ensures capacity { vec_capacity slots.new ≡ vec_capacity slots.old }
 {
+    // Mostly it is the only one, and then none is moved.
+    if slots.len() == 1
+        && let Some(only) = slots.pop()
+    {
+        return only;
+    }
     slots.remove(0)
 }
 
@@ -102,7 +108,6 @@ pub(crate) fn take_back(leaving: &mut Option<Slot>, spare: &mut Vec<Slot>)
 }
 
 /// The same, mostly called where one was lent.
-#[inline(never)]
 #[tactic(auto, using(crate::proofs::Kept::kept_steps))]
 fn give_back(leaving: &mut Option<Slot>, spare: &mut Vec<Slot>)
     requires room { vec_len spare.old + length (lent leaving.old) ≤ vec_capacity spare.old }
@@ -158,6 +163,14 @@ fn place_of(slots: &[Slot], number: u64) -> Result<usize, usize>
         × (others_than number (slots_of slots.now) ≡ length slots.now)) }
     ensures within { IfErr result (λ at. at ≤ length slots.now) }
 {
+    if slots.is_empty() {
+        return Err(0);
+    }
+    // Mostly it is the newest one.
+    let newest = slots.len() - 1;
+    if slots[newest].number == number {
+        return Ok(newest);
+    }
     let at = first_from(slots, number);
     if at < slots.len() && slots[at].number == number {
         Ok(at)
@@ -206,6 +219,11 @@ fn open_slot(slots: &mut Vec<Slot>, at: usize, mut fresh: Slot, place: usize, pa
 {
     fresh.parts[place] = Some(part);
     fresh.missing = fresh.missing.saturating_sub(1);
+    // Mostly the slot is the newest, and then none is moved.
+    if at == slots.len() {
+        slots.push_reserved(fresh);
+        return;
+    }
     let Ok(()) = slots.insert(at, fresh) else {
         unreachable!();
     };

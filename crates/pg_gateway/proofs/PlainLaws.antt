@@ -9,6 +9,8 @@ use Rattle.pg_session.specs.declared.event.PrivateReply.{PrivateReply}
 use Rattle.pg_gateway.specs.State.{noted_as}
 use Rattle.pg_gateway.specs.declared.event.Event.{Event}
 use Rattle.pg_gateway.specs.declared.event.Event.TheVariants as kind
+use Rattle.pg_gateway.specs.declared.event.Reply.{Reply}
+use Rattle.pg_gateway.specs.Posting as posting
 use Rattle.pg_gateway.specs.Taking.{IsForAll}
 
 none_noted : (what : What) → None ≡ Some what → ⊥
@@ -72,3 +74,26 @@ else_for_all (kind.DropPmu key) nAddPmu nAddSub nDropSub nGrant nRevoke nDefine 
 else_for_all (kind.Announce config) nAddPmu nAddSub nDropSub nGrant nRevoke nDefine nRemove nConnect nHangup nCommand nDrain nStats nPmuStats nAudit nStanding nWhoWaits = tt
 else_for_all (kind.Measure frame) nAddPmu nAddSub nDropSub nGrant nRevoke nDefine nRemove nConnect nHangup nCommand nDrain nStats nPmuStats nAudit nStanding nWhoWaits = tt
 else_for_all (kind.Tick soc) nAddPmu nAddSub nDropSub nGrant nRevoke nDefine nRemove nConnect nHangup nCommand nDrain nStats nPmuStats nAudit nStanding nWhoWaits = tt
+
+-- all but a drain are answered without a buffer
+pub plain_answers : (e : Event) (r : Reply) → ((u : _) → (buf : _) → e ≡ kind.Drain u buf → ⊥) → posting.IsPlain r → posting.Answers e r
+plain_answers (kind.Drain u buf) r none plain = absurd (none u buf refl)
+plain_answers (kind.AddPmu key) r none plain = plain
+plain_answers (kind.DropPmu key) r none plain = plain
+plain_answers (kind.AddSub u size bytes) r none plain = plain
+plain_answers (kind.DropSub u) r none plain = plain
+plain_answers (kind.Grant u key) r none plain = plain
+plain_answers (kind.Revoke u key) r none plain = plain
+plain_answers (kind.Define u definition) r none plain = plain
+plain_answers (kind.Remove u number) r none plain = plain
+plain_answers (kind.Announce config) r none plain = plain
+plain_answers (kind.Measure frame) r none plain = plain
+plain_answers (kind.Tick soc) r none plain = plain
+plain_answers (kind.Connect u) r none plain = plain
+plain_answers (kind.Hangup u) r none plain = plain
+plain_answers (kind.Command u asked) r none plain = plain
+plain_answers (kind.Stats u) r none plain = plain
+plain_answers (kind.PmuStats key) r none plain = plain
+plain_answers (kind.WhoWaits subs) r none plain = plain
+plain_answers (kind.Audit u index) r none plain = plain
+plain_answers (kind.Standing u place) r none plain = plain

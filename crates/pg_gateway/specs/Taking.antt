@@ -1,5 +1,5 @@
 -- How an event for all is lent to each subscriber, and how that goes on.
-use Rattle.std.specs.Prelude.{◌≡◌, ◌≢◌, ◌⊎◌, ◌≤◌, ℕ, Bool, true, false, List, [], length, Option, Some, None, Result, IfOk, IfErr, IsOk}
+use Rattle.std.specs.Prelude.{◌≡◌, ◌≢◌, ◌⊎◌, ◌≤◌, ℕ, Bool, true, false, List, [], length, Option, Some, None, Result, Ok, Err, IfOk, IfErr, IsOk}
 use Rattle.std.specs.Arc.{arc_value}
 use Rattle.pg_wire.specs.declared.ids.PmuKey.{PmuKey}
 use Rattle.pg_config.specs.Parts.{Part, Source}
@@ -29,6 +29,11 @@ use Rattle.pg_gateway.specs.Frugal.{Spares}
 -- the blocks of a frame at some places
 abbrev pub measured : Measurement → List ℕ → Offer
 measured m places = measures m.soc m.quality m.frac (samples_at m places)
+
+-- what comes of an event for all: the frames made and those kept, or why it is refused
+abbrev pub told_to_all : Result (ℕ × ℕ) Refusal → Answer
+told_to_all (Ok counts) = tells (done counts.0 counts.1)
+told_to_all (Err r) = tells (refused r)
 
 -- What an event is to all subscribers, with these places of a frame's PMUs. The others are nothing to them.
 abbrev pub offered : Event → List ℕ → Offer

@@ -2,25 +2,29 @@
 
 ghost use Rattle.std.specs.Prelude.{◌≡◌, nat_eq, nat_le, length, is_some, option_map, true, false, IfOk, IfErr};
 ghost use Rattle.std.specs.Map.{lookup};
+ghost use Rattle.std.specs.Arc.{arc_value};
 ghost use Rattle.std.specs.Option.{option_map_or};
 ghost use Rattle.pg_registry.specs.Registered.{has_source};
-ghost use Rattle.pg_gateway.specs.Occurrences.{occurrence, told};
+ghost use Rattle.pg_gateway.specs.Occurrences.{occurrence, told, measure};
 ghost use Rattle.pg_gateway.specs.State.{SharedMachine, opening, slot_of, own_of};
 ghost use Rattle.pg_gateway.specs.Shown.{SlotValue, GatewayShows, Goes, IsWithinLimits};
 ghost use Rattle.pg_gateway.specs.Alike.{LeavesAlike, TakesOwnBlocks};
 ghost use Rattle.pg_gateway.specs.Frugal.{Frugal};
 ghost use Rattle.pg_gateway.specs.Posting.{Answers};
+ghost use Rattle.pg_gateway.specs.Taking.{told_to_all};
 ghost use Rattle.pg_gateway.specs.Consistent.{IsPosted};
 ghost use Rattle.pg_gateway.specs.Routes.{KeepsRoutes};
 
 use crate::event::{Event, Reply};
-use crate::kernel::Kernel;
+use crate::kernel::{Kernel, reply_to_all};
 use crate::routes::Routes;
 use crate::slot::announced;
+use pg_data::DataFrame;
 use pg_ring::OutQueue;
 use pg_wire::{PmuId, Refusal, SubId};
 use std::alloc::Global;
 use std::marker::Model;
+use std::sync::Arc;
 
 /// The gateway of one thread: at most 256 registered PMUs and 64 subscribers (own rule).
 #[derive(Drop)]
@@ -81,6 +85,40 @@ impl Gateway {
     ///
     /// A drain is answered with a drain's reply, and a buffer as long as the event's; all other events without a buffer.
     pub fn step(&mut self, event: Event) -> Reply
+        ensures goes { Goes self.old (occurrence event) (told result) self.new }
+        ensures alike { LeavesAlike self.old (occurrence event) (told result) }
+        ensures own_blocks { TakesOwnBlocks self.old (occurrence event) (told result) }
+        ensures frugal { Frugal self.old (occurrence event) (told result) }
+        ensures answers { Answers event result }
+        ensures limits { IsWithinLimits self.new }
+    {
+        match event {
+            Event::Measure(frame) => reply_to_all(self.measure(&frame)),
+            other => self.step_other(other),
+        }
+    }
+
+    /// Takes one data frame: the step of its `Event::Measure`. It answers how many data frames were made for all subscribers, and how
+    /// many of them found memory; a reply has room for all counters, and costs more to hand on.
+    ///
+    /// # Errors
+    ///
+    /// The refusal that the reply tells: the first of a block, `NoSuchPmu` where none is of a registered PMU, or `NoMemory`.
+    pub fn measure(&mut self, frame: &Arc<DataFrame>) -> Result<(u64, u64), Refusal>
+        ensures goes { Goes self.old (measure (arc_value frame.now)) (told_to_all result) self.new }
+        ensures alike { LeavesAlike self.old (measure (arc_value frame.now)) (told_to_all result) }
+        ensures own_blocks { TakesOwnBlocks self.old (measure (arc_value frame.now)) (told_to_all result) }
+        ensures frugal { Frugal self.old (measure (arc_value frame.now)) (told_to_all result) }
+        ensures limits { IsWithinLimits self.new }
+    {
+        let counts = self.kernel.measure(frame, &mut self.routes);
+        self.kernel.tell_limits();
+        counts
+    }
+
+    /// Takes any event. It is a function of its own, so that nothing of what the others need is made ready for a data frame.
+    #[inline(never)]
+    fn step_other(&mut self, event: Event) -> Reply
         ensures goes { Goes self.old (occurrence event) (told result) self.new }
         ensures alike { LeavesAlike self.old (occurrence event) (told result) }
         ensures own_blocks { TakesOwnBlocks self.old (occurrence event) (told result) }

@@ -18,7 +18,7 @@ ghost use Rattle.pg_gateway.specs.Posting.{IsPlain, KeepsBuffer};
 ghost use Rattle.pg_gateway.specs.Taking.{MayCopy};
 ghost use Rattle.pg_gateway.specs.Consistent.{IsReached};
 ghost use Rattle.pg_gateway.specs.Posting.{Answers};
-ghost use Rattle.pg_gateway.specs.Taking.{IsForAll};
+ghost use Rattle.pg_gateway.specs.Taking.{IsForAll, told_to_all};
 ghost use Rattle.pg_gateway.specs.Routes.{IsRouted};
 ghost use Rattle.pg_session.specs.Ready.{AreRising};
 ghost use Rattle.std.specs.Arc.{arc_value};
@@ -135,19 +135,19 @@ impl Kernel {
             Event::Audit(sub, index) => self.audit(sub, index),
             Event::Standing(sub, place) => self.standing(sub, place),
             Event::WhoWaits(subs) => self.who_waits(subs),
-            for_all => self.step_all(&for_all, routes),
+            for_all => reply_to_all(self.step_all(&for_all, routes)),
         }
     }
 
-    /// An event for all: a PMU is dropped, an announcement, a measurement, a tick. There is no reply to another.
-    fn step_all(&mut self, event: &Event, routes: &mut Routes) -> Reply
+    /// An event for all: a PMU is dropped, an announcement, a measurement, a tick. There is no reply to another. It answers the data
+    /// frames made, and those of them that found memory: a small result, as a reply has room for all counters.
+    fn step_all(&mut self, event: &Event, routes: &mut Routes) -> Result<(u64, u64), Refusal>
         requires all { IsForAll event.now }
         requires reached { IsReached self.old }
         requires routed { IsRouted self.old routes.old }
         ensures routed { IsRouted self.old routes.new }
-        ensures goes { Goes self.old (occurrence event.now) (told result) self.new }
-        ensures copies { MayCopy (occurrence event.now) → Frugal self.old (occurrence event.now) (told result) }
-        ensures answers { Answers event.now result }
+        ensures goes { Goes self.old (occurrence event.now) (told_to_all result) self.new }
+        ensures copies { MayCopy (occurrence event.now) → Frugal self.old (occurrence event.now) (told_to_all result) }
     {
         match event {
             Event::DropPmu(key) => self.drop_pmu(event, key),
@@ -291,44 +291,41 @@ impl Kernel {
     }
 
     /// A tick.
-    fn tick(&mut self, event: &Event, soc: u32) -> Reply
+    fn tick(&mut self, event: &Event, soc: u32) -> Result<(u64, u64), Refusal>
         requires kind { IsNoFrame event.now }
         requires event { offered event.now [] ≡ ticks soc }
         requires rising { IsRising event.now [] }
-        ensures goes { Goes self.old (tick soc) (told result) self.new }
-        ensures plain { IsPlain result }
+        ensures goes { Goes self.old (tick soc) (told_to_all result) self.new }
     {
         let (made, kept) = fan_out(&mut self.subs, event, &[], &mut self.held);
         self.last_tick = Some(soc);
-        Reply::Done { made, kept }
+        Ok((made, kept))
     }
 
     /// A PMU leaves the registry, and is revoked from each subscriber that holds it.
-    fn drop_pmu(&mut self, event: &Event, key: &PmuKey) -> Reply
+    fn drop_pmu(&mut self, event: &Event, key: &PmuKey) -> Result<(u64, u64), Refusal>
         requires kind { IsNoFrame event.now }
         requires event { offered event.now [] ≡ revokes key.now }
         requires rising { IsRising event.now [] }
-        ensures goes { Goes self.old (drop_pmu key.now) (told result) self.new }
-        ensures plain { IsPlain result }
+        ensures goes { Goes self.old (drop_pmu key.now) (told_to_all result) self.new }
     {
         if !self.registry.has(*key) {
-            return Reply::Refused(Refusal::NoSuchPmu);
+            return Err(Refusal::NoSuchPmu);
         }
         let _dropped = self.registry.drop_pmu(*key);
         let (made, kept) = fan_out(&mut self.subs, event, &[], &mut self.held);
-        Reply::Done { made, kept }
+        Ok((made, kept))
     }
 
     /// A source announced a configuration. All copies are made before anything changes.
-    fn announce(&mut self, event: &Event, config: &SourceConfig) -> Reply
+    fn announce(&mut self, event: &Event, config: &SourceConfig) -> Result<(u64, u64), Refusal>
         requires kind { IsNoFrame event.now }
         requires event { (places : List ℕ) → offered event.now places ≡ announces (announced_at config.now places) }
         requires rising { (places : List ℕ) → AreRising 0 (length config.now.parts) places → IsRising event.now places }
-        ensures goes { Goes self.old (announce config.now) (told result) self.new }
-        ensures plain { IsPlain result }
+        ensures goes { Goes self.old (announce config.now) (told_to_all result) self.new }
     {
         if !has_registered(config, &self.registry, &mut self.taken) {
-            return Reply::Refused(Refusal::NoSuchPmu);
+            return Err(Refusal::NoSuchPmu);
         }
         match copy_announced(
             &mut self.subs,
@@ -341,24 +338,27 @@ impl Kernel {
             Err(refusal) => {
                 self.copies.clear();
                 count_first(&mut self.registry, config, &self.taken);
-                return Reply::Refused(refusal);
+                return Err(refusal);
             }
             Ok(_) => {}
         }
         announce_all(&mut self.registry, config, &self.taken, &mut self.copies);
         let (made, kept) = fan_out(&mut self.subs, event, &self.taken, &mut self.held);
-        Reply::Done { made, kept }
+        Ok((made, kept))
     }
 
     /// A source sent a data frame. All copies are made before anything changes. Subscribers that hold no PMU of a block that was
     /// taken are not visited.
-    fn measure(&mut self, frame: &Arc<DataFrame>, routes: &mut Routes) -> Reply
+    pub(crate) fn measure(
+        &mut self,
+        frame: &Arc<DataFrame>,
+        routes: &mut Routes,
+    ) -> Result<(u64, u64), Refusal>
         requires reached { IsReached self.old }
         requires routed { IsRouted self.old routes.old }
         ensures routed { IsRouted self.old routes.new }
-        ensures goes { Goes self.old (measure (arc_value frame.now)) (told result) self.new }
-        ensures frugal { Frugal self.old (measure (arc_value frame.now)) (told result) }
-        ensures plain { IsPlain result }
+        ensures goes { Goes self.old (measure (arc_value frame.now)) (told_to_all result) self.new }
+        ensures frugal { Frugal self.old (measure (arc_value frame.now)) (told_to_all result) }
     {
         let some = judge_shared(
             frame,
@@ -369,7 +369,7 @@ impl Kernel {
         );
         if !some {
             count_blocks(&mut self.registry, &self.judged);
-            return Reply::Refused(first_refusal(&self.judged));
+            return Err(first_refusal(&self.judged));
         }
         routes.refresh(&self.registry, &self.subs);
         let marks = routes.union_of(&self.judged);
@@ -384,7 +384,7 @@ impl Kernel {
         ) {
             Err(refusal) => {
                 count_memory(&mut self.registry, &self.judged);
-                return Reply::Refused(refusal);
+                return Err(refusal);
             }
             Ok(_) => {}
         }
@@ -397,7 +397,7 @@ impl Kernel {
             &self.masks,
             &mut self.held,
         );
-        Reply::Done { made, kept }
+        Ok((made, kept))
     }
 
     /// A subscriber's counters are asked for.
@@ -450,5 +450,16 @@ impl Kernel {
         ensures plain { IsPlain result }
     {
         Reply::Waiting(waiting_among(&self.subs, subs))
+    }
+}
+
+/// The reply to an event for all.
+pub(crate) fn reply_to_all(shared: Result<(u64, u64), Refusal>) -> Reply
+    ensures told { told result ≡ told_to_all shared }
+    ensures plain { IsPlain result }
+{
+    match shared {
+        Ok((made, kept)) => Reply::Done { made, kept },
+        Err(refusal) => Reply::Refused(refusal),
     }
 }

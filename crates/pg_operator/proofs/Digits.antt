@@ -1,32 +1,33 @@
 -- Hexadecimal digits by a table.
-use Rattle.std.proofs.Common.{◌≡◌, ◌≤◌, ◌<◌, ℕ, zero, suc, ◌+◌, ◌*◌, ◌%◌, Bool, true, ◌&&◌, ◌==◌, inl, inr, List, [], ◌∷◌, length, slice_index, Option, Some, None, unwrap_or, Result, Ok, Err, refl, ap, arith}
+use Rattle.std.proofs.Common.{◌≡◌, ◌≤◌, ◌<◌, ℕ, zero, suc, ◌+◌, ◌*◌, ◌%◌, Bool, true, ◌&&◌, ◌==◌, inl, inr, List, [], ◌∷◌, ◌++◌, take, length, slice_index, Option, Some, None, unwrap_or, Result, Ok, Err, refl, ap, arith}
+use Rattle.std.proofs.Math.Seq.{take-append_seam}
 use Rattle.std.proofs.lemmas.Bool.{and_parts, cases_lt, eqb-true}
 use Rattle.hex.specs.Hex.{hex_digit_value, digit_or_error, pair_value, decode_pairs, ◌>>=◌}
 use Rattle.hex.specs.declared.error.FromHexError.{FromHexError}
 use Rattle.pg_operator.specs.Words.{hex_in, decoded}
 
--- whether entry c is the digit's value, or 256
-abbrev holds_at : List ℕ → ℕ → Bool
-holds_at t c = slice_index t c == unwrap_or (hex_digit_value c) 256
+-- whether f and g agree below n
+abbrev pub agree : (ℕ → ℕ) → (ℕ → ℕ) → ℕ → Bool
+agree f g zero = true
+agree f g (suc n) = (f n == g n) && agree f g n
 
--- the same of the first n entries
-abbrev all_hold : List ℕ → ℕ → Bool
-all_hold t zero = true
-all_hold t (suc n) = holds_at t n && all_hold t n
-
-all_hold-at : (t : List ℕ) (n k : ℕ) → all_hold t n ≡ true → k < n → holds_at t k ≡ true
-all_hold-at t zero k h lt = absurd (omega arith)
-all_hold-at t (suc n) k h lt =
-    let parts = and_parts (holds_at t n) (all_hold t n) h in
+pub agree-at : (f g : ℕ → ℕ) (n k : ℕ) → agree f g n ≡ true → k < n → f k ≡ g k
+agree-at f g zero k h lt = absurd (omega arith)
+agree-at f g (suc n) k h lt =
+    let parts = and_parts (f n == g n) (agree f g n) h in
     elim (cases_lt k n) [
-      | inl below ↦ all_hold-at t n k parts.1 below
+      | inl below ↦ agree-at f g n k parts.1 below
       | inr top ↦
           let e : k ≡ n = omega arith in
-          rw e parts.0
+          rw e (eqb-true _ _ parts.0)
     ]
 
-pub digit_at : (t : List ℕ) → all_hold t 256 ≡ true → (c : ℕ) → c < 256 → slice_index t c ≡ unwrap_or (hex_digit_value c) 256
-digit_at t test c h = eqb-true _ _ (all_hold-at t 256 c test h)
+-- the entry of c in the table: its value, or 256
+abbrev entry : ℕ → ℕ
+entry c = unwrap_or (hex_digit_value c) 256
+
+pub digit_at : (t : List ℕ) → agree (slice_index t) entry 256 ≡ true → (c : ℕ) → c < 256 → slice_index t c ≡ unwrap_or (hex_digit_value c) 256
+digit_at t test c h = agree-at (slice_index t) entry 256 c test h
 
 -- two digits, by what they stand for
 abbrev pair_by : ℕ → ℕ → ℕ → Option ℕ → Option ℕ → Result ℕ FromHexError
@@ -64,3 +65,7 @@ pair_err a b i h = pair_by-err a b i (hex_digit_value a) (hex_digit_value b) (sm
 pub hex_in-pairs : (w : List ℕ) → 0 < length w → length w % 2 ≡ 0 → hex_in w ≡ decoded (decode_pairs 0 w)
 hex_in-pairs [] some even = absurd (omega arith)
 hex_in-pairs (c ∷ cs) some even = ap decoded (grind (arith))
+
+-- a slice of all bytes, put back
+pub put_back : (bytes rest : List ℕ) (n : ℕ) → n ≡ length bytes → take n (bytes ++ rest) ≡ bytes
+put_back bytes rest n is = rw is (take-append_seam bytes rest)

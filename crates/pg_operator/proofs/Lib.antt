@@ -3,3 +3,4 @@ pub mod Cutting
 pub mod Numerals
 pub mod Digits
 pub mod Counts
+pub mod HexLanes

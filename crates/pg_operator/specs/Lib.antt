@@ -4,3 +4,5 @@ pub mod Verbs
 pub mod Lines
 pub mod Addresses
 pub mod Steers
+-- only private contracts and proofs use these
+pub mod HexLanes

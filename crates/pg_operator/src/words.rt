@@ -2,16 +2,18 @@
 //!
 //! Each reader answers `None`, or `BadLine`, for a word that is not of its form.
 
-ghost use Rattle.std.specs.Prelude.{◌≡◌, ◌≤◌, ◌⊎◌, ◌<◌, codes, IfOk, IfErr, IfSome, Some, None, option_map, true, unwrap_or};
-ghost use Rattle.std.specs.List.{list_all};
+ghost use Rattle.std.specs.Prelude.{◌≡◌, ◌≤◌, ◌⊎◌, ◌<◌, ◌+◌, ◌*◌, length, map, slice_index, codes, IfOk, IfErr, IfSome, Some, None, option_map, true, unwrap_or};
+ghost use Rattle.std.specs.List.{list_all, range_with_len};
 ghost use Rattle.std.specs.Char.{is_ascii_digit};
 ghost use Rattle.std.specs.Str.Parse.{digits_value};
 ghost use Rattle.hex.specs.Hex.{hex_digit_value};
 ghost use Rattle.pg_operator.specs.Words.{is_number, number_in, halves, pmu_id_in, stream_id_in, subscriber_in, ring_size_in, ring_bytes_in, pair_in, key_in, hex_in, ends_in_plus, frame_in};
+ghost use Rattle.pg_operator.specs.HexLanes.{lane_value, joined_value, IsReadTo};
 
 use pg_ring::{RingBytes, RingSize};
 use pg_wire::{PmuId, PmuKey, Refusal, StreamId, SubId};
 use std::alloc::Global;
+use std::simd::prelude::*;
 
 /// A number from `least` to `most`: `0`, or one to ten decimal digits without a leading zero or a sign.
 pub fn number(word: &str, least: u32, most: u32) -> Option<u32>
@@ -161,7 +163,8 @@ pub fn hex_bytes(alloc: Global, word: &[u8]) -> Result<Vec<u8>, Refusal>
         return Err(Refusal::BadLine);
     }
     let mut out = vec![in alloc; 0u8; word.len() / 2]?;
-    'bytes: for i in 0..word.len() / 2 {
+    let first = read_blocks(word, out.as_mut_slice());
+    'bytes: for i in first..word.len() / 2 {
         let high = digit(word[2 * i]);
         let low = digit(word[2 * i + 1]);
         let value = 16 * high + low;
@@ -171,6 +174,50 @@ pub fn hex_bytes(alloc: Global, word: &[u8]) -> Result<Vec<u8>, Refusal>
         out[i] = value as u8;
     }
     Ok(out)
+}
+
+/// Reads blocks of 16 digits, up to the first block in which a byte is no digit, and tells how many bytes these are.
+fn read_blocks(word: &[u8], out: &mut [u8]) -> usize
+    requires { 2 * length out.old ≤ length word.now }
+    ensures len { length out.new ≡ length out.old }
+    ensures within { result ≤ length out.old }
+    ensures bytes { IsReadTo word.now out.new result }
+{
+    let mut done = 0;
+    while out.len() - done >= 8 {
+        let values = digit_values(u8x16::from_slice(&word[2 * done..]));
+        if values.simd_ge(u8x16::splat(16)).to_bitmask() != 0 {
+            return done;
+        }
+        joined(values).copy_to_slice(&mut out[done..]);
+        done += 8;
+    }
+    done
+}
+
+/// The value of each digit, and 255 of each other byte.
+#[inline(always)]
+fn digit_values(bytes: u8x16) -> u8x16
+    ensures { result ≡ map lane_value bytes }
+{
+    let decimal = bytes - u8x16::splat(b'0');
+    let letter = (bytes | u8x16::splat(32)) - u8x16::splat(b'a');
+    decimal.simd_lt(u8x16::splat(10)).select(
+        decimal,
+        letter
+            .simd_lt(u8x16::splat(6))
+            .select(letter + u8x16::splat(10), u8x16::splat(255)),
+    )
+}
+
+/// The bytes whose digits have these values.
+#[inline(always)]
+fn joined(values: u8x16) -> u8x8
+    ensures { result ≡ map (λ k. joined_value (slice_index values (2 * k)) (slice_index values (2 * k + 1))) (range_with_len 0 8) }
+{
+    let high: u8x8 = values.swizzle([0, 2, 4, 6, 8, 10, 12, 14]);
+    let low: u8x8 = values.swizzle([1, 3, 5, 7, 9, 11, 13, 15]);
+    (high << u8x8::splat(4)) | low
 }
 
 /// The bytes of a frame in hexadecimal, as `hex_bytes` reads them; with `+` at the end of the word the CHK of these

@@ -4,7 +4,8 @@ use Rattle.std.proofs.lemmas.Bool.Decides.{nat_tests}
 use Rattle.std.proofs.lemmas.Grind.{common_steps}
 use Rattle.std.specs.Ordering.{ord_max, nat_cmp}
 use Rattle.std.specs.List.{cons_option}
-use Rattle.std.specs.Int.Bits.{bit_or}
+use Rattle.std.specs.Int.Bits.{bit_or, or_add_and}
+use Rattle.std.proofs.lemmas.Nat.{and_or_self}
 use Rattle.pg_data.specs.Pieces.{Piece}
 use Rattle.pg_outcfg.specs.Frames.{qualities_of}
 use Rattle.pg_outcfg.specs.Quality.{leap_flags, quality_code, joined_flags, greatest_code}
@@ -33,6 +34,10 @@ flags-more = fold-push (λ flags q. bit_or flags (leap_flags q)) 0
 
 pub code-more : (qualities : List ℕ) (quality : ℕ) → greatest_code (qualities ++ quality ∷ []) ≡ max (greatest_code qualities) (quality_code quality)
 code-more = fold-push (λ code q. max code (quality_code q)) 0
+
+-- flags that were joined are joined again to no effect
+pub flags-again : (flags more : ℕ) → bit_or (bit_or flags more) more ≡ bit_or flags more
+flags-again flags more = omega (arith, or_add_and (bit_or flags more) more, and_or_self more flags)
 
 -- the greater of two numbers by their order
 pub greater : (a b : ℕ) → ord_max nat_cmp a b ≡ max a b

@@ -1,5 +1,5 @@
 //! The data frame of a slot.
-ghost use Rattle.std.specs.Prelude.{◌≡◌, ◌+◌, ◌/◌, ◌<◌, ◌≤◌, ◌++◌, ◌^◌, List, length, drop, zip, ℕ, IsTrue, IfOk, IfErr, IfSome, vec_len, vec_capacity};
+ghost use Rattle.std.specs.Prelude.{◌≡◌, ◌+◌, ◌/◌, ◌<◌, ◌≤◌, ◌++◌, ◌^◌, List, length, drop, zip, ℕ, IsTrue, IfOk, IfErr, IfSome, IsSome, vec_len, vec_capacity};
 ghost use Rattle.pg_wire.specs.Heads.{start_of};
 ghost use Rattle.pg_wire.specs.Stream.{joined};
 ghost use Rattle.pg_stream.specs.Limits.{IsWithinLimits};
@@ -34,7 +34,6 @@ const QUALITY_CODE: u8 = 0x0F;
 /// `parts` has for each member of the definition, in its order, the block that came for it in this slot, or none. It asks
 /// for a definition that `check_definition` accepts, and of the slot what `stamp_of` asks. The one refusal is `NoMemory`;
 /// the frame is one allocation of its size, at most 12,752 bytes, and blocks are copied as they are.
-#[inline(never)]
 pub fn data_frame(
     alloc: Global,
     definition: &Definition,
@@ -50,13 +49,7 @@ pub fn data_frame(
     ensures most { IfOk result (λ v. vec_len v ≤ 12752) }
     ensures memory { IfErr result (λ refusal. refusal ≡ Refusal.NoMemory) }
 {
-    let members = definition.members.as_slice();
-    let size = AROUND_BODY + body_len(members, listed, parts);
-    let mut frame = start_data(alloc, definition, slot, join_qualities(parts), size)?;
-    // All blocks fit, since these are the bytes that were counted.
-    let _fits = add_blocks(&mut frame, members, listed, parts);
-    end_frame(&mut frame);
-    Ok(frame)
+    data_frame_near(alloc, definition, slot, listed, parts, &mut 0)
 }
 
 /// The same, where the frame may well be `size` bytes long: if it is, the members are gone through once. `size` is then the size of
@@ -77,16 +70,19 @@ pub fn data_frame_near(
     ensures most { IfOk result (λ v. vec_len v ≤ 12752) }
     ensures memory { IfErr result (λ refusal. refusal ≡ Refusal.NoMemory) }
 {
-    if let Some(frame) = guessed_frame(alloc, definition, slot, listed, parts, *size)? {
-        return Ok(frame);
+    let mut near = *size;
+    loop {
+        if let Some(frame) = sized_frame(alloc, definition, slot, listed, parts, near)? {
+            *size = near;
+            return Ok(frame);
+        }
+        // This is the frame's size, so there is no third turn.
+        near = AROUND_BODY + body_len(definition.members.as_slice(), listed, parts);
     }
-    let frame = data_frame(alloc, definition, slot, listed, parts)?;
-    *size = frame.len() as u16;
-    Ok(frame)
 }
 
 /// The data frame of a slot, if it is so many bytes long.
-fn guessed_frame(
+fn sized_frame(
     alloc: Global,
     definition: &Definition,
     slot: u64,
@@ -97,9 +93,10 @@ fn guessed_frame(
     requires limits { IsWithinLimits definition.now }
     requires time { slot / definition.now.rate < 2 ^ 32 }
     requires parts { length parts.now ≡ length definition.now.members }
-    ensures frame { IfOk result (λ guessed. IfSome guessed (λ v. v.items ≡ data_frame_of definition.now slot listed.now parts.now)) }
-    ensures least { IfOk result (λ guessed. IfSome guessed (λ v. 16 ≤ vec_len v)) }
-    ensures most { IfOk result (λ guessed. IfSome guessed (λ v. vec_len v ≤ 12752)) }
+    ensures fits { size ≡ 16 + length (joined (data_blocks listed.now definition.now.members parts.now)) → size ≤ 12752 → IfOk result (λ sized. IsSome sized) }
+    ensures frame { IfOk result (λ sized. IfSome sized (λ v. v.items ≡ data_frame_of definition.now slot listed.now parts.now)) }
+    ensures least { IfOk result (λ sized. IfSome sized (λ v. 16 ≤ vec_len v)) }
+    ensures most { IfOk result (λ sized. IfSome sized (λ v. vec_len v ≤ 12752)) }
     ensures memory { IfErr result (λ refusal. refusal ≡ Refusal.NoMemory) }
 {
     if size < AROUND_BODY || size > MOST_BYTES {
@@ -154,11 +151,16 @@ fn join_qualities(parts: &[Option<SharedBlock>]) -> u8
 {
     let mut flags = 0;
     let mut code = 0;
+    let mut last = 0;
     for part in parts {
         if let Some(block) = part {
             let quality = block.quality();
-            flags |= quality & LEAP_FLAGS;
-            code = code.max(quality & QUALITY_CODE);
+            // The blocks of one frame have one quality, which is joined once.
+            if quality != last {
+                flags |= quality & LEAP_FLAGS;
+                code = code.max(quality & QUALITY_CODE);
+                last = quality;
+            }
         }
     }
     flags | code
@@ -183,7 +185,11 @@ fn add_part(frame: &mut Vec<u8>, config: &PmuConfig, part: &Option<SharedBlock>)
     ensures room { vec_capacity frame.old ≤ vec_capacity frame.new }
 {
     match part {
-        Some(block) => frame.extend_from_slice(block.bytes()).is_ok(),
+        Some(block) => {
+            let bytes = block.bytes();
+            // With the room tested, the block is added without a way to take memory.
+            frame.capacity() - frame.len() >= bytes.len() && frame.extend_from_slice(bytes).is_ok()
+        }
         None => {
             if frame.capacity() - frame.len() < config.block_len() {
                 return false;

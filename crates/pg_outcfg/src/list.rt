@@ -83,7 +83,8 @@ impl ConfigList {
     }
 
     /// The same for a key that is guessed to stand at the place `next`: where it does there is no search. `next` is then
-    /// the place behind the one where the key was found, so that keys which are asked for in their order are found at once.
+    /// the place behind the one where the key was found, so that keys which are asked for in their order are found at once,
+    /// also where they go on from the first place.
     #[inline(always)]
     pub fn get_next(&self, key: &PmuKey, next: &mut usize) -> Option<&Arc<PmuConfig>>
         ensures value { option_map (λ config. arc_value config.now) result ≡ config_at self.now key.now }
@@ -142,7 +143,7 @@ fn place_of(entries: &[Listed], key: &PmuKey) -> Result<usize, usize>
     entries.binary_search_by_key(key, |listed| listed.key)
 }
 
-/// The same, for a key that may well stand at the place `guess`.
+/// The same, for a key that may well stand at the place `guess`, or else at the first one.
 #[inline(always)]
 fn place_near(entries: &[Listed], key: &PmuKey, guess: usize) -> Result<usize, usize>
     requires { IsRising (map shown entries.now) }
@@ -152,6 +153,9 @@ fn place_near(entries: &[Listed], key: &PmuKey, guess: usize) -> Result<usize, u
 {
     if guess < entries.len() && *key == entries[guess].key {
         return Ok(guess);
+    }
+    if !entries.is_empty() && *key == entries[0].key {
+        return Ok(0);
     }
     place_of(entries, key)
 }

@@ -1,18 +1,21 @@
 -- What a line `pmu S HEX` with one space between its words asks for.
-use Rattle.std.proofs.Common.{◌≡◌, ◌≤◌, ◌∙◌, sym, ap, refl, arith, ℕ, ◌+◌, ◌-◌, ◌*◌, ◌%◌, if◌then◌else◌, ◌<◌, ◌++◌, [], ◌∷◌, length, take, drop, Bool, true, false, ◌==◌, ◌&&◌, nat_lt, nat_le, slice_index, not, Option, Some, None, option_map, Result, Ok, Err, All, codes, eqb-true, slice_get, ne_eqb}
+use Rattle.std.proofs.Common.{◌≡◌, ◌≤◌, ◌∙◌, sym, ap, refl, arith, ℕ, ◌+◌, ◌-◌, ◌*◌, ◌%◌, if◌then◌else◌, ◌<◌, ◌++◌, [], ◌∷◌, length, take, drop, Bool, true, false, ◌==◌, ◌&&◌, nat_lt, nat_le, slice_index, not, Option, Some, None, option_map, Result, Ok, Err, All, codes, eqb-true, leb-true, suc, slice_get, ne_eqb}
 use Rattle.std.proofs.lemmas.List.Elements.{All-nil, All-cons, All-append, All-weaker, All-same}
 use Rattle.std.proofs.lemmas.List.Splits.{slice_split_none, slice_split_at}
 use Rattle.std.specs.List.{list_all, slice_split}
-use Rattle.std.specs.Char.{is_ascii_digit}
+use Rattle.std.specs.Char.{is_ascii_digit, digit_value}
 use Rattle.hex.specs.Hex.{decode_pairs, hex_digit_value, digit_or_error, ◌>>=◌}
 use Rattle.hex.specs.declared.error.FromHexError.TheVariants.{OddLength}
 use Rattle.std.specs.Option.{option_map_or}
 use Rattle.std.proofs.lemmas.Bool.{and_parts, ltb-true}
+use Rattle.std.proofs.lemmas.List.Folds.{list_all-append}
+use Rattle.std.proofs.lemmas.Int.Digits.{digits_value_more}
+use Rattle.std.proofs.Math.Seq.{take-suc}
 use Rattle.std.proofs.lemmas.Option.{slice_get_within, get_or_from_slice_get}
 use Rattle.std.proofs.lemmas.List.{drop_more, drop_all, take-append-drop}
 use Rattle.std.specs.Str.Parse.{digits_value}
 use Rattle.std.specs.Str.{is_utf8}
-use Rattle.std.proofs.lemmas.Str.{is_utf8-from_IsUtf8, IsUtf8-from_ascii}
+use Rattle.std.proofs.lemmas.Str.{digit_value_digit, is_utf8-from_IsUtf8, IsUtf8-from_ascii}
 use Rattle.std.proofs.lemmas.Str.Ascii.{IsAscii-from_all}
 use Rattle.hex.specs.declared.error.FromHexError.{FromHexError}
 use Rattle.pg_operator.specs.Words.{pmu_id_in, Text, hex_in, decoded, frame_in, with_check, ends_in_plus, number_in, is_number}
@@ -136,3 +139,17 @@ asked_source line end bytes n long p m u space there at number frame =
     let front : line ≡ 112 ∷ 109 ∷ 117 ∷ 32 ∷ rest =
     drop_more line 0 0 (omega arith) ∙ (λ i. p i ∷ (drop_more line 1 0 (omega arith) ∙ (λ i. m i ∷ (drop_more line 2 0 (omega arith) ∙ (λ i. u i ∷ (drop_more line 3 0 (omega arith) ∙ ap (λ b. b ∷ rest) space) i)) i)) i) in
     ap asked_in (front ∙ ap (λ l. 112 ∷ 109 ∷ 117 ∷ 32 ∷ l) tail) ∙ asked_words (take end rest) (drop (end + 1) rest) bytes n number frame
+
+-- a digit more in front of the space
+pub digit_more : (bs : Text) (i n x : ℕ) → i < length bs → is_ascii_digit (slice_index bs i) ≡ true → slice_index bs i ≡ 48 + x
+    → digits_value 10 (take i bs) ≡ n → list_all is_ascii_digit (take i bs) ≡ true
+    → (digits_value 10 (take (i + 1) bs) ≡ 10 * n + x) × (list_all is_ascii_digit (take (i + 1) bs) ≡ true)
+digit_more bs i n x there digit is value digits =
+    let c : ℕ = slice_index bs i in
+    let range = and_parts (nat_le 48 c) (nat_le c 57) digit in
+    let one : digit_value c + 48 ≡ c = digit_value_digit c (leb-true 48 c range.0, leb-true c 57 range.1) in
+    let on : i + 1 ≡ suc i = omega arith in (
+      digits_value_more 10 bs i there ∙ omega (arith, one, value, is),
+      ap (λ k. list_all is_ascii_digit (take k bs)) on ∙ ap (list_all is_ascii_digit) (take-suc bs i 0 there)
+          ∙ list_all-append is_ascii_digit (take i bs) (c ∷ []) ∙ rw (digits, digit) refl,
+    )

@@ -6,8 +6,9 @@ ghost use Rattle.std.specs.Io.KnownBytes.{Appends};
 ghost use Rattle.pg_gateway.specs.Occurrences.{told};
 ghost use Rattle.pg_serve.specs.Inputs.{all_noted, outcome, outcomes};
 ghost use Rattle.pg_replay.specs.Replaying.{outputs_lines};
-ghost use Rattle.pg_replay.specs.Printing.{figure, refusal_line, answer_line, note_lines, hex_end, drained_line, stats_line, counters_line, reasons_end, reason_text, entry_line, reply_line, frame_line, queue_lines, output_lines, send_lines};
+ghost use Rattle.pg_replay.specs.Printing.{figure, refusal_line, done_line, answer_line, note_lines, hex_end, drained_line, stats_line, counters_line, reasons_end, reason_text, entry_line, reply_line, frame_line, queue_lines, output_lines, send_lines};
 
+use itoa::write_digits;
 use pg_audit::{Entry, PmuStats, Stats};
 use pg_gateway::Reply;
 use pg_ring::{Drained, OutQueue};
@@ -36,6 +37,12 @@ impl From<io::Error> for NotPrinted {
 
 /// The bytes of a command frame.
 const COMMAND_BYTES: usize = 18;
+
+/// How a line of `Reply::Done` begins.
+const DONE: [u8; 5] = *b"done ";
+
+/// The most bytes of such a line: two numbers of 20 digits, the space between them, and the LF.
+const DONE_BYTES: usize = 47;
 
 /// Prints what inputs came to.
 pub(crate) fn print_outputs<W: Write>(
@@ -113,7 +120,7 @@ pub fn print_reply<W: Write>(alloc: Global, out: &mut W, reply: &Reply) -> Resul
     ensures prints { OnOk result (Appends (W.contents out.old) (W.contents out.new) (answer_line (told reply.now))) }
 {
     match reply {
-        Reply::Done { made, kept } => writeln!(out, "done {made} {kept}")?,
+        Reply::Done { made, kept } => print_done(out, *made, *kept)?,
         Reply::Refused(refusal) => print_refusal(out, "refused", *refusal)?,
         Reply::Drained { buf, out: handed } => match handed {
             Ok(drained) => print_drained(alloc, out, drained, buf)?,
@@ -125,6 +132,21 @@ pub fn print_reply<W: Write>(alloc: Global, out: &mut W, reply: &Reply) -> Resul
         // no line of a script asks for these
         Reply::Standing(_) | Reply::Waiting(_) => {}
     }
+    Ok(())
+}
+
+/// Prints how many data frames an event made, and how many of them are kept, without a `Formatter`: a line that comes once for each
+/// frame.
+fn print_done<W: Write>(out: &mut W, made: u64, kept: u64) -> Result<(), NotPrinted>
+    ensures prints { OnOk result (Appends (W.contents out.old) (W.contents out.new) (done_line made kept)) }
+{
+    let mut line = [b'\n'; DONE_BYTES];
+    let kept_at = write_digits(kept, &mut line, DONE_BYTES - 1);
+    line[kept_at - 1] = b' ';
+    let made_at = write_digits(made, &mut line, kept_at - 1);
+    let start = made_at - DONE.len();
+    line[start..made_at].copy_from_slice(&DONE);
+    out.write_all(&line[start..])?;
     Ok(())
 }
 

@@ -1,12 +1,11 @@
 //! The lines of a script.
-ghost use Rattle.std.specs.Prelude.{◌≡◌, ◌≢◌, ◌⊎◌, IfOk, IfErr, IfSome, Some, None, map, option_map};
+ghost use Rattle.std.specs.Prelude.{◌≡◌, ◌≢◌, ◌⊎◌, ◌<◌, length, take, slice_index, IfOk, IfErr, IfSome, Some, None, map, option_map};
 ghost use Rattle.pg_operator.specs.Words.{number_in, pmu_id_in, subscriber_in};
 ghost use Rattle.pg_operator.specs.Lines.{one, two};
 ghost use Rattle.pg_replay.specs.Replaying.{without_end};
 ghost use Rattle.pg_serve.specs.Inputs.{pmu_bytes};
 ghost use Rattle.pg_replay.specs.Lines.{asked_in, asked, hands, is_comment, kind_of, line_by, text_asks};
 
-use memchr::memchr;
 use pg_operator::words::{self, frame_bytes};
 use pg_operator::{parse_line, words_of};
 use pg_serve::Input;
@@ -107,13 +106,7 @@ fn source_line(alloc: Global, line: &[u8]) -> Result<Option<(PmuId, Vec<u8>)>, R
     let [b'p', b'm', b'u', b' ', rest @ ..] = line else {
         return Ok(None);
     };
-    let Some(end) = memchr(b' ', rest) else {
-        return Ok(None);
-    };
-    let Ok(word) = str::from_utf8(&rest[..end]) else {
-        return Ok(None);
-    };
-    let Some(source) = words::pmu_id(word) else {
+    let Some((source, end)) = source_before_space(rest) else {
         return Ok(None);
     };
     match frame_bytes(alloc, &rest[end + 1..]) {
@@ -121,6 +114,24 @@ fn source_line(alloc: Global, line: &[u8]) -> Result<Option<(PmuId, Vec<u8>)>, R
         Err(Refusal::NoMemory) => Err(Refusal::NoMemory),
         Err(_) => Ok(None),
     }
+}
+
+/// The source whose number stands before the first space, and the place of that space. `None` is answered too where the number has
+/// a zero in front.
+fn source_before_space(bytes: &[u8]) -> Option<(PmuId, usize)>
+    ensures found { IfSome result (λ p. (p.1 < length bytes.now) × (slice_index bytes.now p.1 ≡ 32) × (pmu_id_in (take p.1 bytes.now) ≡ Some p.0)) }
+{
+    let mut number = 0u32;
+    let mut end = 0;
+    // a number with a digit behind one of 6554 or more is no source's
+    while end < bytes.len() && end < 5 && number < 6554 && bytes[end].is_ascii_digit() {
+        number = 10 * number + u32::from(bytes[end] - b'0');
+        end += 1;
+    }
+    if end == bytes.len() || bytes[end] != b' ' || bytes[0] == b'0' || number > 65534 {
+        return None;
+    }
+    Some((PmuId::new(number as u16)?, end))
 }
 
 /// Whether the first word begins with `#`.

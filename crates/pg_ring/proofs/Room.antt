@@ -1,13 +1,47 @@
 -- What `room` leaves.
-use Rattle.std.proofs.Common.{◌≡◌, ℕ, ◌+◌, ◌<◌, ◌≤◌, List, [], ◌∷◌, ◌++◌, length, refl, arith}
+use Rattle.std.proofs.Common.{◌≡◌, ℕ, ◌+◌, ◌-◌, ◌<◌, ◌≤◌, Bool, true, false, nat_lt, if◌then◌else◌, List, [], ◌∷◌, ◌++◌, length, drop, slice_get, Option, Some, None, length-append, refl, sym, ap, ap₂, ◌∙◌, arith}
 use Rattle.std.proofs.lemmas.Grind.{common_steps}
-use Rattle.pg_ring.specs.Shown.{Framed, bytes_in, HaveBytes, RepliesHaveBytes}
-use Rattle.pg_ring.specs.Steps.{room, pass_on}
+use Rattle.std.proofs.lemmas.List.{map-append, length-map}
+use Rattle.circular_buffer.specs.Buffer.{keep_last}
+use Rattle.pg_ring.specs.Shown.{Framed, bytes_in, saturated, HaveBytes, RepliesHaveBytes}
+use Rattle.pg_ring.specs.Steps.{room, pass_on, pushed}
+use Rattle.pg_ring.specs.Items.{shown, framed_of}
+use Rattle.pg_ring.specs.declared.ring.QueuedFrame.{QueuedFrame}
 
 -- nothing goes where there is room
 pub room_stands : (size limit passed : ℕ) (frames : List Framed) → length frames < size → bytes_in frames ≤ limit → room size limit passed frames ≡ (passed, frames)
 room_stands size limit passed [] few light = refl
 room_stands size limit passed (frame ∷ frames) few light = grind (arith, common_steps)
+
+-- of as many frames as there may be the first goes, and the others stand
+full_room : (limit : ℕ) (frame : Framed) (frames : List Framed) → bytes_in (frame ∷ frames) ≤ limit
+    → room (length (frame ∷ frames)) limit 0 (frame ∷ frames) ≡ (saturated (frame.gap + 1), frames)
+full_room limit frame frames light =
+    let full : nat_lt (length (frame ∷ frames)) (length (frame ∷ frames)) ≡ false = grind (arith, common_steps) in
+    let none : 0 + frame.gap + 1 ≡ frame.gap + 1 = omega arith in
+    rw (full, none) (room_stands (length (frame ∷ frames)) limit (saturated (frame.gap + 1)) frames (omega arith) (omega (arith, light)))
+
+-- a push where as many frames stand as there may be: the buffer gives up the first, whose gap passes on
+pub full_pushed : (size limit : ℕ) (frames : List QueuedFrame) (oldest frame : QueuedFrame) → length frames ≡ size → 0 < size
+    → bytes_in (shown frames) ≤ limit - length frame.bytes.items → Some oldest ≡ slice_get (frames ++ frame ∷ []) 0
+    → pushed size limit (shown frames) (framed_of frame) ≡ pass_on (saturated (oldest.gap + 1)) (shown (keep_last size (frames ++ frame ∷ [])))
+full_pushed size limit [] oldest frame is some light first = absurd (omega (arith, is, some))
+full_pushed size limit (x ∷ xs) oldest frame is some light first =
+    let same : oldest ≡ x = cc in
+    let one : length (x ∷ xs ++ frame ∷ []) - size ≡ 1 = omega (arith, is, length-append xs (frame ∷ [])) in
+    let count : size ≡ length (framed_of x ∷ shown xs) = let same_len : length (shown xs) ≡ length xs = length-map xs framed_of in omega (arith, is, same_len) in
+    let left = ap (λ n. room n (limit - length frame.bytes.items) 0 (shown (x ∷ xs))) count ∙ full_room (limit - length frame.bytes.items) (framed_of x) (shown xs) light in
+    let kept = ap (λ n. shown (drop n (x ∷ xs ++ frame ∷ []))) one ∙ map-append framed_of xs (frame ∷ []) in
+    ap (λ l. pass_on l.0 (l.1 ++ framed_of frame ∷ [])) left ∙ ap₂ (λ o l. pass_on (saturated (o.gap + 1)) l) (sym same) (sym kept)
+
+-- a buffer that gives up a frame was full
+pub gives_up : (count size : ℕ) (oldest : QueuedFrame) (front : Option QueuedFrame) → Some oldest ≡ (if nat_lt count size then None else front)
+    → (size ≤ count) × (Some oldest ≡ front)
+gives_up count size oldest front given = by (nat_lt count size) refl given
+  where
+    by : (fits : Bool) → nat_lt count size ≡ fits → Some oldest ≡ (if fits then None else front) → (size ≤ count) × (Some oldest ≡ front)
+    by true is given = absurd (let no : Some oldest ≡ None = given in cc)
+    by false is given = (grind (arith, common_steps), given)
 
 pub bytes_in-append : (xs ys : List Framed) → bytes_in (xs ++ ys) ≡ bytes_in xs + bytes_in ys
 bytes_in-append [] ys = grind arith

@@ -1,5 +1,5 @@
 //! The steps of the ring of data frames.
-ghost use Rattle.std.specs.Prelude.{◌≡◌, ◌+◌, ◌-◌, ◌^◌, ◌<◌, ◌≤◌, [], ◌∷◌, ◌++◌, length, vec_len, min, take, drop};
+ghost use Rattle.std.specs.Prelude.{◌≡◌, ℕ, ◌+◌, ◌-◌, ◌^◌, ◌<◌, ◌≤◌, [], ◌∷◌, ◌++◌, length, vec_len, min, take, drop};
 ghost use Rattle.circular_buffer.specs.Buffer.{buffer};
 ghost use Rattle.pg_ring.specs.Shown.{bytes_in, HaveBytes, Framed};
 ghost use Rattle.pg_ring.specs.Steps.{room, pass_on, pushed};
@@ -14,26 +14,20 @@ pub(crate) struct QueuedFrame {
     pub(crate) gap: u64,
 }
 
-/// Drops the oldest frames until fewer than `size` frames stand, with at most `limit` bytes, and returns the
-/// gap that they pass on.
-fn make_room(
-    frames: &mut HeapCircularBuffer<QueuedFrame>,
-    held: &mut usize,
-    size: usize,
-    limit: usize,
-) -> u64
+/// Drops the oldest frames until the others have at most `limit` bytes, and returns the gap that they pass on.
+fn make_room(frames: &mut HeapCircularBuffer<QueuedFrame>, held: &mut usize, limit: usize) -> u64
     requires counted { held.old ≡ bytes_in (shown frames.old.items) }
-    requires some_size { 0 < size }
-    ensures kept { room size limit 0 (shown frames.old.items) ≡ (result, shown frames.new.items) }
+    ensures kept { (size : ℕ) → length frames.new.items < size
+        → room size limit 0 (shown frames.old.items) ≡ (result, shown frames.new.items) }
+    ensures whole { length frames.new.items ≡ length frames.old.items → frames.new.items ≡ frames.old.items }
     ensures counted { held.new ≡ bytes_in (shown frames.new.items) }
     ensures capacity { frames.new.capacity ≡ frames.old.capacity }
     ensures no_more { length frames.new.items ≤ length frames.old.items }
-    ensures fewer { length frames.new.items < size }
     ensures lighter { held.new ≤ limit }
     ensures have_bytes { HaveBytes (shown frames.old.items) → HaveBytes (shown frames.new.items) }
 {
     let mut passed = 0u64;
-    while frames.len() >= size || *held > limit {
+    while *held > limit {
         let Some(oldest) = frames.pop_front() else {
             break;
         };
@@ -50,9 +44,8 @@ fn pass_gap(frames: &mut HeapCircularBuffer<QueuedFrame>, passed: u64)
     ensures same_len { length frames.new.items ≡ length frames.old.items }
     ensures capacity { frames.new.capacity ≡ frames.old.capacity }
 {
-    if let Some(mut first) = frames.pop_front() {
+    if let Some(first) = frames.get_mut(0) {
         first.gap = first.gap.saturating_add(passed);
-        frames.push_front(first);
     }
 }
 
@@ -79,14 +72,18 @@ pub(crate) fn push_frame(
     ensures capacity { frames.new.capacity ≡ frames.old.capacity }
     ensures have_bytes { HaveBytes (shown frames.new.items) }
 {
-    let size = frames.capacity();
     let before = frames.len();
-    let passed = make_room(frames, held, size, limit - frame.bytes.len());
+    let passed = make_room(frames, held, limit - frame.bytes.len());
     let dropped = before - frames.len();
     *held += frame.bytes.len();
-    let _replaced = frames.push_back(frame);
-    pass_gap(frames, passed);
-    dropped
+    let Some(oldest) = frames.push_back(frame) else {
+        pass_gap(frames, passed);
+        return dropped;
+    };
+    // The ring was full, so none had to go for its bytes.
+    *held -= oldest.bytes.len();
+    pass_gap(frames, oldest.gap.saturating_add(1));
+    1
 }
 
 /// Copies what fits of `from` to the front of `out`, and returns how much.

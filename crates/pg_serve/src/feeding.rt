@@ -1,25 +1,30 @@
 //! Bytes are cut into frames, and these become events.
 
 ghost use Rattle.std.specs.Prelude.{◌≡◌, ℕ, ◌<◌, List, [], ◌∷◌, ◌++◌, length, IfOk};
+ghost use Rattle.std.specs.Arc.{arc_value};
 ghost use Rattle.pg_session.specs.Commands as commands;
 ghost use Rattle.pg_session.specs.Commands.{Item};
+ghost use Rattle.pg_session.specs.Private.{refused};
 ghost use Rattle.pg_ingest.specs.Shown as ingest;
 ghost use Rattle.pg_ingest.specs.Shown.{LinkPast, feeding};
-ghost use Rattle.pg_gateway.specs.Occurrences.{occurrence};
+ghost use Rattle.pg_gateway.specs.Occurrences.{occurrence, measure, tells};
 ghost use Rattle.pg_gateway.specs.State.{SharedMachine};
 ghost use Rattle.pg_gateway.specs.Shown.{GatewayShows};
-ghost use Rattle.pg_serve.specs.Inputs.{noted, all_noted};
+ghost use Rattle.pg_serve.specs.Inputs.{noted, all_noted, replied, ignored, closed};
 ghost use Rattle.pg_serve.specs.Dues.{posts};
 ghost use Rattle.pg_serve.specs.Feeding.{Did, TellsAll, TakesPiece, GivesAll, HearsAll};
 
 use crate::input::Note;
-use pg_gateway::{Event, Gateway};
+use pg_data::DataFrame;
+use pg_gateway::{Event, Gateway, Reply};
 use pg_ingest::{Link, LinkEvent};
 use pg_session::{Next, Session};
 use pg_wire::{Refusal, SubId};
 use std::alloc::{AllocError, Global};
+use std::sync::Arc;
 
 /// Notes something.
+#[inline(always)]
 pub(crate) fn note(notes: &mut Vec<Note>, what: Note) -> Result<(), AllocError>
     ensures noted { IfOk result (λ _. all_noted notes.new.items ≡ all_noted notes.old.items ++ noted what ∷ []) }
 {
@@ -27,7 +32,36 @@ pub(crate) fn note(notes: &mut Vec<Note>, what: Note) -> Result<(), AllocError>
     Ok(())
 }
 
+/// Notes why a frame is ignored. Like the other notes that come seldom it is a function of its own, since a note has room for all
+/// counters, which would be made ready for each frame.
+#[inline(never)]
+fn note_ignored(notes: &mut Vec<Note>, refusal: Refusal) -> Result<(), AllocError>
+    ensures noted { IfOk result (λ _. all_noted notes.new.items ≡ all_noted notes.old.items ++ ignored refusal ∷ []) }
+{
+    note(notes, Note::Ignored(refusal))?;
+    Ok(())
+}
+
+/// Notes why a connection is closed.
+#[inline(never)]
+fn note_closed(notes: &mut Vec<Note>, refusal: Refusal) -> Result<(), AllocError>
+    ensures noted { IfOk result (λ _. all_noted notes.new.items ≡ all_noted notes.old.items ++ closed refusal ∷ []) }
+{
+    note(notes, Note::Closed(refusal))?;
+    Ok(())
+}
+
+/// Notes why an event is refused.
+#[inline(never)]
+fn note_refused(notes: &mut Vec<Note>, refusal: Refusal) -> Result<(), AllocError>
+    ensures noted { IfOk result (λ _. all_noted notes.new.items ≡ all_noted notes.old.items ++ replied (tells (refused refusal)) ∷ []) }
+{
+    note(notes, Note::Replied(Reply::Refused(refusal)))?;
+    Ok(())
+}
+
 /// Posts an event, and notes the reply.
+#[inline(never)]
 pub(crate) fn post(
     gateway: &mut Gateway,
     event: Event,
@@ -38,6 +72,26 @@ pub(crate) fn post(
 {
     let reply = gateway.step(event);
     note(notes, Note::Replied(reply))?;
+    Ok(())
+}
+
+/// Posts a data frame, and notes the reply.
+fn post_measured(
+    gateway: &mut Gateway,
+    frame: &Arc<DataFrame>,
+    notes: &mut Vec<Note>,
+) -> Result<(), AllocError>
+    ensures did { IfOk result (λ _. (S : SharedMachine) → GatewayShows gateway.old S
+        → Did S (posts (measure (arc_value frame.now)) ∷ []) (all_noted notes.old.items) (all_noted notes.new.items) gateway.new) }
+{
+    let (made, kept) = match gateway.measure(frame) {
+        Ok(counts) => counts,
+        Err(refusal) => {
+            note_refused(notes, refusal)?;
+            return Ok(());
+        }
+    };
+    note(notes, Note::Replied(Reply::Done { made, kept }))?;
     Ok(())
 }
 
@@ -54,8 +108,8 @@ fn post_events(
     loop {
         match link.next_event() {
             LinkEvent::Announce(config) => post(gateway, Event::Announce(config), notes)?,
-            LinkEvent::Measure(frame) => post(gateway, Event::Measure(frame), notes)?,
-            LinkEvent::Ignored(refusal) => note(notes, Note::Ignored(refusal))?,
+            LinkEvent::Measure(frame) => post_measured(gateway, &frame, notes)?,
+            LinkEvent::Ignored(refusal) => note_ignored(notes, refusal)?,
             LinkEvent::Ended(refusal) => return Ok(Some(refusal)),
             LinkEvent::More => return Ok(None),
         }
@@ -98,7 +152,7 @@ pub(crate) fn feed_link(
 {
     match feed_events(gateway, link, bytes, notes)? {
         Some(refusal) => {
-            note(notes, Note::Closed(refusal))?;
+            note_closed(notes, refusal)?;
             Ok(())
         }
         None => Ok(()),
@@ -131,7 +185,7 @@ fn post_commands(
     loop {
         match session.next_command() {
             Next::Cmd(command) => post(gateway, Event::Command(sub, command), notes)?,
-            Next::Ignored(refusal) => note(notes, Note::Ignored(refusal))?,
+            Next::Ignored(refusal) => note_ignored(notes, refusal)?,
             Next::Broken(refusal) => return Ok(Some(refusal)),
             Next::More => return Ok(None),
         }

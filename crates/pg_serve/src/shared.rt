@@ -65,8 +65,7 @@ impl Shared {
         ensures handed { HandsByViews (history_of result.0.seen) }
         ensures own { AnswersByView (history_of result.0.seen) }
     {
-        let (seat, reply) = self.turns.call(rt, seat, event);
-        (seat, reply)
+        self.turns.call(rt, seat, event)
     }
 
     /// The seat as it was, and a second one of this gateway, which has seen what the first has and has made no call. It takes no

@@ -2,11 +2,12 @@
 
 ghost use Rattle.std.specs.Prelude.{◌≡◌, ℕ, [], ◌∷◌, is_some, false, None, IfOk};
 ghost use Rattle.pg_session.specs.Events as events;
-ghost use Rattle.pg_gateway.specs.Occurrences.{occurrence, asks, add_pmu, drop_pmu, told};
+ghost use Rattle.pg_session.specs.Private as private;
+ghost use Rattle.pg_gateway.specs.Occurrences.{occurrence, asks, add_pmu, drop_pmu, told, tells};
 ghost use Rattle.pg_gateway.specs.State.{SharedMachine, slot_of, refusal};
 ghost use Rattle.pg_gateway.specs.Shown.{GatewayShows};
 ghost use Rattle.pg_serve.specs.Moments.{Moment, has_source, new_source_link, is_done, absence};
-ghost use Rattle.pg_serve.specs.Inputs.{fact, link_up, pmu_bytes, sub_bytes, names, noted, edited, outcome};
+ghost use Rattle.pg_serve.specs.Inputs.{fact, link_up, pmu_bytes, sub_bytes, names, noted, replied, edited, outcome};
 ghost use Rattle.pg_serve.specs.Shown.{MomentShows, SourceLinkShows, SessionShows};
 ghost use Rattle.pg_serve.specs.Taking.{held, Takes, TakesInput, Spares, Ends};
 
@@ -41,6 +42,14 @@ fn output(alloc: Global, what: Note) -> Result<Output, AllocError>
     })
 }
 
+/// An answer that tells a refusal.
+#[inline(never)]
+fn refused(alloc: Global, refusal: Refusal) -> Result<Output, AllocError>
+    ensures outcome { IfOk result (λ o. outcome o ≡ record { notes = replied (tells (private.refused refusal)) ∷ []; to_pmu = [] }) }
+{
+    Ok(output(alloc, Note::Replied(Reply::Refused(refusal)))?)
+}
+
 impl Core {
     /// Takes one input.
     pub(crate) fn take(&mut self, input: &Input) -> Result<Output, AllocError>
@@ -72,10 +81,7 @@ impl Core {
         ensures takes { IfOk result (λ o. TakesInput (held self.old) (link_up source) (outcome o) (held self.new)) }
     {
         match self.lines.get_mut(&source) {
-            None => Ok(output(
-                self.alloc,
-                Note::Replied(Reply::Refused(Refusal::NoSuchPmu)),
-            )?),
+            None => Ok(refused(self.alloc, Refusal::NoSuchPmu)?),
             Some(line) => {
                 let to_pmu = line.go_up(self.alloc)?;
                 Ok(Output {
@@ -91,10 +97,7 @@ impl Core {
         ensures takes { IfOk result (λ o. TakesInput (held self.old) (pmu_bytes source bytes.now) (outcome o) (held self.new)) }
     {
         match self.lines.get_mut(&source) {
-            None => Ok(output(
-                self.alloc,
-                Note::Replied(Reply::Refused(Refusal::NoSuchPmu)),
-            )?),
+            None => Ok(refused(self.alloc, Refusal::NoSuchPmu)?),
             Some(line) => Ok(line.take(self.alloc, &mut self.gateway, bytes)?),
         }
     }
@@ -107,7 +110,7 @@ impl Core {
         let broken = match self.sessions.get_mut(&sub) {
             None => {
                 let refusal = absence(&self.gateway, sub);
-                return Ok(output(self.alloc, Note::Replied(Reply::Refused(refusal)))?);
+                return Ok(refused(self.alloc, refusal)?);
             }
             Some(session) => feed_session(&mut self.gateway, session, sub, bytes, &mut notes)?,
         };
@@ -140,7 +143,7 @@ impl Core {
         }
         match Session::new(self.alloc, sub) {
             Ok(session) => Ok(self.add_session(sub, session)?),
-            Err(_) => Ok(output(self.alloc, Note::Replied(Reply::Refused(Refusal::NoMemory)))?),
+            Err(_) => Ok(refused(self.alloc, Refusal::NoMemory)?),
         }
     }
 
@@ -153,10 +156,7 @@ impl Core {
     {
         match self.sessions.reserve(1) {
             Ok(()) => {}
-            Err(_) => return Ok(output(
-                self.alloc,
-                Note::Replied(Reply::Refused(Refusal::NoMemory)),
-            )?),
+            Err(_) => return Ok(refused(self.alloc, Refusal::NoMemory)?),
         }
         let reply = self.gateway.step(Event::Connect(sub));
         if is_done(&reply) {
@@ -216,7 +216,7 @@ impl Core {
         }
         match SourceLink::new(self.alloc, key.source) {
             Ok(line) => Ok(self.add_line(key, line)?),
-            Err(_) => Ok(output(self.alloc, Note::Replied(Reply::Refused(Refusal::NoMemory)))?),
+            Err(_) => Ok(refused(self.alloc, Refusal::NoMemory)?),
         }
     }
 
@@ -230,10 +230,7 @@ impl Core {
     {
         match self.lines.reserve(1) {
             Ok(()) => {}
-            Err(_) => return Ok(output(
-                self.alloc,
-                Note::Replied(Reply::Refused(Refusal::NoMemory)),
-            )?),
+            Err(_) => return Ok(refused(self.alloc, Refusal::NoMemory)?),
         }
         let reply = self.gateway.step(Event::AddPmu(key));
         if is_done(&reply) {

@@ -155,6 +155,17 @@ measure_is listed m places s count base slot is w on counted some b e =
     ∙ ap (λ k. arrival_turn by_slots listed s blocks (slot_at s.definition.rate k m.soc m.frac)) (base_shared m s.definition.members places is w n ∙ sym b)
     ∙ ap (arrival_turn by_slots listed s blocks) (sym e)
 
+turn_none : {A : Type 0} (b c : Bool) (x y : A) → c ≡ false → (if b && c then x else y) ≡ y
+turn_none false c x y e = refl
+turn_none true false x y e = refl
+turn_none true true x y e = absurd (cc e)
+
+-- the turn of a stream that has no block as a member's
+pub nothing-turns : (listed : Listing) (m : Measurement) (places : List ℕ) (s : StreamOf (Aligned Piece))
+    → length (placed s.definition.members m.quality (samples_at m places)) ≡ 0
+    → measure_turn by_slots listed m.soc m.quality m.frac (samples_at m places) s ≡ still s
+nothing-turns listed m places s e = turn_none s.slots.is_on _ _ (still s) (ap (nat_lt 0) e)
+
 -- the numerator of a frame is below its resolution
 pub below-base : (m : Measurement) (places : List ℕ) → IsMeasurement m → ArePlaces (length m.config.parts) places → m.frac < base_of (samples_at m places)
 below-base m [] is w = absurd (omega (arith, w.some))

@@ -1,6 +1,6 @@
 //! The blocks of a data frame arrive at a stream.
 
-ghost use Rattle.std.specs.Prelude.{◌≡◌, ◌+◌, ◌<◌, ◌≤◌, ◌++◌, ℕ, List, length, map, drop, All, IsTrue, slice_index_or, false};
+ghost use Rattle.std.specs.Prelude.{◌≡◌, ◌+◌, ◌<◌, ◌≤◌, ◌++◌, [], ℕ, List, length, map, drop, All, IsTrue, slice_index_or, false};
 ghost use Rattle.pg_data.specs.Pieces.{Piece};
 ghost use Rattle.pg_stream.specs.Limits.{IsWithinLimits};
 ghost use Rattle.pg_align.specs.Slots.{others_than, answer_at, with_arrival};
@@ -91,7 +91,7 @@ fn arrive_one(align: &mut Align, slot: u64, member: usize, block: SharedBlock, o
 
 /// Those blocks of a frame that are members' arrive in a slot, in the frame's order. Their copies are taken from the front of
 /// `blocks`; what is late or comes twice is counted. The first is guessed to be the member at the place `guess`, which is then
-/// where the next frame's first is guessed.
+/// where the next frame's first is guessed. The answer is whether one of the blocks is a member's.
 pub(crate) fn arrive_all_in(
     definition: &Definition,
     frame: &DataFrame,
@@ -101,7 +101,7 @@ pub(crate) fn arrive_all_in(
     align: &mut Align,
     blocks: &mut HeapCircularBuffer<SharedBlock>,
     output: &mut Output,
-)
+) -> bool
     requires limits { IsWithinLimits definition.now }
     requires places { All (λ i. i < length frame.now.config.parts) places.now }
     requires on { IsTrue align.old.is_on }
@@ -116,8 +116,12 @@ pub(crate) fn arrive_all_in(
         0 output.old.output.stats) }
     ensures blocks { blocks.new.items ≡ drop (length (placed definition.now.members frame.now.quality (samples_at frame.now places.now))) blocks.old.items }
     ensures capacity { blocks.new.capacity ≡ blocks.old.capacity }
+    ensures some { IsTrue result
+        → 0 < length (placed definition.now.members frame.now.quality (samples_at frame.now places.now)) }
+    ensures none { result ≡ false → placed definition.now.members frame.now.quality (samples_at frame.now places.now) ≡ [] }
 {
     let _count = frame.count();
+    let mut some = false;
     let mut next = *guess;
     for place in places {
         let Some(member) = place_next(definition, &frame.key(*place), &mut next) else {
@@ -127,8 +131,10 @@ pub(crate) fn arrive_all_in(
             unreachable!();
         };
         arrive_one(align, slot, member, block, output);
+        some = true;
     }
     *guess = next;
+    some
 }
 
 /// Blocks of a frame whose slot lies past the end of time are counted, and their copies given up.

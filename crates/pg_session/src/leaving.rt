@@ -40,7 +40,32 @@ fn send_slot(
 }
 
 /// While the least open slot is to leave, it leaves and its frame is made.
+#[inline(always)]
 pub(crate) fn leave_all(
+    alloc: Global,
+    definition: &Definition,
+    listed: &ConfigList,
+    align: &mut Align,
+    size: &mut u16,
+    output: &mut Output,
+)
+    requires limits { IsWithinLimits definition.now }
+    requires places { length align.old.effective ≡ length definition.now.members }
+    requires timed { AreTimed definition.now.rate align.old.slots }
+    requires few { output.old.kept ≤ output.old.made }
+    requires bounded { output.old.made + length align.old.slots < 2 ^ 32 }
+    ensures slots { align.new ≡ (all_leaving align.old).after }
+    ensures sends { Sends (map (slot_frame definition.now listed.now) (all_leaving align.old).frames) output.old output.new }
+    ensures few { output.new.made + length align.new.slots ≤ output.old.made + length align.old.slots }
+{
+    if align.is_leaving() {
+        leave_each(alloc, definition, listed, align, size, output);
+    }
+}
+
+/// The same, mostly called where the least open slot is to leave.
+#[inline(never)]
+fn leave_each(
     alloc: Global,
     definition: &Definition,
     listed: &ConfigList,

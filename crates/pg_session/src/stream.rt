@@ -114,7 +114,7 @@ pub(crate) fn place_next(definition: &Definition, key: &PmuKey, next: &mut usize
 {
     let place = place_near(definition, key, *next);
     if let Some(place) = place {
-        *next = place.saturating_add(1);
+        *next = place.wrapping_add(1);
     }
     place
 }
@@ -137,7 +137,9 @@ fn place_near(definition: &Definition, key: &PmuKey, guess: usize) -> Option<usi
     if is_member_at(definition, key, last) {
         return Some(last);
     }
-    place_in(definition, key)
+    // A copy of its own, so that the key needs no place in memory where it is found above.
+    let sought = *key;
+    place_in(definition, &sought)
 }
 
 /// Whether a PMU is the member at a place.
@@ -332,12 +334,9 @@ impl Stream {
         if !self.align.is_on() {
             return;
         }
-        if !has_placed(&self.definition, frame, places, self.guess) {
-            return;
-        }
         match slot_of(self.definition.rate, frame.base(), frame.soc, frame.frac) {
             Ok(slot) => {
-                arrive_all_in(
+                let some = arrive_all_in(
                     &self.definition,
                     frame,
                     places,
@@ -347,6 +346,9 @@ impl Stream {
                     blocks,
                     output,
                 );
+                if !some {
+                    return;
+                }
                 leave_all(
                     alloc,
                     &self.definition,
@@ -357,6 +359,9 @@ impl Stream {
                 );
             }
             Err(_) => {
+                if !has_placed(&self.definition, frame, places, self.guess) {
+                    return;
+                }
                 let count = count_placed(&self.definition, frame, places);
                 pass_all(count, blocks, output);
             }

@@ -65,6 +65,7 @@ pub(crate) fn tick_all(
 }
 
 /// Blocks of a data frame arrive at the streams that have them as members', and what is to leave leaves, stream after stream.
+#[inline(never)]
 pub(crate) fn measure_all(
     alloc: Global,
     listed: &ConfigList,

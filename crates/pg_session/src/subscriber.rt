@@ -307,12 +307,18 @@ impl Subscriber {
     }
 
     /// Gives up the copies that lie ready. Nothing else changes.
+    #[inline(always)]
     pub fn forget(&mut self)
         ensures none { HasNoCopies self.new }
         ensures own { self.new.own ≡ self.old.own }
     {
-        self.blocks.clear();
-        self.configs.clear();
+        // Mostly none lie.
+        if !self.blocks.is_empty() {
+            self.blocks.clear();
+        }
+        if !self.configs.is_empty() {
+            self.configs.clear();
+        }
     }
 
     /// Takes an event: one step of the private gateway. With `lost` every data frame that it makes is a number without a
@@ -374,6 +380,8 @@ impl Subscriber {
     }
 
     /// Blocks of granted PMUs came, whose copies lie ready.
+    // Inlined, its reply is not laid into memory and read again.
+    #[inline(always)]
     fn measure(&mut self, frame: &DataFrame, places: &[usize], lost: bool) -> PrivateReply
         requires places { ArePlaces (length frame.now.config.parts) places.now }
         requires held { AreHeld self.old.own.grants self.old.own.listed (samples_at frame.now places.now) }

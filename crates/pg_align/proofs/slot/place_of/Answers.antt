@@ -1,10 +1,11 @@
-use Rattle.std.proofs.Common.{◌≤◌, ◌≡◌, ℕ, length, ap, ◌∙◌}
+use Rattle.std.proofs.Common.{◌≤◌, ◌<◌, ◌-◌, ◌≡◌, ℕ, length, ap, ◌∙◌, arith}
 use Rattle.std.proofs.lemmas.List.{length-map}
+use Rattle.std.proofs.lemmas.Grind.{common_steps}
 use Rattle.std.proofs.lemmas.Option.{slice_get_past}
 use Rattle.pg_align.specs.Slots.{OpenSlot}
 use Rattle.pg_align.specs.Fields.{slot_of, slots_of}
 use Rattle.pg_align.proofs.Parts.{slot_shown}
-use Rattle.pg_align.proofs.Arriving.{IsAway, others_away}
+use Rattle.pg_align.proofs.Arriving.{IsAway, count_here, others_away}
 use Rattle.pg_align.proofs.slot.place_of.Goals as goal
 use Rattle.pg_align.proofs.slot.place_of.Goals.{else-at-slots-via-then-at-slots+else-slots-at, else-at-slots-via-else-at-slots}
 
@@ -36,3 +37,12 @@ returns-else-at-slots-clause-away c =
           cc
     ] in
     (c.first_from-at.ensures.place, rw length-map at (others_away c.args.number (slots_of slots) c.requires.rising away))
+
+pub returns-then-slots-newest-clause-stands : goal.returns-then-slots-newest-clause-stands
+returns-then-slots-newest-clause-stands c =
+    let slots = c.args.slots.now in
+    let newest = c.index-slots-newest.result in
+    let within : length slots - 1 < length slots = grind (arith, common_steps, c.is_empty.ensures, c.if-is_empty.false) in
+    let found = slot_shown slots (length slots - 1) newest within c.index-slots-newest.is in
+    let same = rw (← c.index-slots-newest.is) at c.if-slots-newest.true in
+    record { here = slot_of newest; found = found; same = same; place = count_here c.args.number (slots_of slots) (length slots - 1) (slot_of newest) c.requires.rising found same }

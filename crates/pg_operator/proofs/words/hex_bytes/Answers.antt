@@ -1,12 +1,18 @@
-use Rattle.std.proofs.Common.{rules, ◌≡◌, ◌<◌, ◌≤◌, ◌+◌, ◌*◌, ℕ, ap, ◌∙◌, inr, arith, length, length-set, slice_index, Ok}
+use Rattle.std.proofs.Common.{rules, ◌≡◌, ◌<◌, ◌≤◌, ◌+◌, ◌*◌, ℕ, ap, ◌∙◌, inr, arith, sym, drop, length, length-set, slice_index, Ok}
 use Rattle.pg_operator.specs.Words.{decoded}
 use Rattle.hex.specs.Hex.{pair_value, hex_digit_value}
-use Rattle.hex.proofs.Pairs.{decode_start, decode_step, decode_done, decode_err}
-use Rattle.pg_operator.proofs.Digits.{sum_of, pair_ok, pair_err, hex_in-pairs}
+use Rattle.hex.proofs.Pairs.{decode_step, decode_done, decode_err}
+use Rattle.pg_operator.proofs.Digits.{put_back, sum_of, pair_ok, pair_err, hex_in-pairs}
 use Rattle.pg_operator.proofs.words.hex_bytes.Goals as goal
 
 pub bytes-init : goal.bytes-init
-bytes-init c = (search rules, decode_start c.args.word.now c.in_ok-out.out.items)
+bytes-init c =
+    let written = c.read_blocks-first.new.out in
+    let whole : c.in_ok-out.out.len ≡ length written = search rules in
+    let back = put_back written (drop (length written) c.in_ok-out.out.items) c.in_ok-out.out.len whole in (
+      ap length back ∙ sym whole ∙ c.in_ok-out.ensures.len,
+      rw back c.read_blocks-first.ensures.bytes,
+    )
 
 pub returns-then-value-gt255-clause-refused : goal.returns-then-value-gt255-clause-refused
 returns-then-value-gt255-clause-refused c =

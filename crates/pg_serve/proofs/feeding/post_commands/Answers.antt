@@ -15,7 +15,7 @@ pub loop-command-preserved : goal.loop-command-preserved
 loop-command-preserved c = λ S stream given shown shows.
     let t = c.loop-command.invariant S stream given shown shows in
     Hears-one S c.args.sub stream given _ _ _ _ _ _ _ (ignores c.in-Ignored.refusal) t (c.in-Ignored.ensures.gives stream _ t.shows)
-    (Did-ignored (state_after S (pairs_of t.did.deeds)) c.in-Ignored.refusal _ _ _ t.did.shows c.in_ok-note-in-Ignored.ensures.noted)
+    (Did-ignored (state_after S (pairs_of t.did.deeds)) c.in-Ignored.refusal _ _ _ t.did.shows c.in_ok-note_ignored-in-Ignored.ensures.noted)
 
 pub returns-in-Broken-clause-heard : goal.returns-in-Broken-clause-heard
 returns-in-Broken-clause-heard c = λ S stream given shown shows.

@@ -1,7 +1,7 @@
-use Rattle.std.proofs.Common.{◌≡◌, Some, None, ap, sym, ◌∙◌}
+use Rattle.std.proofs.Common.{◌≡◌, List, length, false, true, Some, None, ap, sym, ◌∙◌, arith}
 use Rattle.circular_buffer.specs.Buffer.{Buffer}
 use Rattle.pg_data.specs.Pieces.{Piece}
-use Rattle.pg_session.specs.Streams.{place_of}
+use Rattle.pg_session.specs.Streams.{PlacedBlock, place_of}
 use Rattle.pg_session.proofs.Arrivals.{placed_next, rest_some, rest_none, piece_first, arrived-next}
 use Rattle.pg_session.proofs.arriving.arrive_all_in.Goals as goal
 
@@ -13,7 +13,10 @@ loop-place-preserved-in_default c =
     let within = c.requires.places k 0 c.loop-place-test.true in
     let next = placed_next m members c.args.places.now k c.key.result c.count-count.ensures.keeps c.loop-place-test.true within c.key.ensures.source c.key.ensures.pmu in
     let none : place_of members c.key.result ≡ None = sym c.place_next.ensures ∙ c.in_default.is in
-    (rw (rest_none _ _ _ _ next none) at c.loop-place.invariant.0, c.loop-place.invariant.1)
+    let same = rest_none _ _ _ _ next none in
+    let len = ap (λ (ps : List PlacedBlock). length ps) same in
+    let inv = c.loop-place.invariant in
+    (rw same at inv.0, inv.1, omega (arith, inv.2, len), inv.3, λ f. inv.4 f ∙ same)
 
 pub unreachable-requires : goal.unreachable-requires
 unreachable-requires c =
@@ -46,9 +49,14 @@ loop-place-preserved c =
     let next = placed_next m members c.args.places.now k c.key.result c.count-count.ensures.keeps c.loop-place-test.true within c.key.ensures.source c.key.ensures.pmu in
     let some : place_of members c.key.result ≡ Some c.in-Some.member = sym c.place_next.ensures ∙ c.in-Some.is in
     let so_far = rw (rest_some _ _ _ _ _ next some) at c.loop-place.invariant.0 in
-    let taken = c.pop_front.ensures.items in (
+    let taken = c.pop_front.ensures.items in
+    let len = ap (λ (ps : List PlacedBlock). length ps) (rest_some _ _ _ _ _ next some) in
+    let longer = c.loop-place.invariant.2 in (
       arrived-next c.arrive_one.new.align c.arrive_one.new.output c.in-Some-pop_front.block c.pop_front.result c.pop_front.new.self.items so_far
           c.pop_front.ensures.value c.in-Some-pop_front.is (ap (λ (b : Buffer Piece). b.items) taken)
           c.arrive_one.ensures.slots c.arrive_one.ensures.room c.arrive_one.ensures.output,
       ap (λ (b : Buffer Piece). b.capacity) taken ∙ c.loop-place.invariant.1,
+      omega (arith, longer, len),
+      λ t. omega (arith, longer, len),
+      λ (f : true ≡ false). absurd (cc f),
     )

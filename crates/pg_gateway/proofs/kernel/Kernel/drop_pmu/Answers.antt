@@ -11,14 +11,18 @@ fan_out-made-requires-clause-awaits c =
     subst (λ o. AllSlots (Awaits o) c.self.inside.subs.entries) (sym c.requires.event)
     (slots-map HasNone (Awaits (revokes c.args.key.now)) (awaits_revoke c.args.key.now) c.self.inside.subs.entries c.self.invariant.1)
 
-pub returns-then-not-has-clause-goes : goal.returns-then-not-has-clause-goes
-returns-then-not-has-clause-goes c = λ S h.
-    let shown = rw (← c.self.view_is) at h in
-    dropped_none c.args.key.now S _ h (ap (λ pmus. has_key pmus c.args.key.now) (sym shown.pmus) ∙ sym c.has.ensures.value ∙ c.if-not-has.true)
+pub returns-then-not-has : goal.returns-then-not-has
+returns-then-not-has c = record {
+  goes = λ S h.
+      let shown = rw (← c.self.view_is) at h in
+      dropped_none c.args.key.now S _ h (ap (λ pmus. has_key pmus c.args.key.now) (sym shown.pmus) ∙ sym c.has.ensures.value ∙ c.if-not-has.true);
+}
 
-pub returns-clause-goes : goal.returns-clause-goes
-returns-clause-goes c = λ S h.
-    let shown = rw (← c.self.view_is) at h in
-    let there = ap (λ pmus. has_key pmus c.args.key.now) (sym shown.pmus) ∙ sym c.has.ensures.value ∙ c.if-not-has.false in
-    let fans = c.fan_out-made.ensures.fans_out S.subs shown.subs in
-    rw c.drop_pmu-dropped.ensures.list (dropped_goes c.args.key.now S _ _ _ _ shown there (subst (λ o. FansOut o c.fan_out-made.result.0 c.fan_out-made.result.1 S.subs c.fan_out-made.new.subs.entries) c.requires.event fans) c.fan_out-made.ensures.kept)
+pub returns : goal.returns
+returns c = record {
+  goes = λ S h.
+      let shown = rw (← c.self.view_is) at h in
+      let there = ap (λ pmus. has_key pmus c.args.key.now) (sym shown.pmus) ∙ sym c.has.ensures.value ∙ c.if-not-has.false in
+      let fans = c.fan_out-made.ensures.fans_out S.subs shown.subs in
+      rw c.drop_pmu-dropped.ensures.list (dropped_goes c.args.key.now S _ _ _ _ shown there (subst (λ o. FansOut o c.fan_out-made.result.0 c.fan_out-made.result.1 S.subs c.fan_out-made.new.subs.entries) c.requires.event fans) c.fan_out-made.ensures.kept);
+}

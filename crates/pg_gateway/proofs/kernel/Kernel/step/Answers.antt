@@ -3,6 +3,7 @@ use Rattle.pg_gateway.specs.Occurrences.{occurrence, told}
 use Rattle.pg_gateway.specs.Shown.{Goes}
 use Rattle.pg_gateway.specs.Frugal.{Frugal}
 use Rattle.pg_gateway.specs.Taking.{MayCopy}
+use Rattle.pg_gateway.proofs.PlainLaws.{plain_answers}
 use Rattle.pg_gateway.proofs.kernel.Kernel.step.Goals as goal
 
 pub returns-in-Grant-clause-goes : goal.returns-in-Grant-clause-goes
@@ -46,3 +47,12 @@ returns-in-WhoWaits-clause-goes c = subst (λ e. Goes c.args.self.now (occurrenc
 
 pub returns-in-WhoWaits-clause-copies : goal.returns-in-WhoWaits-clause-copies
 returns-in-WhoWaits-clause-copies c = λ may. absurd (subst (λ e. MayCopy (occurrence e)) c.in-WhoWaits.is may)
+
+pub returns-in_default-clause-goes : goal.returns-in_default-clause-goes
+returns-in_default-clause-goes c = rw c.reply_to_all.ensures.told c.step_all.ensures.goes
+
+pub returns-in_default-clause-copies : goal.returns-in_default-clause-copies
+returns-in_default-clause-copies c = rw c.reply_to_all.ensures.told c.step_all.ensures.copies
+
+pub returns-in_default-clause-answers : goal.returns-in_default-clause-answers
+returns-in_default-clause-answers c = plain_answers c.args.event c.reply_to_all.result c.in_default.not-Drain c.reply_to_all.ensures.plain

@@ -3,12 +3,12 @@ use Rattle.pg_serve.proofs.Legally.{posts, legal_calls, hands_by_views, answers_
 use Rattle.pg_serve.proofs.shared.Shared.post.Goals as goal
 
 pub returns-clause-posted : goal.returns-clause-posted
-returns-clause-posted g c = let got = c.call-seat.result in posts c.args.seat c.args.event got.1 got.0 c.call-seat.ensures.call
+returns-clause-posted g c = let got = c.call.result in posts c.args.seat c.args.event got.1 got.0 c.call.ensures.call
 
 pub returns-clause-handed : goal.returns-clause-handed
 returns-clause-handed g c =
-    let w = c.call-seat.result.0 in hands_by_views (history_of w.seen) (legal_calls w.seen c.call-seat.ensures.call.3)
+    let w = c.call.result.0 in hands_by_views (history_of w.seen) (legal_calls w.seen c.call.ensures.call.3)
 
 pub returns-clause-own : goal.returns-clause-own
 returns-clause-own g c =
-    let w = c.call-seat.result.0 in answers_by_view (history_of w.seen) (legal_calls w.seen c.call-seat.ensures.call.3)
+    let w = c.call.result.0 in answers_by_view (history_of w.seen) (legal_calls w.seen c.call.ensures.call.3)

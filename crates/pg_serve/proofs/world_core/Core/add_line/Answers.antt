@@ -6,7 +6,7 @@ use Rattle.pg_serve.proofs.world_core.Core.add_line.Goals as goal
 pub returns-in-Err : goal.returns-in-Err
 returns-in-Err c = record {
   takes = λ m first none h.
-      rw c.reserve.ensures.entries (no_memory m (add_pmu c.args.key) _ _ _ _ refl none c.in_ok-output-in-Err.ensures.outcome h);
+      rw c.reserve.ensures.entries (no_memory m (add_pmu c.args.key) _ _ _ _ refl none c.in_ok-refused-in-Err.ensures.outcome h);
 }
 
 pub returns-then-is_done : goal.returns-then-is_done

@@ -26,9 +26,9 @@ returns-in_ok-add_line-in-Ok c = record {
       c.in_ok-add_line-in-Ok.ensures.takes m first (may_add m c.args.key first (sym (c.is_full.ensures.value m.shared h.gateway) ∙ c.if-is_full.false)) h;
 }
 
-pub returns-in_ok-output-in-Err : goal.returns-in_ok-output-in-Err
-returns-in_ok-output-in-Err c = record {
+pub returns-in_ok-refused-in-Err : goal.returns-in_ok-refused-in-Err
+returns-in_ok-refused-in-Err c = record {
   takes = λ m h.
       let first = sym (c.has_source.ensures.value m.shared h.gateway) ∙ c.if-has_source.false in
-      no_memory m (add_pmu c.args.key) _ _ _ _ refl (may_add m c.args.key first (sym (c.is_full.ensures.value m.shared h.gateway) ∙ c.if-is_full.false)) c.in_ok-output-in-Err.ensures.outcome h;
+      no_memory m (add_pmu c.args.key) _ _ _ _ refl (may_add m c.args.key first (sym (c.is_full.ensures.value m.shared h.gateway) ∙ c.if-is_full.false)) c.in_ok-refused-in-Err.ensures.outcome h;
 }

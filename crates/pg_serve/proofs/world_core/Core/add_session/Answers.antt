@@ -7,7 +7,7 @@ use Rattle.pg_serve.proofs.world_core.Core.add_session.Goals as goal
 pub returns-in-Err : goal.returns-in-Err
 returns-in-Err c = record {
   takes = λ m none h.
-      rw c.reserve.ensures.entries (no_memory m (asks c.args.sub connect) _ _ _ _ refl none c.in_ok-output-in-Err.ensures.outcome h);
+      rw c.reserve.ensures.entries (no_memory m (asks c.args.sub connect) _ _ _ _ refl none c.in_ok-refused-in-Err.ensures.outcome h);
 }
 
 pub returns-then-is_done : goal.returns-then-is_done

@@ -30,11 +30,11 @@ returns-in_ok-add_session-in-Ok c = record {
       (sym (c.is_connected.ensures.value m.shared h.gateway) ∙ c.if-is_connected.false)) h;
 }
 
-pub returns-in_ok-output-in-Err : goal.returns-in_ok-output-in-Err
-returns-in_ok-output-in-Err c = record {
+pub returns-in_ok-refused-in-Err : goal.returns-in_ok-refused-in-Err
+returns-in_ok-refused-in-Err c = record {
   takes = λ m h.
       no_memory m (asks c.args.sub connect) _ _ _ _ refl (may_connect m c.args.sub (sym (c.has_sub.ensures.value m.shared h.gateway) ∙ c.if-not-has_sub.false)
-      (sym (c.is_connected.ensures.value m.shared h.gateway) ∙ c.if-is_connected.false)) c.in_ok-output-in-Err.ensures.outcome h;
+      (sym (c.is_connected.ensures.value m.shared h.gateway) ∙ c.if-is_connected.false)) c.in_ok-refused-in-Err.ensures.outcome h;
 }
 
 pub add_session-requires : goal.add_session-requires

@@ -5,10 +5,10 @@ use Rattle.pg_serve.specs.Shown.{SourceLinkShows}
 use Rattle.pg_serve.proofs.Taking.{up_none, up_some}
 use Rattle.pg_serve.proofs.world_core.Core.link_up.Goals as goal
 
-pub returns-in_ok-output-in-None : goal.returns-in_ok-output-in-None
-returns-in_ok-output-in-None c = record {
+pub returns-in_ok-refused-in-None : goal.returns-in_ok-refused-in-None
+returns-in_ok-refused-in-None c = record {
   takes = λ m h.
-      rw c.get_mut.follows.holds-at-none (up_none m c.args.source _ _ _ _ (lookup-none SourceLinkShows (nat_eq c.args.source) _ _ h.lines (sym c.in-None.ensures.value)) c.in_ok-output-in-None.ensures.outcome h);
+      rw c.get_mut.follows.holds-at-none (up_none m c.args.source _ _ _ _ (lookup-none SourceLinkShows (nat_eq c.args.source) _ _ h.lines (sym c.in-None.ensures.value)) c.in_ok-refused-in-None.ensures.outcome h);
 }
 
 pub returns-in_ok-to_pmu-in-Some : goal.returns-in_ok-to_pmu-in-Some

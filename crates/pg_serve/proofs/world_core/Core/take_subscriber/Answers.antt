@@ -11,7 +11,7 @@ returns-in-None c = record {
   takes = λ m h.
       rw c.get_mut.follows.holds-at-none (heard_none m c.args.sub c.args.bytes.now _ _ _ _ c.absence-refusal.result
       (lookup-none SessionShows (nat_eq c.args.sub) _ _ h.sessions (sym c.in-None.ensures.value))
-      (c.absence-refusal.ensures.value m.shared h.gateway) c.in_ok-output-in-None.ensures.outcome h);
+      (c.absence-refusal.ensures.value m.shared h.gateway) c.in_ok-refused-in-None.ensures.outcome h);
 }
 
 pub returns-in-Some-broken : goal.returns-in-Some-broken

@@ -3,7 +3,7 @@ use Rattle.pg_align.specs.Slots.{all_leaving}
 use Rattle.pg_session.specs.Streams.{slot_frame}
 use Rattle.pg_session.specs.Fields.{AreTimed}
 use Rattle.pg_session.proofs.Departing.{LeftSoFar}
-use Rattle.pg_session.proofs.leaving.leave_all.Given as goal
+use Rattle.pg_session.proofs.leaving.leave_each.Given as goal
 
 abbrev pub invariant-loop-left : goal.invariant-loop-left
 invariant-loop-left l =

@@ -3,7 +3,7 @@ use Rattle.pg_align.specs.Slots.{all_leaving, after_leaving, leaving_of, head_wi
 use Rattle.pg_align.proofs.Leaving.{all_leaving-first}
 use Rattle.pg_session.specs.Streams.{slot_frame}
 use Rattle.pg_session.proofs.Departing.{left-one, leaving-one}
-use Rattle.pg_session.proofs.leaving.leave_all.Goals as goal
+use Rattle.pg_session.proofs.leaving.leave_each.Goals as goal
 
 pub loop-left-preserved : goal.loop-left-preserved
 loop-left-preserved c =

@@ -4,7 +4,7 @@ use Rattle.pg_wire.specs.Stream.{joined}
 use Rattle.pg_config.proofs.Copying.{framed}
 use Rattle.pg_outcfg.specs.Quality.{joined_quality}
 use Rattle.pg_outcfg.specs.Frames.{data_heading, data_blocks, qualities_of}
-use Rattle.pg_outcfg.proofs.data.guessed_frame.Goals as goal
+use Rattle.pg_outcfg.proofs.data.sized_frame.Goals as goal
 
 pub returns-clause-frame : goal.returns-clause-frame
 returns-clause-frame c =

@@ -1,0 +1,158 @@
+#!/usr/bin/env python3
+"""Builds a program as LLVM builds a proved one, without a proof: to measure a change before it is proved.
+
+    python3 bench/unproved.py OUT            the program pdcgw, in some four minutes
+    python3 bench/unproved.py OUT --replay   a program that replays standard input alone, in one: for run-replay.sh, as PROGRAM
+
+It takes the module that `rt try` compiles, takes out the checks and fills that only a trial has, writes the inlining hints of the
+sources into it, which a trial leaves out, and compiles it at -O3. Instructions a frame come within 2 or 3 % of the proved program's.
+What it builds has no checks and no proof: it is for figures alone. It stands on what this version of the toolchain calls things, and says so
+where it finds them otherwise.
+"""
+import glob
+import os
+import re
+import shutil
+import subprocess
+import sys
+import tempfile
+
+TARGET = "x86_64-unknown-linux-gnu"
+LEVEL = "x86-64-v2"
+HINTS = {"inline(never)": "noinline", "inline(always)": "alwaysinline", "inline": "inlinehint", "cold": "cold"}
+# A compiler that keeps the module of the program, and makes nothing of it. (A small one comes before it, and is compiled.)
+KEEPER = """#!/bin/bash
+if [ "$(stat -c %s module.bc)" -lt 100000 ]; then exec -a clang "{clang}" "$@"; fi
+cp module.bc "{kept}"
+printf '%s\\n' "$@" > "{kept}.words"
+exit 1
+"""
+REPLAY = """//! Replays standard input.
+#![tactic(auto)]
+
+use pg_replay::replay;
+use std::alloc::Global;
+use std::io;
+use std::io::BufWriter;
+use std::process::ExitCode;
+
+fn replay_input<R: Input + Print + Alloc<A = Global>>(rt: &R) -> bool {
+    let alloc = rt.alloc();
+    match BufWriter::new(alloc, io::writer(rt)) {
+        Ok(mut out) => replay(alloc, rt.reader(), &mut out).is_ok(),
+        Err(_) => false,
+    }
+}
+
+fn main(rt: HostRuntime) -> ExitCode {
+    ExitCode::from(if replay_input(&rt) { 0 } else { 1 })
+}
+"""
+
+
+def keeping_kit(kit, room):
+    """A copy of the toolchain, by links, whose compiler keeps the module."""
+    made, kept = f"{room}/kit", f"{room}/module.bc"
+    for part in ("", "/bin", "/toolchain", "/toolchain/bin"):
+        os.makedirs(made + part)
+        for name in os.listdir(kit + part):
+            if not os.path.lexists(f"{made}{part}/{name}") and f"{part}/{name}" not in ("/bin", "/toolchain", "/toolchain/bin", "/toolchain/bin/clang"):
+                os.symlink(f"{kit}{part}/{name}", f"{made}{part}/{name}")
+    # (these find the rest of the kit beside themselves)
+    for name in ("rt", "rtlib.py"):
+        os.remove(f"{made}/bin/{name}")
+        shutil.copy(f"{kit}/bin/{name}", f"{made}/bin/{name}")
+    with open(f"{made}/toolchain/bin/clang", "w") as f:
+        f.write(KEEPER.format(kept=kept, clang=f"{kit}/toolchain/bin/clang"))
+    os.chmod(f"{made}/toolchain/bin/clang", 0o755)
+    return made, kept
+
+
+def with_replay(top, room):
+    """A copy of the repository with one more crate, which replays."""
+    copy = f"{room}/copy"
+    shutil.copytree(top, copy, ignore=shutil.ignore_patterns("out", ".git"))
+    os.makedirs(f"{copy}/crates/replay_only/src")
+    with open(f"{copy}/crates/replay_only/src/main.rt", "w") as f:
+        f.write(REPLAY)
+    with open(f"{copy}/crates.txt", "a") as f:
+        f.write("replay_only: pg_replay\n")
+    return f"{copy}/crates/replay_only"
+
+
+def hints_in(kit, crates):
+    """The hints by module and function: those of the repository, and of the kit's sources."""
+    found = {}
+    for folder in [*glob.glob(f"{crates}/*/src"), *glob.glob(f"{kit}/rattle/*/src")]:
+        for file in glob.glob(f"{folder}/**/*.rt", recursive=True):
+            names = os.path.relpath(file, folder)[:-3].split("/")
+            path = "::".join([os.path.basename(os.path.dirname(folder)), *(it for it in names if it not in ("lib", "main", "mod"))])
+            with open(file) as f:
+                text = f.read()
+            for hint in re.finditer(r"#\[(inline\(never\)|inline\(always\)|inline|cold)\]([^{};]*?)\bfn\s+(\w+)", text):
+                found.setdefault((path, hint[3]), set()).add(HINTS[hint[1]])
+    return found
+
+
+def hinted(text, hints):
+    def one(line):
+        parts = re.sub(r"::<.*$", "", line[2]).split("::")
+        for length in range(len(parts) - 1, max(len(parts) - 4, 0), -1):
+            words = hints.get(("::".join(parts[:length]), parts[-1]), set())
+            if words and not {"noinline", "alwaysinline"} <= words:
+                return f'{line[1]}"{line[2]}"{line[3]} {" ".join(sorted(words))} #'
+        return line[0]
+
+    return re.sub(r'^(define [^@\n]*@)"([^"\n]+)"(\([^\n]*?\)) #', one, text, flags=re.M)
+
+
+def without_checks(text):
+    """Without the tests of a trial, the filling of fresh variables, and the sanitizer."""
+    if "rattle-llvm-checks::" not in text or "i8 -86" not in text:
+        sys.exit("the module of a trial has other checks than this script knows")
+    text = re.sub(r"  call void @llvm\.memset\.p0\.i64\(ptr [^,]+, i8 -86, i64 \d+, i1 false\)\n", "", text)
+    text = re.sub(r'  call void @"rattle-llvm-checks::[^"]*"\([^\n]*\)\n', "", text)
+    text = text.replace("  call void @llvm.trap()\n", "")
+    text = text.replace("sanitize_address", "").replace('"frame-pointer"="all"', "").replace('"target-cpu"="x86-64"', f'"target-cpu"="{LEVEL}"')
+    return re.sub(r"(attributes #\d+ = )\{\s*\}", r"\1{ nounwind }", text)
+
+
+def clang(kit, *words):
+    # (one file under several names: the first word tells it which it is)
+    subprocess.run(["clang", f"--target={TARGET}", "--no-default-config", *words], executable=f"{kit}/toolchain/bin/clang", check=True)
+
+
+def build(kit, folder, out, room):
+    made, kept = keeping_kit(kit, room)
+    tried = subprocess.run([sys.executable, f"{made}/bin/rt", "try"], cwd=folder, stdin=subprocess.DEVNULL, capture_output=True, text=True)
+    if not os.path.isfile(kept):
+        sys.exit(tried.stdout + tried.stderr)
+    clang(kit, "-x", "ir", kept, "-S", "-emit-llvm", "-O0", "-o", f"{room}/module.ll")
+    with open(f"{room}/module.ll") as f:
+        text = f.read()
+    with open(f"{kept}.words") as f:
+        given = f.read().splitlines()
+    # what the toolchain tells LLVM to do otherwise, it tells it of a proved program too
+    told = [it for at, word in enumerate(given) if word == "-mllvm" for it in given[at : at + 2]]
+    with open(f"{room}/module.ll", "w") as f:
+        f.write(without_checks(hinted(text, hints_in(kit, os.path.dirname(folder)))))
+    clang(kit, f"--sysroot={kit}/toolchain", f"-march={LEVEL}", *told, "-ffunction-sections", "-fdata-sections", "-fPIE", "-O3",
+          "-c", "-x", "ir", f"{room}/module.ll", "-o", f"{room}/module.o")
+    subprocess.run([f"{kit}/bin/rattle-link", "--target", TARGET, "--toolchain", f"{kit}/toolchain", "-o", out, f"{room}/module.o",
+                    f"{kit}/c/libos_c.a", f"{kit}/c/liblibc_c.a"], check=True, stderr=subprocess.DEVNULL)
+
+
+def main():
+    words = [it for it in sys.argv[1:] if it != "--replay"]
+    if len(words) != 1 or words[0].startswith("-"):
+        sys.exit(__doc__)
+    out = os.path.abspath(words[0])
+    top = os.path.dirname(os.path.dirname(os.path.abspath(__file__)))
+    kit = os.path.dirname(subprocess.run(["rt", "doc"], stdout=subprocess.PIPE, text=True, check=True).stdout.strip())
+    with tempfile.TemporaryDirectory() as room:
+        folder = with_replay(top, room) if "--replay" in sys.argv[1:] else f"{top}/crates/pdcgw"
+        build(kit, folder, out, room)
+
+
+if __name__ == "__main__":
+    main()
