@@ -1,8 +1,12 @@
 -- What each call keeps of the reserved slots.
-use Rattle.std.proofs.Common.{Bool, List, None, Some, [], false, length, length-set, map, refl, replicate, suc, true, zero, ℕ, ◌++◌, ◌∙◌, ◌∷◌, ◌≡◌, ◌<◌, arith}
+use Rattle.std.proofs.Common.{Bool, List, Option, None, Some, [], false, get_or, set, length, length-set, map, refl, replicate, suc, true, zero, ℕ, ◌++◌, ◌∙◌, ◌∷◌, ◌≡◌, ◌+◌, ◌<◌, arith}
 use Rattle.std.proofs.lemmas.List.{length-map, map-append, length-replicate}
 use Rattle.std.proofs.lemmas.Grind.{common_steps}
 use Rattle.std.specs.Prelude.{nat_lt, ◌==◌, slice_get}
+use Rattle.pg_data.specs.Pieces.{Piece}
+use Rattle.pg_align.specs.Histories.{is_above}
+use Rattle.pg_align.specs.Fields.{AreAbove, AreBeforeLent, slot_of, slots_of}
+use Rattle.pg_align.specs.declared.slot.Slot.{Slot}
 use Rattle.pg_align.specs.Slots.{with_part, OpenSlot, HavePlaces, AreFree, AreAfter, AreRising, one_tick_less}
 
 module _ {X : Type 0} (places : ℕ) where
@@ -77,4 +81,51 @@ module _ {X : Type 0} where
   AreRising-with_part fresh place part [] h = (tt, tt)
   AreRising-with_part fresh place part (first ∷ slots) h = rising_step fresh place part first slots _ _ refl refl h (AreRising-with_part fresh place part slots h.1)
 
-pub ruleset kept_steps = (HavePlaces-ticked, AreRising-ticked, AreFree-push, length-map, map-append, common_steps)
+-- what was lent is free once its parts are given up
+pub AreBeforeLent-cleared : (places : ℕ) (slots : List Slot) (at : ℕ) (slot : Slot) → AreBeforeLent places slots → at + 1 ≡ length slots → slot.parts.items ≡ replicate places None → AreFree places (slots_of (set slots at slot))
+AreBeforeLent-cleared places [] at slot h l e = tt
+AreBeforeLent-cleared places (first ∷ []) zero slot h l e = (e, tt)
+AreBeforeLent-cleared places (first ∷ []) (suc at) slot h l e = absurd (omega (arith, l))
+AreBeforeLent-cleared places (first ∷ next ∷ slots) zero slot h l e = absurd (omega (arith, l))
+AreBeforeLent-cleared places (first ∷ next ∷ slots) (suc at) slot h l e = (h.0, AreBeforeLent-cleared places (next ∷ slots) at slot h.1 (omega (arith, l)) e)
+
+-- it has all places
+pub AreBeforeLent-last : (places : ℕ) (slots : List Slot) (at : ℕ) (slot : Slot) → AreBeforeLent places slots → at + 1 ≡ length slots → slot ≡ get_or slots at slot → length slot.parts.items ≡ places
+AreBeforeLent-last places [] at slot h l e = absurd (omega (arith, l))
+AreBeforeLent-last places (first ∷ []) zero slot h l e = rw e h
+AreBeforeLent-last places (first ∷ []) (suc at) slot h l e = absurd (omega (arith, l))
+AreBeforeLent-last places (first ∷ next ∷ slots) zero slot h l e = absurd (omega (arith, l))
+AreBeforeLent-last places (first ∷ next ∷ slots) (suc at) slot h l e = AreBeforeLent-last places (next ∷ slots) at slot h.1 (omega (arith, l)) e
+
+-- a slot that is lent stands behind free ones
+pub AreBeforeLent-push : (places : ℕ) (slots : List Slot) (last : Slot) → AreFree places (slots_of slots) → length last.parts.items ≡ places → AreBeforeLent places (slots ++ last ∷ [])
+AreBeforeLent-push places [] last h e = e
+AreBeforeLent-push places (first ∷ []) last h e = (h.0, e)
+AreBeforeLent-push places (first ∷ next ∷ slots) last h e = (h.0, AreBeforeLent-push places (next ∷ slots) last h.1 e)
+
+-- none is at or below the last slot that left
+pub AreAbove-none : (last : Option ℕ) → AreAbove last []
+AreAbove-none None = tt
+AreAbove-none (Some last) = tt
+
+pub AreAbove-ticked : (last : Option ℕ) (slots : List (OpenSlot Piece)) → AreAbove last slots → AreAbove last (map one_tick_less slots)
+AreAbove-ticked None slots h = tt
+AreAbove-ticked (Some last) slots h = AreAfter-ticked last slots h
+
+pub AreAbove-with_part : (last : Option ℕ) (fresh : OpenSlot Piece) (place : ℕ) (part : Piece) (slots : List (OpenSlot Piece)) → is_above last fresh.slot ≡ true → AreAbove last slots → AreAbove last (with_part fresh place part slots)
+AreAbove-with_part None fresh place part slots e h = tt
+AreAbove-with_part (Some last) fresh place part slots e h =
+    let l : last < fresh.slot = grind (arith, common_steps) in
+    AreAfter-with_part last fresh place part slots l h
+
+-- one that is open comes after the last one that left
+pub AreAbove-at : (last : Option ℕ) (slots : List (OpenSlot Piece)) (at : ℕ) (slot : OpenSlot Piece) → AreAbove last slots → slice_get slots at ≡ Some slot → is_above last slot.slot ≡ true
+AreAbove-at None slots at slot h e = refl
+AreAbove-at (Some last) [] at slot h e = absurd cc
+AreAbove-at (Some last) (first ∷ slots) zero slot h e =
+    let same : first ≡ slot = cc in
+    let l : last < slot.slot = rw (← same) h.0 in
+    grind (arith, common_steps)
+AreAbove-at (Some last) (first ∷ slots) (suc at) slot h e = AreAbove-at (Some last) slots at slot h.1 e
+
+pub ruleset kept_steps = (HavePlaces-ticked, AreRising-ticked, AreAbove-ticked, AreFree-push, length-map, map-append, common_steps)

@@ -1,7 +1,7 @@
 -- What the fields of an alignment mean, and what they keep.
-use Rattle.std.specs.Prelude.{◌≡◌, ◌+◌, ◌≤◌, ℕ, suc, [], ◌∷◌, None, Some, List, length, map, Option, vec_capacity, Bool, false, ◌&&◌, not, is_some, if◌then◌else◌}
+use Rattle.std.specs.Prelude.{◌≡◌, ◌+◌, ◌≤◌, ℕ, suc, [], ◌∷◌, None, Some, List, length, map, Option, vec_capacity, Bool, true, false, replicate, ◌&&◌, not, is_some, if◌then◌else◌}
 use Rattle.pg_data.specs.Pieces.{Piece}
-use Rattle.pg_align.specs.Slots.{OpenSlot, Aligned, HavePlaces, AreFree, AreRising}
+use Rattle.pg_align.specs.Slots.{OpenSlot, Aligned, HavePlaces, AreAfter, AreFree, AreRising}
 use Rattle.pg_align.specs.declared.slot.Slot.{Slot}
 use Rattle.pg_align.specs.declared.align.Align.TheInside.{Inside}
 
@@ -12,10 +12,21 @@ slot_of slot = record { slot = slot.number; ticks_left = slot.ticks_left; parts 
 abbrev pub slots_of : List Slot → List (OpenSlot Piece)
 slots_of slots = map slot_of slots
 
--- the slot that left and is lent, if there is one
-abbrev pub lent : Option Slot → List Slot
-lent None = []
-lent (Some slot) = slot ∷ []
+-- the last of these is lent, and has this many places; those before it have no part
+abbrev pub AreBeforeLent : ℕ → List Slot → Type 0
+AreBeforeLent places [] = Unit {0}
+AreBeforeLent places (slot ∷ []) = length slot.parts.items ≡ places
+AreBeforeLent places (slot ∷ next ∷ slots) = (slot.parts.items ≡ replicate places None) × AreBeforeLent places (next ∷ slots)
+
+-- slots that are not open: all are free, or all but the last, which is lent
+abbrev pub AreSpare : ℕ → Bool → List Slot → Type 0
+AreSpare places false slots = AreFree places (slots_of slots)
+AreSpare places true slots = AreBeforeLent places slots
+
+-- each comes after the last slot that left
+abbrev pub AreAbove : Option ℕ → List (OpenSlot Piece) → Type 0
+AreAbove None slots = Unit {0}
+AreAbove (Some last) slots = AreAfter last slots
 
 -- how many effective members have no part; one past the end of the parts has none
 abbrev pub lacking : List Bool → List (Option Piece) → ℕ
@@ -47,13 +58,13 @@ pub record AlignIsKept (a : Inside) : Type 0 where
   pub some_members : 1 ≤ length a.effective.items
   pub few_members : length a.effective.items ≤ 32
   -- each of the reserved slots is open, free or lent
-  pub all_slots : length a.slots.items + (length a.spare.items + length (lent a.leaving)) ≡ a.window + 1
+  pub all_slots : length a.slots.items + length a.spare.items ≡ a.window + 1
   pub slots_room : a.window + 1 ≤ vec_capacity a.slots
   pub spare_room : a.window + 1 ≤ vec_capacity a.spare
   pub slots_places : HavePlaces (length a.effective.items) (slots_of a.slots.items)
   pub rising : AreRising (slots_of a.slots.items)
+  pub above : AreAbove a.last (slots_of a.slots.items)
   pub counted : AreCounted a.effective.items a.slots.items
-  pub spare_free : AreFree (length a.effective.items) (slots_of a.spare.items)
-  pub lent_places : HavePlaces (length a.effective.items) (slots_of (lent a.leaving))
+  pub spare_free : AreSpare (length a.effective.items) a.lent a.spare.items
   -- while it is off, no slot is open
   pub off : a.is_on ≡ false → a.slots.items ≡ []

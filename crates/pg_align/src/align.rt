@@ -1,12 +1,13 @@
 //! The alignment of a stream. A clause sees it as its open slots.
-ghost use Rattle.std.specs.Prelude.{◌≡◌, ◌<◌, ◌≤◌, ◌↔◌, ℕ, List, [], ◌∷◌, length, slice_index_or, option_map, Option, Some, None, IsTrue, IfSome, IfNone, IsSome, is_some, IfOk, IfErr, nat_le, Bool, false};
+ghost use Rattle.std.specs.Prelude.{◌≡◌, ◌<◌, ◌≤◌, ℕ, List, [], ◌∷◌, length, slice_index_or, option_map, Option, Some, None, IsTrue, IfSome, IfNone, ◌++◌, is_some, IfOk, IfErr, nat_le, Bool, false};
 ghost use Rattle.std.specs.Borrow.{sem};
 ghost use Rattle.pg_data.specs.Pieces.{Piece};
 ghost use Rattle.pg_stream.specs.Limits.{IsWithinLimits};
-ghost use Rattle.pg_align.specs.Histories.{Departed, StreamHistory, answer_to, discarded, is_above, next_to_flush, next_to_leave, open_slots, opening, reshaped, started, take_arrival, ticked};
+ghost use Rattle.pg_align.specs.Histories.{Departed, StreamHistory, answer_to, discarded, next_to_flush, next_to_leave, open_slots, opening, reshaped, started, take_arrival, ticked};
 ghost use Rattle.pg_align.specs.Slots.{Aligned, HavePlaces, answer_at, flushed_of, front_of, head_with, least_of, leaves_now, leaving_of, none_open, others_than, with_arrival, with_none, with_shape, with_start, with_tick};
 ghost use Rattle.pg_align.specs.Shown.{Shows};
-ghost use Rattle.pg_align.specs.Fields.{slot_of, slots_of, AreCounted};
+ghost use Rattle.pg_align.specs.Fields.{slots_of, AreCounted};
+ghost use Rattle.pg_align.specs.declared.slot.Slot.{Slot};
 
 use crate::answer::Arrived;
 use crate::slot::{
@@ -32,7 +33,7 @@ pub struct Align {
     last: Option<u64>,
     slots: Vec<Slot>,
     spare: Vec<Slot>,
-    leaving: Option<Slot>,
+    lent: bool,
 }
 
 impl Model for Align {
@@ -85,7 +86,7 @@ impl Align {
             last: None,
             slots,
             spare,
-            leaving: None,
+            lent: false,
         })
     }
 
@@ -138,7 +139,7 @@ impl Align {
         ensures shown { self.new ≡ with_none self.old }
         ensures history { (h : StreamHistory Piece) → Shows self.old h → Shows self.new (discarded h) }
     {
-        take_back(&mut self.leaving, &mut self.spare);
+        take_back(&mut self.lent, &mut self.spare);
         free_all(&mut self.slots, &mut self.spare);
         self.is_on = false;
     }
@@ -168,27 +169,21 @@ impl Align {
         ensures history { (h : StreamHistory Piece) → Shows self.old h
             → (result ≡ answer_to h slot place) × Shows self.new (take_arrival h slot place block) }
     {
-        take_back(&mut self.leaving, &mut self.spare);
-        if !is_after(self.last, slot) {
-            return Arrived::Late;
-        }
+        take_back(&mut self.lent, &mut self.spare);
         let opening = Opening {
+            last: self.last,
             places: self.effective.len(),
             wait: self.wait,
             missing: self.wanted,
         };
-        if add_arrival(
+        add_arrival(
             &mut self.slots,
             &mut self.spare,
             opening,
             slot,
             place,
             block,
-        ) {
-            Arrived::Kept
-        } else {
-            Arrived::Twice
-        }
+        )
     }
 
     /// A tick: one less is left for each open slot.
@@ -220,14 +215,15 @@ impl Align {
         ensures history { (h : StreamHistory Piece) → Shows self.old h
             → option_map (λ left. head_with left.slot left.parts.now) result ≡ next_to_leave h }
     {
-        take_back(&mut self.leaving, &mut self.spare);
+        take_back(&mut self.lent, &mut self.spare);
         if !least_is_leaving(&self.slots, self.window) {
             return None;
         }
         let least = take_least(&mut self.slots);
         self.last = Some(least.number);
-        self.leaving = Some(least);
-        lend(&self.leaving)
+        self.spare.push_reserved(least);
+        self.lent = true;
+        Some(lend(&self.spare))
     }
 
     /// The least open slot leaves, whatever has come: a flush is this until it answers `None`. It is lent until the next
@@ -241,24 +237,15 @@ impl Align {
         ensures history { (h : StreamHistory Piece) → Shows self.old h
             → option_map (λ left. head_with left.slot left.parts.now) result ≡ next_to_flush h }
     {
-        take_back(&mut self.leaving, &mut self.spare);
+        take_back(&mut self.lent, &mut self.spare);
         if self.slots.is_empty() {
             return None;
         }
         let first = take_least(&mut self.slots);
         self.last = Some(first.number);
-        self.leaving = Some(first);
-        lend(&self.leaving)
-    }
-}
-
-/// Whether a slot comes after the last one that left.
-fn is_after(last: Option<u64>, slot: u64) -> bool
-    ensures { result ≡ is_above last slot }
-{
-    match last {
-        None => true,
-        Some(last) => last < slot,
+        self.spare.push_reserved(first);
+        self.lent = true;
+        Some(lend(&self.spare))
     }
 }
 
@@ -276,17 +263,16 @@ fn least_is_leaving(slots: &[Slot], window: usize) -> bool
     }
 }
 
-/// Lends the slot that left.
-fn lend(leaving: &Option<Slot>) -> Option<Left<'_>>
-    ensures some { IsSome result ↔ IsSome leaving.now }
-    ensures lent { IfSome result (λ left. IfSome leaving.now (λ slot.
-        (left.slot ≡ slot.number) × (left.parts.now ≡ slot.parts.items))) }
+/// Lends the slot that left, which stands last of those that are not open.
+#[inline(always)]
+fn lend(spare: &[Slot]) -> Left<'_>
+    requires some { 0 < length spare.now }
+    ensures lent { (before : List Slot) (slot : Slot) → spare.now ≡ before ++ slot ∷ []
+        → (result.slot ≡ slot.number) × (result.parts.now ≡ slot.parts.items) }
 {
-    match leaving {
-        None => None,
-        Some(slot) => Some(Left {
-            slot: slot.number,
-            parts: slot.parts.as_slice(),
-        }),
+    let slot = &spare[spare.len() - 1];
+    Left {
+        slot: slot.number,
+        parts: slot.parts.as_slice(),
     }
 }

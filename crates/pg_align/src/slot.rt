@@ -1,9 +1,11 @@
 //! One open slot, and lists of them: the open ones by rising number, and the free ones.
-ghost use Rattle.std.specs.Prelude.{◌≡◌, ◌+◌, ◌<◌, ◌≤◌, ℕ, Bool, List, [], ◌∷◌, length, replicate, slice_set, slice_get, slice_index_or, Some, None, is_some, vec_len, vec_capacity, IsTrue, IfOk, IfErr, false, map, insert};
+ghost use Rattle.std.specs.Prelude.{◌≡◌, ◌+◌, ◌-◌, ◌<◌, ◌≤◌, ℕ, Bool, List, [], ◌∷◌, length, replicate, slice_set, slice_get, slice_index_or, Some, None, is_some, vec_len, vec_capacity, IsTrue, IfOk, IfErr, true, false, if◌then◌else◌, map, insert};
 ghost use Rattle.pg_data.specs.Pieces.{Piece};
+ghost use Rattle.pg_align.specs.Histories.{is_above};
 ghost use Rattle.pg_align.specs.Slots.{one_tick_less, AreFree, AreRising, HavePlaces, OpenSlot, StandsAt, count_below, others_than, put_into, part_at, with_part, fresh_slot};
-ghost use Rattle.pg_align.specs.Fields.{slot_of, slots_of, lent, lacking, AreCounted};
+ghost use Rattle.pg_align.specs.Fields.{slot_of, slots_of, lacking, AreAbove, AreBeforeLent, AreCounted, AreSpare};
 
+use crate::answer::Arrived;
 use pg_data::SharedBlock;
 use std::alloc::{AllocError, Global};
 
@@ -17,9 +19,11 @@ pub(crate) struct Slot {
     pub(crate) parts: Vec<Option<SharedBlock>>,
 }
 
-/// How a slot opens: its places, the ticks until it is due, and the effective members, whose blocks are all missing yet.
+/// How a slot opens: after the last one that left, with its places, the ticks until it is due, and the effective members, whose blocks
+/// are all missing yet.
 #[derive(Clone, Copy)]
 pub(crate) struct Opening {
+    pub(crate) last: Option<u64>,
     pub(crate) places: usize,
     pub(crate) wait: u32,
     pub(crate) missing: u32,
@@ -90,37 +94,33 @@ pub(crate) fn take_least(slots: &mut Vec<Slot>) -> Slot
     slots.remove(0)
 }
 
-/// Takes back the slot that was lent, if one was, and gives up its parts.
+/// Takes back the slot that was lent, if one was, and gives up its parts: it stands last of those that are not open.
 #[inline(always)]
-#[tactic(auto, using(crate::proofs::Kept::kept_steps))]
-pub(crate) fn take_back(leaving: &mut Option<Slot>, spare: &mut Vec<Slot>)
-    requires room { vec_len spare.old + length (lent leaving.old) ≤ vec_capacity spare.old }
-    ensures none { leaving.new ≡ None }
-    ensures len { length spare.new.items ≡ length spare.old.items + length (lent leaving.old) }
-    ensures free { (places : ℕ) → AreFree places (slots_of spare.old.items)
-        → HavePlaces places (slots_of (lent leaving.old)) → AreFree places (slots_of spare.new.items) }
+pub(crate) fn take_back(lent: &mut bool, spare: &mut Vec<Slot>)
+    ensures none { lent.new ≡ false }
+    ensures len { length spare.new.items ≡ length spare.old.items }
+    ensures free { (places : ℕ) → AreSpare places lent.old spare.old.items → AreFree places (slots_of spare.new.items) }
     ensures capacity { vec_capacity spare.new ≡ vec_capacity spare.old }
 {
-    // Mostly none was lent, and then nothing is moved.
-    if leaving.is_some() {
-        give_back(leaving, spare);
+    if *lent {
+        *lent = false;
+        give_back(spare);
     }
 }
 
-/// The same, mostly called where one was lent.
-#[tactic(auto, using(crate::proofs::Kept::kept_steps))]
-fn give_back(leaving: &mut Option<Slot>, spare: &mut Vec<Slot>)
-    requires room { vec_len spare.old + length (lent leaving.old) ≤ vec_capacity spare.old }
-    ensures none { leaving.new ≡ None }
-    ensures len { length spare.new.items ≡ length spare.old.items + length (lent leaving.old) }
-    ensures free { (places : ℕ) → AreFree places (slots_of spare.old.items)
-        → HavePlaces places (slots_of (lent leaving.old)) → AreFree places (slots_of spare.new.items) }
+/// Gives up the parts of the last slot, which was lent.
+#[inline(always)]
+fn give_back(spare: &mut Vec<Slot>)
+    ensures len { length spare.new.items ≡ length spare.old.items }
+    ensures free { (places : ℕ) → AreBeforeLent places spare.old.items → AreFree places (slots_of spare.new.items) }
     ensures capacity { vec_capacity spare.new ≡ vec_capacity spare.old }
 {
-    if let Some(mut slot) = leaving.take() {
-        clear_parts(&mut slot.parts);
-        spare.push_reserved(slot);
+    if spare.is_empty() {
+        return;
     }
+    let last = spare.len() - 1;
+    let slot = &mut spare[last];
+    clear_parts(&mut slot.parts);
 }
 
 /// Gives up the parts of all slots; these are free then.
@@ -229,8 +229,25 @@ fn open_slot(slots: &mut Vec<Slot>, at: usize, mut fresh: Slot, place: usize, pa
     };
 }
 
+/// Whether a slot comes after the last one that left.
+fn is_after(last: Option<u64>, slot: u64) -> bool
+    ensures { result ≡ is_above last slot }
+{
+    match last {
+        None => true,
+        Some(last) => last < slot,
+    }
+}
+
+/// What became of a part whose slot is open.
+fn told(kept: bool) -> Arrived
+    ensures { result ≡ (if kept then Arrived.Kept else Arrived.Twice) }
+{
+    if kept { Arrived::Kept } else { Arrived::Twice }
+}
+
 /// Puts a part of a slot into its place, and opens the slot if it is not open: each slot has that many places. Nothing
-/// changes if a part is there, and the answer is then `false`.
+/// changes if a part is there, or if the slot does not come after the last one that left, as all that are open do.
 pub(crate) fn add_arrival(
     slots: &mut Vec<Slot>,
     spare: &mut Vec<Slot>,
@@ -238,30 +255,36 @@ pub(crate) fn add_arrival(
     slot: u64,
     place: usize,
     part: SharedBlock,
-) -> bool
+) -> Arrived
+    requires above { AreAbove opening.last (slots_of slots.old.items) }
     requires room { others_than slot (slots_of slots.old.items) < vec_capacity slots.old }
     requires spare { others_than slot (slots_of slots.old.items) < length slots.old.items + length spare.old.items }
     requires place { place < opening.places }
     requires places { HavePlaces opening.places (slots_of slots.old.items) }
     requires rising { AreRising (slots_of slots.old.items) }
     requires free { AreFree opening.places (slots_of spare.old.items) }
-    ensures kept { IsTrue result → (part_at (slots_of slots.old.items) slot place ≡ None)
+    ensures late { result ≡ Arrived.Late → (is_above opening.last slot ≡ false) × (slots_of slots.new.items ≡ slots_of slots.old.items) }
+    ensures kept { result ≡ Arrived.Kept → (is_above opening.last slot ≡ true) × (part_at (slots_of slots.old.items) slot place ≡ None)
         × (slots_of slots.new.items ≡ with_part (fresh_slot slot opening.wait opening.places place part) place part (slots_of slots.old.items)) }
-    ensures twice { result ≡ false → IsTrue (is_some (part_at (slots_of slots.old.items) slot place))
+    ensures twice { result ≡ Arrived.Twice → (is_above opening.last slot ≡ true) × IsTrue (is_some (part_at (slots_of slots.old.items) slot place))
         × (slots_of slots.new.items ≡ slots_of slots.old.items) }
     ensures count { length slots.new.items + length spare.new.items ≡ length slots.old.items + length spare.old.items }
     ensures counted { (effective : List Bool) → AreCounted effective slots.old.items → opening.missing ≡ lacking effective []
         → IsTrue (slice_index_or effective place false) → AreCounted effective slots.new.items }
     ensures places { HavePlaces opening.places (slots_of slots.new.items) }
     ensures rising { AreRising (slots_of slots.new.items) }
+    ensures above { AreAbove opening.last (slots_of slots.new.items) }
     ensures free { AreFree opening.places (slots_of spare.new.items) }
     ensures capacity { (vec_capacity slots.new ≡ vec_capacity slots.old)
         × (vec_capacity spare.new ≡ vec_capacity spare.old) }
 {
     let at = match place_of(slots, slot) {
-        Ok(at) => return add_part(slots, at, place, part),
+        Ok(at) => return told(add_part(slots, at, place, part)),
         Err(at) => at,
     };
+    if !is_after(opening.last, slot) {
+        return Arrived::Late;
+    }
     let Some(mut fresh) = spare.pop() else {
         unreachable!();
     };
@@ -269,7 +292,7 @@ pub(crate) fn add_arrival(
     fresh.ticks_left = opening.wait;
     fresh.missing = opening.missing;
     open_slot(slots, at, fresh, place, part);
-    true
+    Arrived::Kept
 }
 
 /// Places for parts, all free.

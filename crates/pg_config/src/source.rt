@@ -6,7 +6,7 @@ ghost use Rattle.std.specs.Arc.{arc_value};
 ghost use Rattle.pg_config.specs.Parts.{IsPart, IsSource, block_id, data_len, data_lens, ends_from};
 ghost use Rattle.pg_config.specs.Writing.{uncounted, block_with_count};
 
-use pg_wire::{Kind, PmuId, PmuKey};
+use pg_wire::{Ahead, Kind, PmuId, PmuKey};
 use std::alloc::{AllocError, Global};
 use std::marker::Model;
 use std::sync::Arc;
@@ -123,18 +123,21 @@ pub struct SourceConfig {
     pub parts: Vec<Arc<PmuConfig>>,
     // Where each PMU's data block begins among a frame's data blocks, and then where the last one ends.
     places: Vec<usize>,
+    // And what CHK of a frame becomes past each PMU's data block.
+    aheads: Vec<Ahead>,
 }
 
 impl Model for SourceConfig {
     ghost use Rattle.std.specs.Prelude.{◌≡◌, ◌∷◌, map};
     ghost use Rattle.std.specs.Arc.{arc_value};
-    ghost use Rattle.pg_config.specs.Parts.{Source, IsSource, ends_from};
+    ghost use Rattle.pg_config.specs.Parts.{Source, IsSource, data_len, ends_from};
 
     ghost Value = { Source };
 
     ghost view = { λ s. record { source = s.source; parts = map arc_value s.parts.items } };
 
-    ghost invariant = { λ s. IsSource (record { source = s.source; parts = map arc_value s.parts.items }) × (s.places.items ≡ 0 ∷ ends_from 0 (map arc_value s.parts.items)) };
+    ghost invariant = { λ s. IsSource (record { source = s.source; parts = map arc_value s.parts.items }) × (s.places.items ≡ 0 ∷ ends_from 0 (map arc_value s.parts.items))
+        × (s.aheads.items ≡ map data_len (map arc_value s.parts.items)) };
 }
 
 /// The places of the data blocks of these PMUs.
@@ -152,6 +155,17 @@ fn places_of(alloc: Global, parts: &[Arc<PmuConfig>]) -> Result<Vec<usize>, Allo
     Ok(found)
 }
 
+/// What a frame's CHK becomes past the data blocks of these PMUs.
+fn aheads_of(alloc: Global, parts: &[Arc<PmuConfig>]) -> Result<Vec<Ahead>, AllocError>
+    ensures { IfOk result (λ v. v.items ≡ map data_len (map arc_value parts.now)) }
+{
+    let mut aheads = Vec::with_capacity(alloc, parts.len())?;
+    for part in parts {
+        aheads.push(Ahead::new(part.block_len()))?;
+    }
+    Ok(aheads)
+}
+
 impl SourceConfig {
     /// The configuration of a source with these PMUs.
     pub fn new(
@@ -163,10 +177,12 @@ impl SourceConfig {
         ensures { IfOk result (λ s. s ≡ record { source = source; parts = map arc_value parts.items }) }
     {
         let places = places_of(alloc, &parts)?;
+        let aheads = aheads_of(alloc, &parts)?;
         Ok(SourceConfig {
             source,
             parts,
             places,
+            aheads,
         })
     }
 
@@ -184,6 +200,14 @@ impl SourceConfig {
         ensures { result ≡ data_lens (take i self.now.parts) }
     {
         self.places[i]
+    }
+
+    /// What CHK of a frame becomes past the data block of PMU i.
+    pub fn ahead(&self, i: usize) -> &Ahead
+        requires { i < length self.now.parts }
+        ensures { IfSome (slice_get self.now.parts i) (λ part. result.now ≡ data_len part) }
+    {
+        &self.aheads[i]
     }
 
     /// The key of PMU i.

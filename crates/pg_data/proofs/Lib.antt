@@ -4,3 +4,4 @@ pub mod Fillers
 pub mod Spellings
 pub mod Shares
 pub mod Sources
+pub mod Setting

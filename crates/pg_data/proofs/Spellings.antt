@@ -1,6 +1,6 @@
 -- What a data frame spells is what is read of it.
-use Rattle.std.proofs.Common.{◌≡◌, ℕ, ◌+◌, ◌-◌, ◌/◌, ◌<◌, ◌≤◌, ◌≢◌, List, length, drop, get_or, Result, Ok, Err, is_ok, IsOk, IfOk, MatchResult, refl, sym, ap, ap₂, ◌∙◌, subst, inl, inr, Bool, true, false, nat_lt, ◌==◌, not, if◌then◌else◌, arith, length-drop}
-use Rattle.std.proofs.lemmas.List.{length-take-le}
+use Rattle.std.proofs.Common.{◌≡◌, ℕ, ◌+◌, ◌-◌, ◌/◌, ◌<◌, ◌≤◌, ◌≢◌, List, length, drop, get_or, [], ◌∷◌, slice_get, IfSome, Result, Ok, Err, is_ok, IsOk, IfOk, MatchResult, refl, sym, ap, ap₂, ◌∙◌, subst, inl, inr, Bool, true, false, nat_lt, ◌==◌, not, if◌then◌else◌, arith, length-drop}
+use Rattle.std.proofs.lemmas.List.{length-take-le, take_all}
 use Rattle.std.proofs.lemmas.Bool.{eqb-true, ltb-true, eq-eqb, ne_eqb, lt-ltb, le-ltb}
 use Rattle.std.specs.Arc.{arc_value}
 use Rattle.std.specs.declared.sync.Arc.{Arc}
@@ -9,8 +9,8 @@ use Rattle.pg_wire.specs.declared.refusal.Refusal.TheVariants.{NoMemory, WrongId
 use Rattle.pg_wire.specs.Frame.{size_of, version_of}
 use Rattle.pg_wire.specs.Head.{IsFrame, HeadFits, frame_of, head_of, body_of, two_at, three_at, four_at}
 use Rattle.pg_wire.proofs.Spelled.{frame-spelled, spells-back, frame_is_long}
-use Rattle.pg_config.specs.Parts.{Source, IsSource, data_lens}
-use Rattle.pg_data.specs.Measurements.{Measurement, IsMeasurement, resolution, data_head}
+use Rattle.pg_config.specs.Parts.{Part, Source, IsSource, data_len, data_lens}
+use Rattle.pg_data.specs.Measurements.{Measurement, IsMeasurement, block_in, resolution, data_head}
 use Rattle.pg_data.specs.Reading.{SpellsData, IsDataFrame, ReadsAs, ReadsBack, measurement_of, data_of, spelling_of}
 use Rattle.pg_data.proofs.Blocks.{cut, cut-sizes, joined-cut, joined-length, part_bounded}
 
@@ -194,6 +194,31 @@ tests_ok true true true x h = (refl, refl, refl)
 tests_ok true true false x h = absurd (cc)
 tests_ok true false c x h = absurd (cc)
 tests_ok false b c x h = absurd (cc)
+
+-- one block is the whole body
+pub one_len : (parts : List Part) (n : ℕ) → length parts ≡ 1 → IfSome (slice_get parts 0) (λ part. n ≡ data_len part) → data_lens parts ≡ n
+one_len [] n one is = absurd (omega arith)
+one_len (p ∷ []) n one is = omega (arith, is)
+one_len (p ∷ q ∷ parts) n one is = absurd (omega arith)
+
+pub one_block : (parts : List Part) (body : List ℕ) → length parts ≡ 1 → length body ≡ data_lens parts → block_in parts body 0 ≡ body
+one_block [] body one size = absurd (omega arith)
+one_block (p ∷ []) body one size = take_all ((data_len p + 0) - 0) body (omega (arith, size))
+one_block (p ∷ q ∷ parts) body one size = absurd (omega arith)
+
+pub frame-length : (frame body : List ℕ) → IsFrame frame → body ≡ body_of frame → length frame ≡ 16 + length body
+frame-length frame body is same =
+    let l = body-length frame is in
+    let size : length frame ≡ size_of frame = is.0.size in
+    let bytes : length body ≡ length (body_of frame) = ap length same in
+    omega arith
+
+-- what is read has the bytes of all its blocks
+pub sized-ok : (config : Source) (frame : List ℕ) → IsFrame frame → IsOk (data_of config frame) → length (body_of frame) ≡ data_lens config.parts
+sized-ok config frame is ok =
+    let t = tests_ok (two_at frame 4 == config.source) (size_of frame == 16 + data_lens config.parts) (nat_lt (three_at frame 11) (resolution config))
+    (measurement_of config frame) ok in
+    body-sized config frame is (eqb-true _ _ t.1)
 
 -- the value that the reader made
 pub made_passed : (config : Source) (frame : List ℕ) (m : Measurement) → IsOk (data_of config frame) → m.source ≡ config.source → m.soc ≡ four_at frame 6

@@ -1,14 +1,20 @@
 //! A data frame that was read.
 
-ghost use Rattle.std.specs.Prelude.{◌≡◌, ◌↔◌, ◌+◌, ◌^◌, ◌<◌, ◌≤◌, length, take, slice_get, IfSome, IsTrue};
+ghost use Rattle.std.specs.Prelude.{◌≡◌, ◌↔◌, ◌+◌, ◌^◌, ◌<◌, ◌≤◌, ◌++◌, ℕ, List, length, take, slice_get, IfSome, IsTrue};
 ghost use Rattle.pg_config.specs.Parts.{block_id, data_len, data_lens};
 ghost use Rattle.std.specs.Int.{bit_at};
-ghost use Rattle.pg_data.specs.Measurements.{IsMeasurement, resolution, block_of, stat_of, HasChange, has_change};
+ghost use Rattle.pg_wire.specs.Check.{dividend_from, IsRemainder};
+ghost use Rattle.pg_wire.specs.Head.{IsFrame, body_of};
+ghost use Rattle.pg_data.specs.Measurements.{IsMeasurement, resolution, block_in, block_of, stat_of, HasChange, has_change};
+ghost use Rattle.pg_data.specs.Alone.{AreAlone};
 
 use pg_config::SourceConfig;
-use pg_wire::{PmuId, PmuKey};
+use pg_wire::{PmuId, PmuKey, body_alone, check_alone};
 use std::marker::Model;
 use std::sync::Arc;
+
+/// The most PMUs of a source.
+pub(crate) const MOST_PMUS: usize = 16;
 
 /// STAT's configuration change bit, bit 10 (C37.118.2, 6.3).
 const CONFIG_CHANGE: u16 = 0x0400;
@@ -28,17 +34,20 @@ pub struct DataFrame {
     pub config: Arc<SourceConfig>,
     /// All data blocks, in the order of the configuration.
     pub body: Vec<u8>,
+    // What each data block adds to CHK of a frame that ends with it. Whoever composes a frame of blocks need not sum them again.
+    pub(crate) alone: [u16; MOST_PMUS],
 }
 
 impl Model for DataFrame {
     ghost use Rattle.std.specs.Arc.{arc_value};
     ghost use Rattle.pg_data.specs.Measurements.{Measurement, IsMeasurement};
+    ghost use Rattle.pg_data.specs.Alone.{AreAlone};
 
     ghost Value = { Measurement };
 
     ghost view = { λ f. record { source = f.source; soc = f.soc; quality = f.quality; frac = f.frac; config = arc_value f.config; body = f.body.items } };
 
-    ghost invariant = { λ f. IsMeasurement (record { source = f.source; soc = f.soc; quality = f.quality; frac = f.frac; config = arc_value f.config; body = f.body.items }) };
+    ghost invariant = { λ f. IsMeasurement (record { source = f.source; soc = f.soc; quality = f.quality; frac = f.frac; config = arc_value f.config; body = f.body.items }) × AreAlone (arc_value f.config) f.body.items f.alone };
 }
 
 impl DataFrame {
@@ -72,6 +81,18 @@ impl DataFrame {
     {
         let (start, end) = self.place(i);
         &self.body[start..end]
+    }
+
+    /// What a frame's check becomes once PMU i's data block has come behind the bytes that it is of. The block is not summed again.
+    #[inline(always)]
+    pub(crate) fn check_past(&self, i: usize, crc: u16) -> u16
+        requires { i < length self.now.config.parts }
+        ensures { (start : ℕ) (before : List ℕ) → IsRemainder (dividend_from start before) crc
+            → IsRemainder (dividend_from start (before ++ block_of self.now i)) result }
+    {
+        self.config
+            .ahead(i)
+            .check_past(crc, self.block(i), self.alone[i])
     }
 
     /// Where PMU i's data block begins and ends in the body.
@@ -125,6 +146,57 @@ impl DataFrame {
         }
         false
     }
+}
+
+/// What each data block of a frame adds to CHK of a frame that ends with it. A frame of one block tells it by its own CHK.
+pub(crate) fn alone_in(config: &SourceConfig, frame: &[u8], body: &[u8]) -> [u16; MOST_PMUS]
+    requires frame { IsFrame frame.now }
+    requires body { body.now ≡ body_of frame.now }
+    requires len { length body.now ≡ data_lens config.now.parts }
+    ensures { AreAlone config.now body.now result }
+{
+    if config.count() == 1 {
+        let mut alone = [0; MOST_PMUS];
+        alone[0] = body_alone(frame, config.ahead(0));
+        return alone;
+    }
+    alone_of(config, body)
+}
+
+/// The same of the blocks themselves.
+fn alone_of(config: &SourceConfig, body: &[u8]) -> [u16; MOST_PMUS]
+    requires { length body.now ≡ data_lens config.now.parts }
+    ensures { AreAlone config.now body.now result }
+{
+    let mut alone = [0; MOST_PMUS];
+    for i in 0..config.count() {
+        alone[i] = check_alone(block_at(config, body, i));
+    }
+    alone
+}
+
+/// The data block of PMU i.
+#[inline(always)]
+fn block_at<'a>(config: &SourceConfig, body: &'a [u8], i: usize) -> &'a [u8]
+    requires place { i < length config.now.parts }
+    requires len { length body.now ≡ data_lens config.now.parts }
+    ensures { result.now ≡ block_in config.now.parts body.now i }
+{
+    let (start, end) = place_in(config, i);
+    &body[start..end]
+}
+
+/// Where PMU i's data block begins and ends among a source's data blocks.
+#[inline(always)]
+fn place_in(config: &SourceConfig, i: usize) -> (usize, usize)
+    requires { i < length config.now.parts }
+    ensures start { result.0 ≡ data_lens (take i config.now.parts) }
+    ensures end { result.1 ≡ data_lens (take (i + 1) config.now.parts) }
+    ensures order { result.0 ≤ result.1 }
+    ensures within { result.1 ≤ data_lens config.now.parts }
+{
+    let _count = config.count();
+    (config.start(i), config.start(i + 1))
 }
 
 /// The resolution of a source's frames.

@@ -7,7 +7,7 @@ ghost use Rattle.pg_data.specs.Measurements.{Measurement};
 ghost use Rattle.pg_data.specs.Reading.{SpellsData, IsDataFrame, ReadsAs, Checks, data_of};
 ghost use Rattle.pg_data.specs.Sharing.{HasOwnBytes};
 
-use crate::frame::{DataFrame, resolution_of};
+use crate::frame::{DataFrame, alone_in, resolution_of};
 use pg_config::SourceConfig;
 use pg_wire::Refusal;
 use std::alloc::Global;
@@ -54,13 +54,17 @@ fn decode(
     ensures { ReadsAs result (data_of (arc_value config.now) frame.now) }
 {
     check_data(config, frame)?;
+    let shared = Arc::try_clone(config)?;
+    let body = Vec::from_slice(alloc, &frame[HEAD..frame.len() - TAIL])?;
+    let alone = alone_in(config, frame, body.as_slice());
     let data = DataFrame {
         source: config.source,
         soc: u32::from_be_bytes([frame[6], frame[7], frame[8], frame[9]]),
         quality: frame[10],
         frac: numerator(frame),
-        config: Arc::try_clone(config)?,
-        body: Vec::from_slice(alloc, &frame[HEAD..frame.len() - TAIL])?,
+        config: shared,
+        body,
+        alone,
     };
     Ok(Arc::new(alloc, data)?)
 }

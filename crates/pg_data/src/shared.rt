@@ -1,6 +1,7 @@
 //! One PMU's data block in a frame that others share.
 
-ghost use Rattle.std.specs.Prelude.{◌≡◌, ◌+◌, ◌<◌, ◌≤◌, ◌^◌, length, IfOk};
+ghost use Rattle.std.specs.Prelude.{◌≡◌, ◌+◌, ◌<◌, ◌≤◌, ◌^◌, ◌++◌, ℕ, List, length, IfOk};
+ghost use Rattle.pg_wire.specs.Check.{dividend_from, IsRemainder};
 ghost use Rattle.std.specs.Arc.{arc_value};
 ghost use Rattle.pg_data.specs.Pieces.{Piece, piece_of};
 
@@ -51,5 +52,15 @@ impl SharedBlock {
         ensures few { length result.now ≤ 398 }
     {
         self.frame.block(self.place)
+    }
+
+    /// What a frame's check becomes once this block has come behind the bytes that it is of: the same as `check_more` of pg_wire says
+    /// of its bytes, which are not summed again.
+    #[inline(always)]
+    pub fn check_past(&self, crc: u16) -> u16
+        ensures { (start : ℕ) (before : List ℕ) → IsRemainder (dividend_from start before) crc
+            → IsRemainder (dividend_from start (before ++ self.now.block)) result }
+    {
+        self.frame.check_past(self.place, crc)
     }
 }

@@ -171,6 +171,30 @@ fn first_path(rt: HostRuntime) -> Result<(), Fail> {
     Ok(())
 }
 
+#[test]
+fn check_past_a_block(rt: HostRuntime) -> Result<(), Fail> {
+    let alloc = rt.alloc();
+    let config = config_7(&rt, alloc)?;
+    let frame = read(&rt, alloc, &config, &framed(alloc, &DATA_7)?)?;
+    let block = SharedBlock::new(frame, 0);
+    same(&rt, block.check_past(check(&DATA_7[..14])), 0x7FA7);
+    Ok(())
+}
+
+// CHK past a PMU's block, which stands from one place to another in the frame, is that of the bytes as far as its end.
+fn past(rt: &impl Abort, frame: &Arc<DataFrame>, i: usize, bytes: &[u8], place: (usize, usize)) {
+    let (start, end) = place;
+    assert!(rt; start <= bytes.len());
+    assert!(rt; end <= bytes.len());
+    assert!(rt; i < frame.count());
+    let block = SharedBlock::new(Arc::try_clone(frame).expect(rt, "memory"), i);
+    same(
+        rt,
+        block.check_past(check(&bytes[..start])),
+        check(&bytes[..end]),
+    );
+}
+
 // PMUs 7, 8 and 11 of source 9 in one frame of 44 bytes.
 #[test]
 fn shared_frame(rt: HostRuntime) {
@@ -213,6 +237,8 @@ fn shared_frame(rt: HostRuntime) {
         frame.block(2),
         [0, 0, 0x30, 0, 0x40, 0, 0, 0, 0, 0].as_slice(),
     );
+    past(&rt, &frame, 1, &bytes, (24, 32));
+    past(&rt, &frame, 2, &bytes, (32, 42));
     same(
         &rt,
         (frame.key(2).source.get(), frame.key(2).pmu.get()),

@@ -22,6 +22,11 @@ const LINK_COMMAND: [u8; 18] = [
     0x32, 0x3A,
 ];
 
+/// Its head.
+const MEASURED_HEAD: [u8; 14] = [
+    0xAA, 0x02, 0x00, 0x1A, 0x00, 0x07, 0x00, 0x00, 0x00, 0x64, 0x00, 0x00, 0x82, 0x35,
+];
+
 #[test]
 fn check_values(rt: HostRuntime) {
     same(&rt, check(b"123456789"), 0x29B1);
@@ -32,6 +37,31 @@ fn check_values(rt: HostRuntime) {
     for i in 0..bytes.len() {
         bytes[i] = (i * 167 % 251) as u8;
         assert_eq!(rt; check(&bytes[..i]), check_bytewise(&bytes[..i]), "at {i}");
+    }
+}
+
+#[test]
+fn check_in_pieces(rt: HostRuntime) {
+    same(&rt, check_more(check(b"12345"), b"6789"), 0x29B1);
+    same(
+        &rt,
+        check_head(&MEASURED_HEAD),
+        check_bytewise(&MEASURED[..14]),
+    );
+    let mut bytes = [0x5A; 60];
+    for i in 0..bytes.len() {
+        bytes[i] = (i * 167 % 251) as u8;
+    }
+    let whole = check_bytewise(&bytes);
+    // The bytes behind place i are never looked at but for what they add alone.
+    for i in 0..bytes.len() {
+        let (front, block) = bytes.split_at(i);
+        let ahead = Ahead::new(block.len());
+        assert_eq!(rt;
+            ahead.check_past(check(front), block, check_alone(block)),
+            whole,
+            "at {i}"
+        );
     }
 }
 

@@ -46,6 +46,13 @@ marked_next j ps ns k lt same = rw add-one (by ps ns k lt same)
         ap (λ l. (if nat_eq (bit_at n j) 1 then p ∷ [] else []) ++ l) (by ps ns k (omega arith) (omega arith))
         ∙ sym (append_assoc (if nat_eq (bit_at n j) 1 then p ∷ [] else []) (places_marked j (take k ps) (take k ns)) (if nat_eq (bit_at (get_or ns k 0) j) 1 then get_or ps k 0 ∷ [] else []))
 
+-- where each mask has the bit, all places are marked
+pub all_marked : (j : ℕ) (ps ns : List ℕ) → length ns ≡ length ps → ((i : ℕ) → i < length ns → nat_eq (bit_at (get_or ns i 0) j) 1 ≡ true) → places_marked j ps ns ≡ ps
+all_marked j [] ns same set = refl
+all_marked j (p ∷ ps) [] same set = absurd (omega arith)
+all_marked j (p ∷ ps) (n ∷ ns) same set =
+    rw (set 0 (omega arith)) (ap (λ l. p ∷ l) (all_marked j ps ns (omega arith) (λ i lt. set (suc i) (omega arith))))
+
 pub masks_next : (masks : List ℕ) (bs : List (ℕ × Option Refusal)) (k : ℕ) (d : ℕ × Option Refusal) → k < length bs
     → masks_taken masks (take (k + 1) bs) ≡ masks_taken masks (take k bs) ++ mask_where (get_or bs k d).1 (get_or masks (get_or bs k d).0 0)
 masks_next masks bs k d lt = rw add-one (by bs k lt)

@@ -1,6 +1,6 @@
 //! One subscriber with its audit.
 
-ghost use Rattle.std.specs.Prelude.{◌≡◌, ◌<◌, ◌≤◌, nat_eq, true, false, length, filter, vec_capacity, slice_get, IfOk, IfErr, Some, None, option_map, IfSome};
+ghost use Rattle.std.specs.Prelude.{◌≡◌, ◌<◌, ◌≤◌, ℕ, List, nat_eq, true, false, length, filter, vec_capacity, slice_get, IfOk, IfErr, Some, None, option_map, IfSome};
 ghost use Rattle.std.specs.Arc.{arc_value};
 ghost use Rattle.std.specs.Int.{bit_at};
 ghost use Rattle.pg_audit.specs.Noting.{newest_at};
@@ -234,15 +234,17 @@ impl SubscriberSlot {
         ensures lays { LaysShare (measured (arc_value frame.now) places.now) self.old result self.new }
         ensures room { 16 ≤ vec_capacity held.new }
     {
+        if are_marked(masks, bit) {
+            self.subscriber
+                .copies(&PrivateEvent::Measure(frame, places))?;
+            self.whole = true;
+            return Ok(());
+        }
         if !hold_marked(places, masks, bit, held) {
             self.spared = true;
             return Ok(());
         }
         self.subscriber.copies(&PrivateEvent::Measure(frame, held))?;
-        if held.len() < places.len() {
-            return Ok(());
-        }
-        self.whole = true;
         Ok(())
     }
 
@@ -425,6 +427,20 @@ fn has_bit(mask: u64, bit: u32) -> bool
     ensures { result ≡ nat_eq (bit_at mask bit) 1 }
 {
     (mask >> bit) & 1 == 1
+}
+
+/// Whether there are masks, and the bit is set in each.
+fn are_marked(masks: &[u64], bit: u32) -> bool
+    requires bit { bit < 64 }
+    ensures some { result ≡ true → 0 < length masks.now }
+    ensures all { result ≡ true → (places : List ℕ) → length masks.now ≡ length places → places_marked bit places masks.now ≡ places }
+{
+    for mask in masks {
+        if !has_bit(*mask, bit) {
+            return false;
+        }
+    }
+    !masks.is_empty()
 }
 
 /// Of these places of a frame's blocks, each with the mask of who holds it, those of the subscriber whose bit this is. It answers

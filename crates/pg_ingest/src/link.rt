@@ -146,6 +146,7 @@ impl Link {
     }
 
     /// Keeps what a frame tells, counts it, and tells it.
+    #[inline(always)]
     fn take(&mut self, told: Told) -> LinkEvent
         requires { IsPaired told }
         ensures event { IsEventOf result (item_told told) }

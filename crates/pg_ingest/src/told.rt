@@ -32,6 +32,7 @@ pub(crate) enum Told {
 
 /// Reads a frame of a source, by the configuration that it announced last. Each frame is read once, into memory that
 /// whoever is told shares.
+#[inline(always)]
 pub(crate) fn tell(
     alloc: Global,
     source: PmuId,
@@ -50,6 +51,7 @@ pub(crate) fn tell(
 }
 
 /// Reads a CFG-2 frame.
+#[inline(never)]
 fn tell_config(alloc: Global, source: PmuId, frame: &[u8]) -> Told
     requires { IsFrame frame.now }
     ensures item { TellsConfig source frame.now (item_told result) }
@@ -83,6 +85,7 @@ fn accepted_config(
 }
 
 /// Reads a data frame.
+#[inline(always)]
 fn tell_data(alloc: Global, known: &Option<Arc<SourceConfig>>, frame: &[u8]) -> Told
     requires { IsDataFrame frame.now }
     ensures item { TellsData (option_map arc_value known.now) frame.now (item_told result) }

@@ -1,13 +1,14 @@
 -- Sixteen digits at a time, lane by lane.
-use Rattle.std.proofs.Common.{◌≡◌, ◌+◌, ◌-◌, ◌*◌, ◌%◌, ◌^◌, ◌<◌, ◌≤◌, ℕ, suc, Bool, List, [], ◌∷◌, ◌++◌, map, length, take, drop, slice_index, replicate, cond, ltb, leb, leb-false, bit_or, Option, Some, None, Ok, unwrap_or, refl, sym, ap, ◌∙◌, w8, Fits, arith}
+use Rattle.std.proofs.Common.{◌≡◌, ◌+◌, ◌-◌, ◌*◌, ◌%◌, ◌^◌, ◌<◌, ◌≤◌, ℕ, suc, Bool, List, [], ◌∷◌, ◌++◌, map, length, take, drop, slice_index, replicate, cond, ltb, leb, leb-false, bit_or, Option, Some, None, Ok, inl, inr, unwrap_or, refl, sym, ap, ◌∙◌, w8, Fits, arith}
 use Rattle.std.specs.List.{range_with_len}
-use Rattle.std.proofs.lemmas.List.{append_assoc, append-nil, get_or-map, length-map}
+use Rattle.std.proofs.lemmas.Bool.{cases_lt}
+use Rattle.std.proofs.lemmas.List.{append_assoc, append-nil, get_or-map, get_or-take, length-map, length-take-le}
 use Rattle.std.proofs.lemmas.List.FromFn.{get_or-map-range_with_len}
 use Rattle.std.proofs.lemmas.Grind.{or_after_shift}
-use Rattle.std.proofs.lemmas.Simd.{zip2_splat, zip2_splat_left, zip2_of_maps, splat_is_map, tops_compared, mask_l-mod, map-map, none_from_empty_mask, get_or-chunk, length-chunk, take_more_put_chunk}
+use Rattle.std.proofs.lemmas.Simd.{zip2_splat, zip2_splat_left, zip2_of_maps, splat_is_map, tops_compared, mask_l-mod, map-map, none_from_empty_mask, get_or-chunk, length-chunk, get_or-put_chunk_below, get_or-put_chunk_at}
 use Rattle.std.specs.Simd.Lanes.{zip2, sel_l, top, mask_l, chunk, put_chunk}
 use Rattle.hex.specs.Hex.{hex_digit_value, decode_pairs, pair_value}
-use Rattle.hex.proofs.Pairs.{prepend, drop-pair, decode_pairs-ok_pair, prepend-cons_byte, cons_byte}
+use Rattle.hex.proofs.Pairs.{prepend, decode_start, drop-pair, decode_pairs-ok_pair, prepend-cons_byte, cons_byte}
 use Rattle.pg_operator.specs.HexLanes.{as_decimal, as_letter, lane_value, joined_value, IsReadTo}
 use Rattle.pg_operator.proofs.Digits.{agree-at, sum_of, pair_ok}
 
@@ -117,20 +118,46 @@ value_in : (w : List ℕ) (i k : ℕ) → 2 * i + 16 ≤ length w → k < 16 →
 value_in w i k room less =
     get_or-map lane_value (chunk (2 * i) 16 w) k 0 0 (omega (arith, length-chunk (2 * i) 16 w room)) ∙ ap lane_value (get_or-chunk (2 * i) 16 w k 0 less)
 
-pub block_step : (w out : List ℕ) (i : ℕ) → ((k : ℕ) → Fits w8 (slice_index w k)) → 2 * length out ≤ length w → i + 8 ≤ length out
+in_block : (w : List ℕ) (i k : ℕ) → ((j : ℕ) → Fits w8 (slice_index w j)) → 2 * i + 16 ≤ length w
     → mask_l (map (top 7) (zip2 (λ a b. cond (leb a b) 255 0) (replicate 16 16) (values_at w i))) % 2 ^ 64 ≡ 0
-    → IsReadTo w out i → IsReadTo w (put_chunk i out (joined_of (values_at w i))) (i + 8)
-block_step w out i fits room place none inv =
-    let bytes = joined_of (values_at w i) in
-    let small = all_digits_of w i (omega arith) none in
-    let run = decode_run w (take i out) bytes i (omega arith) (λ k less.
+    → k < 8
+    → pair_value (slice_index w (2 * (i + k))) (slice_index w (2 * (i + k) + 1)) (2 * (i + k)) ≡ Ok (slice_index (joined_of (values_at w i)) k)
+in_block w i k fits room none less =
+    let small = all_digits_of w i room none in
     let a : 2 * i + 2 * k ≡ 2 * (i + k) = omega arith in
     let b : 2 * i + (2 * k + 1) ≡ 2 * (i + k) + 1 = omega arith in
     let high = small (2 * k) (omega arith) in
     let low = small (2 * k + 1) (omega arith) in
-    let first = value_in w i (2 * k) (omega arith) (omega arith) ∙ ap (λ n. lane_value (slice_index w n)) a in
-    let second = value_in w i (2 * k + 1) (omega arith) (omega arith) ∙ ap (λ n. lane_value (slice_index w n)) b in
+    let first = value_in w i (2 * k) room (omega arith) ∙ ap (λ n. lane_value (slice_index w n)) a in
+    let second = value_in w i (2 * k + 1) room (omega arith) ∙ ap (λ n. lane_value (slice_index w n)) b in
     let byte = get_or-map-range_with_len (λ j. joined_value (slice_index (values_at w i) (2 * j)) (slice_index (values_at w i) (2 * j + 1))) 0 8 k k 0 less (omega arith) in
     pair_of_lanes (slice_index w (2 * (i + k))) (slice_index w (2 * (i + k) + 1)) (2 * (i + k)) (fits _).fits (fits _).fits (rw a at high) (rw b at low)
-    ∙ ap Ok (sym (byte ∙ ap (λ x. joined_value x (slice_index (values_at w i) (2 * k + 1))) first ∙ ap (joined_value _) second))) inv in
-    rw (take_more_put_chunk i out bytes (i + 8) refl place) run
+    ∙ ap Ok (sym (byte ∙ ap (λ x. joined_value x (slice_index (values_at w i) (2 * k + 1))) first ∙ ap (joined_value _) second))
+
+-- A block may begin before the place that is read to.
+pub block_read : (w out : List ℕ) (i done : ℕ) → ((j : ℕ) → Fits w8 (slice_index w j)) → 2 * length out ≡ length w → i + 8 ≤ length out
+    → mask_l (map (top 7) (zip2 (λ a b. cond (leb a b) 255 0) (replicate 16 16) (values_at w i))) % 2 ^ 64 ≡ 0
+    → i ≤ done → IsReadTo w out done → IsReadTo w (put_chunk i out (joined_of (values_at w i))) (i + 8)
+block_read w out i done fits long place none before inv k less =
+    let bytes = joined_of (values_at w i) in
+    elim (cases_lt k i) [
+      | inl below ↦ inv k (omega arith) ∙ ap Ok (sym (get_or-put_chunk_below i out bytes k 0 below))
+      | inr within ↦
+          let j = k - i in
+          let e : i + j ≡ k = omega arith in
+          let pair = in_block w i j fits (omega arith) none (omega arith) in
+          let at = get_or-put_chunk_at i out bytes j 0 (omega arith) place in
+          rw e at pair ∙ ap Ok (sym (rw e at at))
+    ]
+
+-- what is read is decoded
+pub decoded_to : (w out : List ℕ) (i : ℕ) → 2 * i ≤ length w → i ≤ length out → IsReadTo w out i
+    → decode_pairs 0 w ≡ prepend (take i out) (decode_pairs (2 * i) (drop (2 * i) w))
+decoded_to w out i room within reads =
+    let long : length (take i out) ≡ i = length-take-le i out within in
+    let run = decode_run w [] (take i out) 0 (omega (arith, long)) (λ k less.
+    let z : 0 + k ≡ k = omega arith in
+    let pair = reads k (omega (arith, less, long)) ∙ ap Ok (sym (get_or-take i out k 0 (omega (arith, less, long)))) in
+    rw z pair) (decode_start w []) in
+    let z : 0 + length (take i out) ≡ i = omega (arith, long) in
+    rw z at run

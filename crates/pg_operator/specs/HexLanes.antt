@@ -1,7 +1,6 @@
 -- Sixteen digits at a time: only private contracts and proofs use these.
-use Rattle.std.specs.Prelude.{ℕ, ◌+◌, ◌-◌, ◌*◌, ◌%◌, ◌^◌, ◌≡◌, List, take, drop, if◌then◌else◌, nat_lt, bit_or}
-use Rattle.hex.specs.Hex.{decode_pairs}
-use Rattle.hex.proofs.Pairs.{prepend}
+use Rattle.std.specs.Prelude.{ℕ, ◌+◌, ◌-◌, ◌*◌, ◌%◌, ◌^◌, ◌≡◌, ◌<◌, List, slice_index, if◌then◌else◌, nat_lt, bit_or, Ok}
+use Rattle.hex.specs.Hex.{pair_value}
 
 -- the value of a digit's byte, computed as a lane of a vector is, and 255 of each other byte
 abbrev pub as_decimal : ℕ → ℕ
@@ -19,4 +18,4 @@ joined_value high low = bit_or (high * 2 ^ 4 % 2 ^ 8) low
 
 -- the first i bytes are what the first 2 * i digits stand for
 abbrev pub IsReadTo : List ℕ → List ℕ → ℕ → Type 0
-IsReadTo word bytes i = decode_pairs 0 word ≡ prepend (take i bytes) (decode_pairs (2 * i) (drop (2 * i) word))
+IsReadTo word bytes i = (k : ℕ) → k < i → pair_value (slice_index word (2 * k)) (slice_index word (2 * k + 1)) (2 * k) ≡ Ok (slice_index bytes k)

@@ -2,7 +2,7 @@
 //!
 //! Each reader answers `None`, or `BadLine`, for a word that is not of its form.
 
-ghost use Rattle.std.specs.Prelude.{◌≡◌, ◌≤◌, ◌⊎◌, ◌<◌, ◌+◌, ◌*◌, length, map, slice_index, codes, IfOk, IfErr, IfSome, Some, None, option_map, true, unwrap_or};
+ghost use Rattle.std.specs.Prelude.{◌≡◌, ℕ, ◌≤◌, ◌⊎◌, ◌<◌, ◌+◌, ◌*◌, length, map, slice_index, codes, IfOk, IfErr, IfSome, Some, None, option_map, true, false, unwrap_or, if◌then◌else◌};
 ghost use Rattle.std.specs.List.{list_all, range_with_len};
 ghost use Rattle.std.specs.Char.{is_ascii_digit};
 ghost use Rattle.std.specs.Str.Parse.{digits_value};
@@ -159,40 +159,93 @@ pub fn hex_bytes(alloc: Global, word: &[u8]) -> Result<Vec<u8>, Refusal>
     ensures value { IfOk result (λ bytes. hex_in word.now ≡ Some bytes.items) }
     ensures refused { IfErr result (λ r. (r ≡ Refusal.NoMemory) ⊎ ((r ≡ Refusal.BadLine) × (hex_in word.now ≡ None))) }
 {
+    let mut bytes = Vec::new(alloc);
+    match read_hex(word, &mut bytes) {
+        Ok(()) => Ok(bytes),
+        Err(refusal) => Err(refusal),
+    }
+}
+
+/// The same into a vector, whose memory is kept. It holds these bytes alone afterwards, or any where the word is refused.
+fn read_hex(word: &[u8], bytes: &mut Vec<u8>) -> Result<(), Refusal>
+    ensures value { IfOk result (λ _. hex_in word.now ≡ Some bytes.new.items) }
+    ensures refused { IfErr result (λ r. (r ≡ Refusal.NoMemory) ⊎ ((r ≡ Refusal.BadLine) × (hex_in word.now ≡ None))) }
+{
     if word.is_empty() || word.len() % 2 != 0 {
         return Err(Refusal::BadLine);
     }
-    let mut out = vec![in alloc; 0u8; word.len() / 2]?;
-    let first = read_blocks(word, out.as_mut_slice());
-    'bytes: for i in first..word.len() / 2 {
+    // Where the word before had this length, there is nothing to fill.
+    if bytes.len() != word.len() / 2 {
+        bytes.resize(word.len() / 2, 0)?;
+    }
+    if read_digits(word, bytes.as_mut_slice()) {
+        Ok(())
+    } else {
+        Err(Refusal::BadLine)
+    }
+}
+
+/// Reads the bytes of a word of twice so many digits, and tells whether all are digits.
+#[inline(always)]
+fn read_digits(word: &[u8], out: &mut [u8]) -> bool
+    requires some { 0 < length word.now }
+    requires len { 2 * length out.old ≡ length word.now }
+    ensures len { length out.new ≡ length out.old }
+    ensures value { hex_in word.now ≡ (if result then Some out.new else None) }
+{
+    let first = read_blocks(word, out);
+    'bytes: for i in first..out.len() {
         let high = digit(word[2 * i]);
         let low = digit(word[2 * i + 1]);
         let value = 16 * high + low;
         if value > 255 {
-            return Err(Refusal::BadLine);
+            return false;
         }
         out[i] = value as u8;
     }
-    Ok(out)
+    true
 }
 
-/// Reads blocks of 16 digits, up to the first block in which a byte is no digit, and tells how many bytes these are.
+/// Reads blocks of 16 digits, up to the first block in which a byte is no digit, and tells how many bytes these are. The last block
+/// overlaps the one before it, where the bytes are no multiple of 8.
 fn read_blocks(word: &[u8], out: &mut [u8]) -> usize
-    requires { 2 * length out.old ≤ length word.now }
+    requires { 2 * length out.old ≡ length word.now }
     ensures len { length out.new ≡ length out.old }
     ensures within { result ≤ length out.old }
     ensures bytes { IsReadTo word.now out.new result }
 {
     let mut done = 0;
     while out.len() - done >= 8 {
-        let values = digit_values(u8x16::from_slice(&word[2 * done..]));
-        if values.simd_ge(u8x16::splat(16)).to_bitmask() != 0 {
+        if !read_block(word, out, done) {
             return done;
         }
-        joined(values).copy_to_slice(&mut out[done..]);
         done += 8;
     }
-    done
+    if done < 8 || done == out.len() {
+        return done;
+    }
+    let last = out.len() - 8;
+    if !read_block(word, out, last) {
+        return done;
+    }
+    out.len()
+}
+
+/// Reads 8 bytes at this place, and tells whether all of their digits are digits. Otherwise nothing changes.
+#[inline(always)]
+fn read_block(word: &[u8], out: &mut [u8], at: usize) -> bool
+    requires room { at + 8 ≤ length out.old }
+    requires len { 2 * length out.old ≡ length word.now }
+    ensures len { length out.new ≡ length out.old }
+    ensures same { result ≡ false → out.new ≡ out.old }
+    ensures reads { result ≡ true → (done : ℕ) → at ≤ done → IsReadTo word.now out.old done → IsReadTo word.now out.new (at + 8) }
+{
+    let values = digit_values(u8x16::from_slice(&word[2 * at..]));
+    if values.simd_ge(u8x16::splat(16)).to_bitmask() != 0 {
+        return false;
+    }
+    joined(values).copy_to_slice(&mut out[at..]);
+    true
 }
 
 /// The value of each digit, and 255 of each other byte.
@@ -230,16 +283,33 @@ pub fn frame_bytes(alloc: Global, word: &[u8]) -> Result<Vec<u8>, Refusal>
     ensures value { IfOk result (λ bytes. frame_in word.now ≡ Some bytes.items) }
     ensures refused { IfErr result (λ r. (r ≡ Refusal.NoMemory) ⊎ ((r ≡ Refusal.BadLine) × (frame_in word.now ≡ None))) }
 {
-    if word.is_empty() || !ends_in_plus(word) {
-        return hex_bytes(alloc, word);
+    let mut bytes = Vec::new(alloc);
+    match read_frame(word, &mut bytes) {
+        Ok(()) => Ok(bytes),
+        Err(refusal) => Err(refusal),
     }
-    let mut bytes = match hex_bytes(alloc, &word[..word.len() - 1]) {
-        Ok(bytes) => bytes,
+}
+
+/// The same as `frame_bytes` into a vector, whose memory is kept: for words that come one after another. It holds these bytes alone
+/// afterwards, or any where the word is refused.
+///
+/// # Errors
+///
+/// `BadLine` where the word is none; `NoMemory`.
+pub fn read_frame(word: &[u8], bytes: &mut Vec<u8>) -> Result<(), Refusal>
+    ensures value { IfOk result (λ _. frame_in word.now ≡ Some bytes.new.items) }
+    ensures refused { IfErr result (λ r. (r ≡ Refusal.NoMemory) ⊎ ((r ≡ Refusal.BadLine) × (frame_in word.now ≡ None))) }
+{
+    if word.is_empty() || !ends_in_plus(word) {
+        return read_hex(word, bytes);
+    }
+    match read_hex(&word[..word.len() - 1], bytes) {
+        Ok(()) => {}
         Err(refusal) => return Err(refusal),
-    };
+    }
     let sum = pg_wire::check(bytes.as_slice());
     bytes.extend_from_slice(&sum.to_be_bytes())?;
-    Ok(bytes)
+    Ok(())
 }
 
 /// Whether a plus ends the word.

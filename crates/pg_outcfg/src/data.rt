@@ -1,5 +1,6 @@
 //! The data frame of a slot.
 ghost use Rattle.std.specs.Prelude.{◌≡◌, ◌+◌, ◌/◌, ◌<◌, ◌≤◌, ◌++◌, ◌^◌, List, length, drop, zip, ℕ, IsTrue, IfOk, IfErr, IfSome, IsSome, vec_len, vec_capacity};
+ghost use Rattle.pg_wire.specs.Check.{dividend, IsRemainder};
 ghost use Rattle.pg_wire.specs.Heads.{start_of};
 ghost use Rattle.pg_wire.specs.Stream.{joined};
 ghost use Rattle.pg_stream.specs.Limits.{IsWithinLimits};
@@ -10,7 +11,7 @@ use crate::list::ConfigList;
 use pg_config::PmuConfig;
 use pg_data::{SharedBlock, filler_into};
 use pg_stream::{Definition, stamp_of};
-use pg_wire::{Head, Kind, PmuKey, Refusal, end_frame, start_frame};
+use pg_wire::{Head, Kind, PmuKey, Refusal, check_head, check_more, end_frame_by, head_bytes};
 use std::alloc::Global;
 
 /// How many bytes a frame has beside its body.
@@ -49,11 +50,15 @@ pub fn data_frame(
     ensures most { IfOk result (λ v. vec_len v ≤ 12752) }
     ensures memory { IfErr result (λ refusal. refusal ≡ Refusal.NoMemory) }
 {
-    data_frame_near(alloc, definition, slot, listed, parts, &mut 0)
+    let spare = Vec::new(alloc);
+    data_frame_near(alloc, definition, slot, listed, parts, &mut 0, spare)
 }
 
 /// The same, where the frame may well be `size` bytes long: if it is, the members are gone through once. `size` is then the size of
 /// this frame, which is that of the stream's next one while its effective members stay. 0 guesses nothing.
+///
+/// The frame is composed in the memory of `spare`, whatever bytes are there, or in an allocation of its size where that has less
+/// room. So it may have more room than its size.
 pub fn data_frame_near(
     alloc: Global,
     definition: &Definition,
@@ -61,6 +66,7 @@ pub fn data_frame_near(
     listed: &ConfigList,
     parts: &[Option<SharedBlock>],
     size: &mut u16,
+    spare: Vec<u8>,
 ) -> Result<Vec<u8>, Refusal>
     requires limits { IsWithinLimits definition.now }
     requires time { slot / definition.now.rate < 2 ^ 32 }
@@ -70,65 +76,77 @@ pub fn data_frame_near(
     ensures most { IfOk result (λ v. vec_len v ≤ 12752) }
     ensures memory { IfErr result (λ refusal. refusal ≡ Refusal.NoMemory) }
 {
+    let mut frame = spare;
     let mut near = *size;
     loop {
-        if let Some(frame) = sized_frame(alloc, definition, slot, listed, parts, near)? {
-            *size = near;
-            return Ok(frame);
+        if AROUND_BODY <= near && near <= MOST_BYTES {
+            frame = room_for(alloc, frame, near)?;
+            if compose(&mut frame, definition, slot, listed, parts, near) {
+                *size = near;
+                return Ok(frame);
+            }
         }
         // This is the frame's size, so there is no third turn.
         near = AROUND_BODY + body_len(definition.members.as_slice(), listed, parts);
     }
 }
 
-/// The data frame of a slot, if it is so many bytes long.
-fn sized_frame(
-    alloc: Global,
+/// This memory, if it has room for so many bytes, or else memory that has.
+fn room_for(alloc: Global, spare: Vec<u8>, size: u16) -> Result<Vec<u8>, Refusal>
+    ensures room { IfOk result (λ v. size ≤ vec_capacity v) }
+    ensures memory { IfErr result (λ refusal. refusal ≡ Refusal.NoMemory) }
+{
+    if usize::from(size) <= spare.capacity() {
+        return Ok(spare);
+    }
+    Ok(Vec::with_capacity(alloc, usize::from(size))?)
+}
+
+/// Composes the data frame of a slot in memory with room for so many bytes, and tells whether it is so many bytes long.
+fn compose(
+    frame: &mut Vec<u8>,
     definition: &Definition,
     slot: u64,
     listed: &ConfigList,
     parts: &[Option<SharedBlock>],
     size: u16,
-) -> Result<Option<Vec<u8>>, Refusal>
+) -> bool
     requires limits { IsWithinLimits definition.now }
     requires time { slot / definition.now.rate < 2 ^ 32 }
     requires parts { length parts.now ≡ length definition.now.members }
-    ensures fits { size ≡ 16 + length (joined (data_blocks listed.now definition.now.members parts.now)) → size ≤ 12752 → IfOk result (λ sized. IsSome sized) }
-    ensures frame { IfOk result (λ sized. IfSome sized (λ v. v.items ≡ data_frame_of definition.now slot listed.now parts.now)) }
-    ensures least { IfOk result (λ sized. IfSome sized (λ v. 16 ≤ vec_len v)) }
-    ensures most { IfOk result (λ sized. IfSome sized (λ v. vec_len v ≤ 12752)) }
-    ensures memory { IfErr result (λ refusal. refusal ≡ Refusal.NoMemory) }
+    requires least { 16 ≤ size }
+    requires room { size ≤ vec_capacity frame.old }
+    ensures fits { size ≡ 16 + length (joined (data_blocks listed.now definition.now.members parts.now)) → IsTrue result }
+    ensures frame { IsTrue result → frame.new.items ≡ data_frame_of definition.now slot listed.now parts.now }
+    ensures len { IsTrue result → vec_len frame.new ≡ size }
 {
-    if size < AROUND_BODY || size > MOST_BYTES {
-        return Ok(None);
-    }
     let members = definition.members.as_slice();
-    let mut frame = start_data(alloc, definition, slot, join_qualities(parts), size)?;
-    if !add_blocks(&mut frame, members, listed, parts) {
-        return Ok(None);
-    }
+    let crc = start_data(frame, definition, slot, join_qualities(parts), size);
+    let Some(crc) = add_blocks(frame, crc, members, listed, parts) else {
+        return false;
+    };
     if frame.len() + CHECK_BYTES != usize::from(size) {
-        return Ok(None);
+        return false;
     }
-    end_frame(&mut frame);
-    Ok(Some(frame))
+    end_frame_by(frame, crc);
+    true
 }
 
-/// Starts the data frame of a slot, with room for so many bytes of it.
+/// Starts the data frame of a slot: its first 14 bytes are there, and nothing of what was. Returns the check of them.
 fn start_data(
-    alloc: Global,
+    frame: &mut Vec<u8>,
     definition: &Definition,
     slot: u64,
     quality: u8,
     size: u16,
-) -> Result<Vec<u8>, Refusal>
+) -> u16
     requires limits { IsWithinLimits definition.now }
     requires time { slot / definition.now.rate < 2 ^ 32 }
-    requires size { 16 ≤ size }
-    ensures bytes { IfOk result (λ v. v.items ≡ start_of (data_heading definition.now slot quality) size) }
-    ensures len { IfOk result (λ v. vec_len v ≡ 14) }
-    ensures room { IfOk result (λ v. size ≤ vec_capacity v) }
-    ensures memory { IfErr result (λ refusal. refusal ≡ Refusal.NoMemory) }
+    requires room { 14 ≤ vec_capacity frame.old }
+    ensures bytes { frame.new.items ≡ start_of (data_heading definition.now slot quality) size }
+    ensures len { vec_len frame.new ≡ 14 }
+    ensures check { IsRemainder (dividend frame.new.items) result }
+    ensures room { vec_capacity frame.old ≤ vec_capacity frame.new }
 {
     let (soc, frac) = stamp_of(definition.rate, definition.base, slot);
     let head = Head {
@@ -140,8 +158,11 @@ fn start_data(
         quality,
         frac,
     };
-    let frame = start_frame(alloc, &head)?;
-    Ok(frame)
+    let bytes = head_bytes(&head);
+    frame.clear();
+    // It fits, by what is asked for.
+    let _ = frame.extend_from_slice(&bytes);
+    check_head(&bytes)
 }
 
 /// The joined time quality of the blocks that are there (own rule): each leap second flag that one has, and the greatest
@@ -177,25 +198,38 @@ fn part_len(config: &PmuConfig, part: &Option<SharedBlock>) -> u16
     }
 }
 
-/// Adds what stands for an effective member, and tells whether there was room for it.
-fn add_part(frame: &mut Vec<u8>, config: &PmuConfig, part: &Option<SharedBlock>) -> bool
-    ensures fits { vec_len frame.old + length (block_or_filler config.now part.now) ≤ vec_capacity frame.old → IsTrue result }
-    ensures bytes { IsTrue result → frame.new.items ≡ frame.old.items ++ block_or_filler config.now part.now }
-    ensures len { IsTrue result → vec_len frame.new ≡ vec_len frame.old + length (block_or_filler config.now part.now) }
+/// Adds what stands for an effective member, and returns what the check becomes; none where there was no room for it.
+fn add_part(
+    frame: &mut Vec<u8>,
+    crc: u16,
+    config: &PmuConfig,
+    part: &Option<SharedBlock>,
+) -> Option<u16>
+    requires check { IsRemainder (dividend frame.old.items) crc }
+    ensures fits { vec_len frame.old + length (block_or_filler config.now part.now) ≤ vec_capacity frame.old → IsSome result }
+    ensures bytes { IsSome result → frame.new.items ≡ frame.old.items ++ block_or_filler config.now part.now }
+    ensures len { IsSome result → vec_len frame.new ≡ vec_len frame.old + length (block_or_filler config.now part.now) }
+    ensures check { IfSome result (λ after. IsRemainder (dividend frame.new.items) after) }
     ensures room { vec_capacity frame.old ≤ vec_capacity frame.new }
 {
     match part {
         Some(block) => {
+            let after = block.check_past(crc);
             let bytes = block.bytes();
+            if frame.capacity() - frame.len() < bytes.len() {
+                return None;
+            }
             // With the room tested, the block is added without a way to take memory.
-            frame.capacity() - frame.len() >= bytes.len() && frame.extend_from_slice(bytes).is_ok()
+            let _ = frame.extend_from_slice(bytes);
+            Some(after)
         }
         None => {
-            if frame.capacity() - frame.len() < config.block_len() {
-                return false;
+            let start = frame.len();
+            if frame.capacity() - start < config.block_len() {
+                return None;
             }
             filler_into(config, frame);
-            true
+            Some(check_more(crc, &frame[start..]))
         }
     }
 }
@@ -217,27 +251,30 @@ fn body_len(members: &[PmuKey], listed: &ConfigList, parts: &[Option<SharedBlock
     len
 }
 
-/// Adds the data blocks of the effective members, and tells whether there was room for all of them.
+/// Adds the data blocks of the effective members, and returns the check of all that is there then; none where there was no room
+/// for all of them.
 fn add_blocks(
     frame: &mut Vec<u8>,
+    crc: u16,
     members: &[PmuKey],
     listed: &ConfigList,
     parts: &[Option<SharedBlock>],
-) -> bool
+) -> Option<u16>
     requires parts { length parts.now ≡ length members.now }
+    requires check { IsRemainder (dividend frame.old.items) crc }
     ensures fits { vec_len frame.old + length (joined (data_blocks listed.now members.now parts.now)) ≤ vec_capacity frame.old
-        → IsTrue result }
-    ensures bytes { IsTrue result → frame.new.items ≡ frame.old.items ++ joined (data_blocks listed.now members.now parts.now) }
-    ensures len { IsTrue result → vec_len frame.new ≡ vec_len frame.old + length (joined (data_blocks listed.now members.now parts.now)) }
+        → IsSome result }
+    ensures bytes { IsSome result → frame.new.items ≡ frame.old.items ++ joined (data_blocks listed.now members.now parts.now) }
+    ensures len { IsSome result → vec_len frame.new ≡ vec_len frame.old + length (joined (data_blocks listed.now members.now parts.now)) }
+    ensures check { IfSome result (λ after. IsRemainder (dividend frame.new.items) after) }
     ensures room { vec_capacity frame.old ≤ vec_capacity frame.new }
 {
+    let mut crc = crc;
     let mut next = 0;
     for (i, key) in members.iter().enumerate() {
         if let Some(config) = listed.get_next(key, &mut next) {
-            if !add_part(frame, config, &parts[i]) {
-                return false;
-            }
+            crc = add_part(frame, crc, config, &parts[i])?;
         }
     }
-    true
+    Some(crc)
 }

@@ -16,7 +16,7 @@ use Rattle.pg_serve.proofs.Isolating.{isolated}
 use Rattle.pg_serve.specs.Shown.{WorldValue, queue_shown, link_counted, session_counted}
 use Rattle.pg_replay.specs.Lines.{Asked, nothing, hands, queue, link_stats, session_stats, asked_in}
 use Rattle.pg_replay.specs.Printing.{Text, output_lines}
-use Rattle.pg_replay.specs.Replaying.{without_end, lines_by, lines_in, asked_of, Does, Runs, PrintsScript, SessionText, handed_over, handed_in, text_at, text_of, refused_line, outputs_lines, queue_text, link_text, session_text}
+use Rattle.pg_replay.specs.Replaying.{without_end, lines_by, lines_in, asked_of, Took, Does, Runs, PrintsScript, SessionText, handed_over, handed_in, text_at, text_of, refused_line, outputs_lines, queue_text, link_text, session_text}
 use Rattle.pg_replay.specs.Answering.{PrintsSession, DoesAsked, AnswersLine, AnswersScript}
 use Rattle.pg_replay.proofs.PrintLaws.{appends_more}
 
@@ -35,6 +35,14 @@ does-link w s a b appends = record { told = []; text = link_text (link_counted s
 
 pub does-session : (w : WorldValue) (u : ℕ) (a b : Option (List ℕ)) → PrintsSession w u a b → DoesAsked w (Some (session_stats u)) a b w
 does-session w u a b prints = record { told = []; text = prints.text; does = (refl, prints.is, refl); appends = prints.appends }
+
+pub does-input : (w v : WorldValue) (f : Fact) (o : Outcome) (a b : Option (List ℕ)) → Took w f (o ∷ []) v → Appends a b (output_lines o) → DoesAsked w (Some (hands f)) a b v
+does-input w v f o a b took appends = record {
+  told = o ∷ [];
+  text = outputs_lines (o ∷ []);
+  does = (refl, took);
+  appends = subst (Appends a b) (sym (append-nil (output_lines o))) appends;
+}
 
 -- ---- lines, one after another
 

@@ -4,8 +4,7 @@ ghost use Rattle.std.specs.Prelude.{◌≡◌, take, OnOk};
 ghost use Rattle.std.specs.List.{flat_map};
 ghost use Rattle.std.specs.Io.KnownBytes.{Appends};
 ghost use Rattle.pg_gateway.specs.Occurrences.{told};
-ghost use Rattle.pg_serve.specs.Inputs.{all_noted, outcome, outcomes};
-ghost use Rattle.pg_replay.specs.Replaying.{outputs_lines};
+ghost use Rattle.pg_serve.specs.Inputs.{all_noted, outcome};
 ghost use Rattle.pg_replay.specs.Printing.{figure, refusal_line, done_line, answer_line, note_lines, hex_end, drained_line, stats_line, counters_line, reasons_end, reason_text, entry_line, reply_line, frame_line, queue_lines, output_lines, send_lines};
 
 use itoa::write_digits;
@@ -43,20 +42,6 @@ const DONE: [u8; 5] = *b"done ";
 
 /// The most bytes of such a line: two numbers of 20 digits, the space between them, and the LF.
 const DONE_BYTES: usize = 47;
-
-/// Prints what inputs came to.
-pub(crate) fn print_outputs<W: Write>(
-    alloc: Global,
-    out: &mut W,
-    outputs: &[Output],
-) -> Result<(), NotPrinted>
-    ensures prints { OnOk result (Appends (W.contents out.old) (W.contents out.new) (outputs_lines (outcomes outputs.now))) }
-{
-    for output in outputs {
-        print_output(alloc, out, output)?;
-    }
-    Ok(())
-}
 
 /// Prints what an input came to: its notes in their order, then the commands to the source, a line each.
 ///
@@ -104,6 +89,7 @@ fn print_commands<W: Write>(alloc: Global, out: &mut W, bytes: &[u8]) -> Result<
 /// # Errors
 ///
 /// `Write`, where the line can't be written.
+#[inline(never)]
 pub fn print_refusal<W: Write>(out: &mut W, word: &str, refusal: Refusal) -> Result<(), NotPrinted>
     ensures prints { OnOk result (Appends (W.contents out.old) (W.contents out.new) (refusal_line word.now refusal)) }
 {
@@ -116,6 +102,7 @@ pub fn print_refusal<W: Write>(out: &mut W, word: &str, refusal: Refusal) -> Res
 /// # Errors
 ///
 /// `NoMemory`, where there is none for the bytes of a drain in hexadecimal; `Write`, where the line can't be written.
+#[inline(always)]
 pub fn print_reply<W: Write>(alloc: Global, out: &mut W, reply: &Reply) -> Result<(), NotPrinted>
     ensures prints { OnOk result (Appends (W.contents out.old) (W.contents out.new) (answer_line (told reply.now))) }
 {
@@ -151,6 +138,7 @@ fn print_done<W: Write>(out: &mut W, made: u64, kept: u64) -> Result<(), NotPrin
 }
 
 /// Prints what a drain handed out: how many bytes, how many frames they begin, the gaps before these, the bytes.
+#[inline(never)]
 fn print_drained<W: Write>(
     alloc: Global,
     out: &mut W,
@@ -173,6 +161,7 @@ fn print_drained<W: Write>(
 }
 
 /// Prints the end of a line: bytes in upper case hexadecimal, or `-` for none.
+#[inline(never)]
 fn print_hex<W: Write>(alloc: Global, out: &mut W, bytes: &[u8]) -> Result<(), NotPrinted>
     ensures prints { OnOk result (Appends (W.contents out.old) (W.contents out.new) (hex_end bytes.now)) }
 {
@@ -188,6 +177,7 @@ fn print_hex<W: Write>(alloc: Global, out: &mut W, bytes: &[u8]) -> Result<(), N
 }
 
 /// Prints a subscriber's counters.
+#[inline(never)]
 fn print_stats<W: Write>(out: &mut W, stats: &Stats) -> Result<(), NotPrinted>
     ensures prints { OnOk result (Appends (W.contents out.old) (W.contents out.new) (stats_line stats.now)) }
 {
@@ -212,6 +202,7 @@ fn print_figure<W: Write>(out: &mut W, text: &str, number: u64) -> Result<(), No
 }
 
 /// Prints the counters of a PMU, a link or a session, behind this word.
+#[inline(never)]
 pub(crate) fn print_counters<W: Write>(
     out: &mut W,
     word: &str,
@@ -247,6 +238,7 @@ fn print_reason<W: Write>(out: &mut W, number: usize, count: u64) -> Result<(), 
 }
 
 /// Prints an entry of an audit.
+#[inline(never)]
 fn print_entry<W: Write>(out: &mut W, entry: &Option<Entry>) -> Result<(), NotPrinted>
     ensures prints { OnOk result (Appends (W.contents out.old) (W.contents out.new) (entry_line entry.now)) }
 {

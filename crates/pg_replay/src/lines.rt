@@ -6,7 +6,7 @@ ghost use Rattle.pg_replay.specs.Replaying.{without_end};
 ghost use Rattle.pg_serve.specs.Inputs.{pmu_bytes};
 ghost use Rattle.pg_replay.specs.Lines.{asked_in, asked, hands, is_comment, kind_of, line_by, text_asks};
 
-use pg_operator::words::{self, frame_bytes};
+use pg_operator::words::{self, frame_bytes, read_frame};
 use pg_operator::{parse_line, words_of};
 use pg_serve::Input;
 use pg_wire::{PmuId, Refusal, SubId};
@@ -85,9 +85,6 @@ pub fn read_line(alloc: Global, line: &[u8]) -> Result<Line, Refusal>
     ensures found { IfOk result (λ l. asked_in line.now ≡ Some (asked l)) }
     ensures refused { IfErr result (λ r. (r ≡ Refusal.NoMemory) ⊎ ((r ≡ Refusal.BadLine) × (asked_in line.now ≡ None))) }
 {
-    if let Some((source, bytes)) = source_line(alloc, line)? {
-        return Ok(Line::Handed(Input::PmuBytes(source, bytes)));
-    }
     if is_comment(line) {
         return Ok(Line::Nothing);
     }
@@ -97,10 +94,10 @@ pub fn read_line(alloc: Global, line: &[u8]) -> Result<Line, Refusal>
     read_text(alloc, text)
 }
 
-/// The source and the bytes of a line `pmu S HEX` with just one space between its words, in one pass: the line that comes once for
-/// each frame. `None` is answered for each other line, and for one that asks for nothing that a line may.
-fn source_line(alloc: Global, line: &[u8]) -> Result<Option<(PmuId, Vec<u8>)>, Refusal>
-    ensures found { IfOk result (λ o. IfSome o (λ p. asked_in line.now ≡ Some (hands (pmu_bytes p.0 p.1.items)))) }
+/// The source of a line `pmu S HEX` with just one space between its words, and its bytes into a vector whose memory is kept: the
+/// line that comes once for each frame. `None` is answered for each other line, and for one that asks for nothing that a line may.
+pub(crate) fn source_line(line: &[u8], bytes: &mut Vec<u8>) -> Result<Option<PmuId>, Refusal>
+    ensures found { IfOk result (λ o. IfSome o (λ source. asked_in line.now ≡ Some (hands (pmu_bytes source bytes.new.items)))) }
     ensures refused { IfErr result (λ r. r ≡ Refusal.NoMemory) }
 {
     let [b'p', b'm', b'u', b' ', rest @ ..] = line else {
@@ -109,8 +106,8 @@ fn source_line(alloc: Global, line: &[u8]) -> Result<Option<(PmuId, Vec<u8>)>, R
     let Some((source, end)) = source_before_space(rest) else {
         return Ok(None);
     };
-    match frame_bytes(alloc, &rest[end + 1..]) {
-        Ok(bytes) => Ok(Some((source, bytes))),
+    match read_frame(&rest[end + 1..], bytes) {
+        Ok(()) => Ok(Some(source)),
         Err(Refusal::NoMemory) => Err(Refusal::NoMemory),
         Err(_) => Ok(None),
     }

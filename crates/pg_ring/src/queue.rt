@@ -11,10 +11,12 @@ use circular_buffer::HeapCircularBuffer;
 use pg_wire::Refusal;
 use std::alloc::Global;
 use std::marker::Model;
+use std::mem;
 
 /// What waits to be handed to a subscriber: the rest of the frame in hand, up to 8 replies, and a ring of data frames
 /// that is bounded by frames and by bytes (own rule). A frame of which one byte was handed out is in hand: it has left
-/// its queue, is never dropped, and counts towards no limit. Only `new` takes memory.
+/// its queue, is never dropped, and counts towards no limit. Only `new` takes memory. The memory of the data frame that went last,
+/// dropped or handed out, is kept for the next one.
 #[derive(Drop)]
 pub struct OutQueue {
     hand: Vec<u8>,
@@ -25,6 +27,7 @@ pub struct OutQueue {
     held: usize,
     byte_limit: usize,
     pending: u64,
+    spare: Vec<u8>,
 }
 
 impl Model for OutQueue {
@@ -70,6 +73,7 @@ impl OutQueue {
             held: 0,
             byte_limit,
             pending: 0,
+            spare: Vec::new(alloc),
         })
     }
 
@@ -186,7 +190,13 @@ impl OutQueue {
             bytes: frame,
             gap: self.pending,
         };
-        let dropped = push_frame(&mut self.frames, &mut self.held, self.byte_limit, frame);
+        let dropped = push_frame(
+            &mut self.frames,
+            &mut self.held,
+            self.byte_limit,
+            frame,
+            &mut self.spare,
+        );
         self.pending = 0;
         dropped as u64
     }
@@ -235,6 +245,27 @@ impl OutQueue {
         cleared
     }
 
+    /// Memory of a data frame that is done with, for the next one; none where no frame has gone since it was last taken. What its
+    /// bytes are says nothing. At most one frame's memory is kept.
+    pub fn take_spare(&mut self, alloc: Global) -> Vec<u8>
+        ensures shown { self.new ≡ self.old }
+        ensures numbered { (m : Numbered) → ShowsNumbered self.old m → ShowsNumbered self.new m }
+    {
+        mem::replace(&mut self.spare, Vec::new(alloc))
+    }
+
+    /// Takes a frame in hand, and keeps the memory of a data frame that was there.
+    fn put_in_hand(&mut self, frame: Vec<u8>, is_data: bool)
+        ensures { self.new ≡ record self.old { rest = frame.items; data_in_hand = is_data } }
+    {
+        let done = mem::replace(&mut self.hand, frame);
+        if self.data_in_hand {
+            self.spare = done;
+        }
+        self.taken = 0;
+        self.data_in_hand = is_data;
+    }
+
     /// Takes the next frame in hand, and returns its gap.
     fn begin_next(&mut self) -> Option<u64>
         requires { self.old.rest ≡ [] }
@@ -244,16 +275,12 @@ impl OutQueue {
             begun_next self.old self.old.replies self.old.frames ≡ Some (gap, self.new)) }
     {
         if let Some(reply) = self.replies.pop_front() {
-            self.hand = reply;
-            self.taken = 0;
-            self.data_in_hand = false;
+            self.put_in_hand(reply, false);
             return Some(0);
         }
         let frame = self.frames.pop_front()?;
         self.held -= frame.bytes.len();
-        self.hand = frame.bytes;
-        self.taken = 0;
-        self.data_in_hand = true;
+        self.put_in_hand(frame.bytes, true);
         Some(frame.gap)
     }
 

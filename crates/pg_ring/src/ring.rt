@@ -14,8 +14,14 @@ pub(crate) struct QueuedFrame {
     pub(crate) gap: u64,
 }
 
-/// Drops the oldest frames until the others have at most `limit` bytes, and returns the gap that they pass on.
-fn make_room(frames: &mut HeapCircularBuffer<QueuedFrame>, held: &mut usize, limit: usize) -> u64
+/// Drops the oldest frames until the others have at most `limit` bytes, and returns the gap that they pass on. The memory of the
+/// last one is kept in `spare`.
+fn make_room(
+    frames: &mut HeapCircularBuffer<QueuedFrame>,
+    held: &mut usize,
+    limit: usize,
+    spare: &mut Vec<u8>,
+) -> u64
     requires counted { held.old ≡ bytes_in (shown frames.old.items) }
     ensures kept { (size : ℕ) → length frames.new.items < size
         → room size limit 0 (shown frames.old.items) ≡ (result, shown frames.new.items) }
@@ -33,6 +39,7 @@ fn make_room(frames: &mut HeapCircularBuffer<QueuedFrame>, held: &mut usize, lim
         };
         *held -= oldest.bytes.len();
         passed = passed.saturating_add(oldest.gap).saturating_add(1);
+        *spare = oldest.bytes;
     }
     passed
 }
@@ -50,13 +57,14 @@ fn pass_gap(frames: &mut HeapCircularBuffer<QueuedFrame>, passed: u64)
 }
 
 /// Appends a frame that is no longer than `limit`. The oldest frames go until it fits, and their gaps pass on. Returns
-/// how many went.
+/// how many went. The memory of the last one is kept in `spare`.
 #[tactic(auto, using(crate::proofs::Room::ring_steps))]
 pub(crate) fn push_frame(
     frames: &mut HeapCircularBuffer<QueuedFrame>,
     held: &mut usize,
     limit: usize,
     frame: QueuedFrame,
+    spare: &mut Vec<u8>,
 ) -> usize
     requires counted { held.old ≡ bytes_in (shown frames.old.items) }
     requires some_size { 0 < frames.old.capacity }
@@ -73,7 +81,7 @@ pub(crate) fn push_frame(
     ensures have_bytes { HaveBytes (shown frames.new.items) }
 {
     let before = frames.len();
-    let passed = make_room(frames, held, limit - frame.bytes.len());
+    let passed = make_room(frames, held, limit - frame.bytes.len(), spare);
     let dropped = before - frames.len();
     *held += frame.bytes.len();
     let Some(oldest) = frames.push_back(frame) else {
@@ -83,6 +91,7 @@ pub(crate) fn push_frame(
     // The ring was full, so none had to go for its bytes.
     *held -= oldest.bytes.len();
     pass_gap(frames, oldest.gap.saturating_add(1));
+    *spare = oldest.bytes;
     1
 }
 

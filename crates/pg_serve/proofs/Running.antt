@@ -33,6 +33,9 @@ many_more u v w inputs told f o all takes m shows =
       shows = subst (MomentShows w) (sym (after_turns-append m many.turns (one.turn ∷ []))) one.shows;
     }
 
+pub one_taken : (v w : Holding) (f : Fact) (o : Outcome) → TakesInput v f o w → TakesInputs v (f ∷ []) (o ∷ []) w
+one_taken v w f o takes = many_more v v w [] [] f o (λ m shows. record { turns = []; taken = refl; legal = tt; outcomes = refl; shows = shows }) takes
+
 pub answered_more : (v w : WorldValue) (before inputs : List Fact) (told more : List Outcome) → HasAnswered v before told
     → TakesInputs (holding v) inputs more (holding w) → w.failed ≡ false
     → HasAnswered w (before ++ inputs) (told ++ more)

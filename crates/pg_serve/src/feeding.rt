@@ -28,7 +28,9 @@ use std::sync::Arc;
 pub(crate) fn note(notes: &mut Vec<Note>, what: Note) -> Result<(), AllocError>
     ensures noted { IfOk result (λ _. all_noted notes.new.items ≡ all_noted notes.old.items ++ noted what ∷ []) }
 {
-    notes.push(what)?;
+    // Room first: a push that may fail hands the note back, which would move it.
+    notes.reserve(1)?;
+    notes.push_reserved(what);
     Ok(())
 }
 
@@ -164,10 +166,19 @@ pub(crate) fn commands_owed(alloc: Global, link: &mut Link) -> Result<Vec<u8>, A
     ensures given { IfOk result (λ frames. (past : LinkPast) → ingest.ShowsLink link.old past → GivesAll past frames.items link.new) }
 {
     let mut frames = Vec::new(alloc);
+    give_commands(link, &mut frames)?;
+    Ok(frames)
+}
+
+/// Appends the commands that a source is owed, one behind another.
+pub(crate) fn give_commands(link: &mut Link, frames: &mut Vec<u8>) -> Result<(), AllocError>
+    requires empty { frames.old.items ≡ [] }
+    ensures given { IfOk result (λ _. (past : LinkPast) → ingest.ShowsLink link.old past → GivesAll past frames.new.items link.new) }
+{
     while let Some(frame) = link.next_out() {
         frames.extend_from_slice(&frame)?;
     }
-    Ok(frames)
+    Ok(())
 }
 
 /// Posts the commands of a subscriber that are whole, and tells whether its bytes broke behind them.

@@ -79,6 +79,7 @@ impl<R: Wait, N: Named> Gate for SharedGate<'_, R, N> {
     ghost joins = { λ g h k. goes_on_more g h k };
 
     /// Posts at its seat. It waits by parking, and what is promised holds if it returns.
+    #[inline(always)]
     fn post(&mut self, event: Event) -> Reply
         // All that `Shared::post` promises of the seat.
         ensures seat { PostedCall self.old event result self.new }

@@ -1,7 +1,11 @@
 //! What a world is handed, and what it answers.
 
+ghost use Rattle.std.specs.Prelude.{◌≡◌, []};
+ghost use Rattle.pg_serve.specs.Inputs.{outcome};
+
 use pg_gateway::{Edit, Reply};
 use pg_wire::{PmuId, Refusal, SubId};
+use std::alloc::Global;
 
 /// What a world is handed (own rule).
 #[derive(Drop)]
@@ -42,4 +46,16 @@ pub struct Output {
     pub notes: Vec<Note>,
     /// The command frames that are to be sent to the source, 18 bytes each (C37.118.2, 6.6).
     pub to_pmu: Vec<u8>,
+}
+
+impl Output {
+    /// An answer that tells nothing. It takes no memory.
+    pub fn new(alloc: Global) -> Output
+        ensures outcome { outcome result ≡ record { notes = []; to_pmu = [] } }
+    {
+        Output {
+            notes: Vec::new(alloc),
+            to_pmu: Vec::new(alloc),
+        }
+    }
 }

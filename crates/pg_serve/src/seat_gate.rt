@@ -77,6 +77,7 @@ impl<R: Wait> Gate for SeatGate<'_, R> {
     ghost joins = { λ g h k. goes_on_more g h k };
 
     /// Posts at its seat. It waits by parking, and what is promised holds if it returns.
+    #[inline(always)]
     fn post(&mut self, event: Event) -> Reply
         ensures table { self.new.table ≡ self.old.table }
         // All that `Shared::post` promises of the seat.

@@ -58,6 +58,7 @@ impl Shared {
     /// calls exactly those that it made, each once, in their order. Where no answer of the history tells a loss or want of
     /// memory, what its drains hand to a subscriber is what a private gateway of that subscriber's view of the history hands
     /// out, and so is this reply where the event asks something for a subscriber.
+    #[inline(always)]
     pub fn post<R: Wait>(&self, rt: &R, seat: Seat, event: Event) -> (Seat, Reply)
         requires table { seat.table ≡ self.now }
         ensures seat { result.0.table ≡ seat.table }

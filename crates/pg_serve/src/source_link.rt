@@ -8,7 +8,7 @@ ghost use Rattle.pg_serve.specs.Moments.{SourceLinkPast, new_source_link};
 ghost use Rattle.pg_serve.specs.Shown.{SourceLinkShows};
 ghost use Rattle.pg_serve.specs.Taking.{GoesUp, TakesBytes};
 
-use crate::feeding::{commands_owed, feed_link};
+use crate::feeding::{commands_owed, feed_link, give_commands};
 use crate::input::Output;
 use pg_gateway::Gateway;
 use pg_ingest::Link;
@@ -42,25 +42,23 @@ impl SourceLink {
         Ok(commands_owed(alloc, &mut self.link)?)
     }
 
-    /// The source's bytes came: what they make, and what is to be sent.
+    /// The source's bytes came: what they make, and what is to be sent, in place of what the output told.
     pub(crate) fn take(
         &mut self,
-        alloc: Global,
         gateway: &mut Gateway,
         bytes: &[u8],
-    ) -> Result<Output, AllocError>
-        ensures takes { IfOk result (λ o. (S : SharedMachine) (line : SourceLinkPast) → GatewayShows gateway.old S → SourceLinkShows self.old line
-            → TakesBytes S line bytes.now (outcome o) gateway.new self.new) }
+        output: &mut Output,
+    ) -> Result<(), AllocError>
+        ensures takes { IfOk result (λ _. (S : SharedMachine) (line : SourceLinkPast) → GatewayShows gateway.old S → SourceLinkShows self.old line
+            → TakesBytes S line bytes.now (outcome output.new) gateway.new self.new) }
     {
-        let mut notes = Vec::with_capacity(alloc, 1)?;
-        feed_link(gateway, &mut self.link, bytes, &mut notes)?;
+        output.notes.clear();
+        output.to_pmu.clear();
+        feed_link(gateway, &mut self.link, bytes, &mut output.notes)?;
         if !self.is_up {
-            return Ok(Output {
-                notes,
-                to_pmu: Vec::new(alloc),
-            });
+            return Ok(());
         }
-        let to_pmu = commands_owed(alloc, &mut self.link)?;
-        Ok(Output { notes, to_pmu })
+        give_commands(&mut self.link, &mut output.to_pmu)?;
+        Ok(())
     }
 }

@@ -1,12 +1,12 @@
 //! The world.
-ghost use Rattle.std.specs.Prelude.{◌≡◌, Err, true, nat_eq, is_some, Some, None, IfSome, IfOk, IfErr, OnErr, [], List, ◌++◌};
+ghost use Rattle.std.specs.Prelude.{◌≡◌, Err, true, nat_eq, is_some, Some, None, IfSome, IfOk, IfErr, OnErr, [], ◌∷◌, List, ◌++◌};
 ghost use Rattle.pg_serve.specs.Shown.{queue_shown, link_counted, session_counted};
 ghost use Rattle.pg_serve.specs.Taking.{held, TakesInputs};
 ghost use Rattle.std.specs.Map.{lookup};
 ghost use Rattle.pg_gateway.specs.State.{SharedMachine, slot_of};
 ghost use Rattle.pg_gateway.specs.Shown.{GatewayShows};
 ghost use Rattle.pg_serve.specs.Moments.{absence};
-ghost use Rattle.pg_serve.specs.Inputs.{Fact, Outcome, facts, outcomes};
+ghost use Rattle.pg_serve.specs.Inputs.{Fact, Outcome, fact, facts, outcome, outcomes};
 ghost use Rattle.pg_serve.specs.Full.{HasAnswered, OutcomesLossless, Headline};
 ghost use Rattle.pg_serve.specs.Beside.{StandsBeside};
 
@@ -90,6 +90,38 @@ impl World {
         Ok(outputs)
     }
 
+    /// Takes one input, and answers it in place of what the output told: for inputs that come one after another. Where the input is
+    /// bytes of a source the memory of the output is kept.
+    ///
+    /// What `run` promises of its inputs and answers holds of these.
+    ///
+    /// # Errors
+    ///
+    /// `NoMemory`, where there is none for an answer. From then on it answers that alone. The output then tells nothing of use.
+    pub fn take(&mut self, input: &Input, output: &mut Output) -> Result<(), Refusal>
+        ensures answers { IfOk result (λ _. (before : List Fact) (told : List Outcome) → HasAnswered self.old before told
+            → HasAnswered self.new (before ++ fact input.now ∷ []) (told ++ outcome output.new ∷ [])) }
+        ensures isolates { IfOk result (λ _. (before : List Fact) (told : List Outcome) → HasAnswered self.old before told
+            → OutcomesLossless (told ++ outcome output.new ∷ [])
+            → Headline self.new (before ++ fact input.now ∷ []) (told ++ outcome output.new ∷ [])) }
+        ensures beside { IfOk result (λ _. (before : List Fact) (told : List Outcome) → HasAnswered self.old before told
+            → OutcomesLossless (told ++ outcome output.new ∷ [])
+            → StandsBeside self.new (before ++ fact input.now ∷ []) (told ++ outcome output.new ∷ [])) }
+        ensures stays { self.old.failed ≡ true → (self.new ≡ self.old) × (output.new ≡ output.old) }
+        ensures fails { OnErr result (self.new.failed ≡ true) }
+        ensures failed { self.old.failed ≡ true → result ≡ Err Refusal.NoMemory }
+        ensures memory { IfErr result (λ refusal. refusal ≡ Refusal.NoMemory) }
+    {
+        if self.failed {
+            return Err(Refusal::NoMemory);
+        }
+        // An early return leaves it so.
+        self.failed = true;
+        self.core.take(input, output)?;
+        self.failed = false;
+        Ok(())
+    }
+
     /// What waits for a subscriber to be handed out: the rest of the frame in hand, replies, data frames with their gaps, and
     /// how many more were dropped or lost behind them.
     ///
@@ -147,7 +179,8 @@ fn run_all(core: &mut Core, inputs: &[Input]) -> Result<Vec<Output>, AllocError>
 {
     let mut outputs = Vec::new(core.alloc);
     for input in inputs {
-        let output = core.take(input)?;
+        let mut output = Output::new(core.alloc);
+        core.take(input, &mut output)?;
         outputs.push(output)?;
     }
     Ok(outputs)

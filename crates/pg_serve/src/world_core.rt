@@ -50,14 +50,43 @@ fn refused(alloc: Global, refusal: Refusal) -> Result<Output, AllocError>
     Ok(output(alloc, Note::Replied(Reply::Refused(refusal)))?)
 }
 
+/// The output tells a refusal alone.
+#[inline(never)]
+fn refuse(alloc: Global, refusal: Refusal, output: &mut Output) -> Result<(), AllocError>
+    ensures outcome { IfOk result (λ _. outcome output.new ≡ record { notes = replied (tells (private.refused refusal)) ∷ []; to_pmu = [] }) }
+{
+    *output = refused(alloc, refusal)?;
+    Ok(())
+}
+
 impl Core {
-    /// Takes one input.
-    pub(crate) fn take(&mut self, input: &Input) -> Result<Output, AllocError>
+    /// Takes one input, and answers it in place of what the output told. For the bytes of a source the output's memory is kept.
+    pub(crate) fn take(&mut self, input: &Input, output: &mut Output) -> Result<(), AllocError>
+        ensures takes { IfOk result (λ _. TakesInput (held self.old) (fact input.now) (outcome output.new) (held self.new)) }
+    {
+        match input {
+            Input::PmuBytes(source, bytes) => self.take_source(*source, bytes.as_slice(), output),
+            _ => self.answer_anew(input, output),
+        }
+    }
+
+    /// Takes one input, and answers it in new memory. It is a function of its own, so that nothing of what the others need is made
+    /// ready for a data frame.
+    #[inline(never)]
+    fn answer_anew(&mut self, input: &Input, output: &mut Output) -> Result<(), AllocError>
+        ensures takes { IfOk result (λ _. TakesInput (held self.old) (fact input.now) (outcome output.new) (held self.new)) }
+    {
+        *output = self.take_other(input)?;
+        Ok(())
+    }
+
+    /// The answer to one input.
+    fn take_other(&mut self, input: &Input) -> Result<Output, AllocError>
         ensures takes { IfOk result (λ o. TakesInput (held self.old) (fact input.now) (outcome o) (held self.new)) }
     {
         match input {
             Input::LinkUp(source) => self.link_up(*source),
-            Input::PmuBytes(source, bytes) => self.take_source(*source, bytes.as_slice()),
+            Input::PmuBytes(source, bytes) => self.take_bytes(*source, bytes.as_slice()),
             Input::SubBytes(sub, bytes) => self.take_subscriber(*sub, bytes.as_slice()),
             Input::Connect(sub) => self.connect(*sub),
             Input::Hangup(sub) => self.end_session(Event::Hangup(*sub), *sub),
@@ -93,12 +122,26 @@ impl Core {
     }
 
     /// Bytes of a source came.
-    fn take_source(&mut self, source: PmuId, bytes: &[u8]) -> Result<Output, AllocError>
+    fn take_bytes(&mut self, source: PmuId, bytes: &[u8]) -> Result<Output, AllocError>
         ensures takes { IfOk result (λ o. TakesInput (held self.old) (pmu_bytes source bytes.now) (outcome o) (held self.new)) }
     {
+        let mut output = Output::new(self.alloc);
+        self.take_source(source, bytes, &mut output)?;
+        Ok(output)
+    }
+
+    /// The same, answered in place of what the output told.
+    fn take_source(
+        &mut self,
+        source: PmuId,
+        bytes: &[u8],
+        output: &mut Output,
+    ) -> Result<(), AllocError>
+        ensures takes { IfOk result (λ _. TakesInput (held self.old) (pmu_bytes source bytes.now) (outcome output.new) (held self.new)) }
+    {
         match self.lines.get_mut(&source) {
-            None => Ok(refused(self.alloc, Refusal::NoSuchPmu)?),
-            Some(line) => Ok(line.take(self.alloc, &mut self.gateway, bytes)?),
+            None => Ok(refuse(self.alloc, Refusal::NoSuchPmu, output)?),
+            Some(line) => Ok(line.take(&mut self.gateway, bytes, output)?),
         }
     }
 

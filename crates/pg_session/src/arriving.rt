@@ -133,7 +133,12 @@ pub(crate) fn arrive_all_in(
         arrive_one(align, slot, member, block, output);
         some = true;
     }
-    *guess = next;
+    // Behind the last member the first is guessed.
+    *guess = if next < definition.members.as_slice().len() {
+        next
+    } else {
+        0
+    };
     some
 }
 

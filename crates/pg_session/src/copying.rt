@@ -58,6 +58,7 @@ pub fn copy_parts(
 
 /// Lays a copy of a PMU's block, where that is a member's, which is guessed to be the one at the place `next`. The one refusal
 /// is `NoMemory`.
+#[inline(always)]
 fn lay_block(
     definition: &Definition,
     key: &PmuKey,
@@ -89,6 +90,7 @@ fn lay_block(
 
 /// Lays a copy of each of those blocks that is a member's; the first is guessed to be the one at the place `guess`. The one
 /// refusal is `NoMemory`; some copies may then lie there.
+#[inline(always)]
 pub(crate) fn copy_members(
     definition: &Definition,
     frame: &Arc<DataFrame>,
@@ -116,6 +118,7 @@ pub(crate) fn copy_members(
 }
 
 /// Lays the copies of a frame's blocks that the streams ask for. The one refusal is `NoMemory`; some copies may then lie there.
+#[inline(always)]
 pub(crate) fn copy_blocks(
     frame: &Arc<DataFrame>,
     places: &[usize],

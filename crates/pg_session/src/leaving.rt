@@ -35,7 +35,8 @@ fn send_slot(
     if output.is_lost() {
         output.lose();
     } else {
-        output.send(data_frame_near(alloc, definition, slot, listed, parts, size));
+        let spare = output.take_spare(alloc);
+        output.send(data_frame_near(alloc, definition, slot, listed, parts, size, spare));
     }
 }
 

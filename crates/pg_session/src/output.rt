@@ -158,6 +158,13 @@ impl Output {
         self.stats.count_refusal(Refusal::TimeEnd);
     }
 
+    /// Memory for the next frame: that of one which is done with, where there is any.
+    pub fn take_spare(&mut self, alloc: Global) -> Vec<u8>
+        ensures { self.new ≡ self.old }
+    {
+        self.queue.take_spare(alloc)
+    }
+
     /// Takes a frame that was composed, or loses it where that found no memory. It asks that none of the event was lost.
     pub fn send(&mut self, composed: Result<Vec<u8>, Refusal>)
         requires none_lost { self.old.lost ≡ false }

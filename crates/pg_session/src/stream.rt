@@ -93,7 +93,6 @@ fn mark_changed<'a>(
 }
 
 /// The place of a PMU among the members of a stream.
-#[inline(never)]
 pub(crate) fn place_in(definition: &Definition, key: &PmuKey) -> Option<usize>
     ensures { result ≡ place_of definition.now.members key.now }
 {
@@ -104,42 +103,38 @@ pub(crate) fn place_in(definition: &Definition, key: &PmuKey) -> Option<usize>
         .position(|member| *member == *key)
 }
 
-/// The same for a PMU that is guessed to be the member at the place `next`, behind the last one the first, or else the one before it:
-/// where it is, no other is looked at. `next` is then the place behind the one where it was found, so that members which come in
-/// their order, and one that comes again, are found at once.
+/// The same for a PMU that is guessed to be the member at the place `next`: where it is, no other is looked at. `next` is then the
+/// place behind the one where it was found, so that members which come in their order are found at once.
 #[inline(always)]
 pub(crate) fn place_next(definition: &Definition, key: &PmuKey, next: &mut usize) -> Option<usize>
     requires limits { IsWithinLimits definition.now }
     ensures { result ≡ place_of definition.now.members key.now }
 {
-    let place = place_near(definition, key, *next);
+    let guess = *next;
+    if is_member_at(definition, key, guess) {
+        *next = guess.wrapping_add(1);
+        return Some(guess);
+    }
+    // A copy of its own, so that the key needs no place in memory where it is found above.
+    let sought = *key;
+    let place = place_near(definition, &sought, guess);
     if let Some(place) = place {
         *next = place.wrapping_add(1);
     }
     place
 }
 
-/// The same for a PMU that may well be the member at the place `guess`, behind the last one the first, or else the one before it.
-#[inline(always)]
+/// The same for a PMU that is not the member at the place `guess`, and may well be the one before it, or the first.
+#[inline(never)]
 fn place_near(definition: &Definition, key: &PmuKey, guess: usize) -> Option<usize>
     requires limits { IsWithinLimits definition.now }
     ensures { result ≡ place_of definition.now.members key.now }
 {
-    let next = if guess < definition.members.as_slice().len() {
-        guess
-    } else {
-        0
-    };
-    if is_member_at(definition, key, next) {
-        return Some(next);
+    let before = guess.wrapping_sub(1);
+    if is_member_at(definition, key, before) {
+        return Some(before);
     }
-    let last = guess.saturating_sub(1);
-    if is_member_at(definition, key, last) {
-        return Some(last);
-    }
-    // A copy of its own, so that the key needs no place in memory where it is found above.
-    let sought = *key;
-    place_in(definition, &sought)
+    place_in(definition, key)
 }
 
 /// Whether a PMU is the member at a place.
@@ -370,6 +365,7 @@ impl Stream {
 
     /// Lays a copy of each of those blocks that it asks for: of its members', where it is on. The one refusal is `NoMemory`; some
     /// copies may then lie there.
+    #[inline(always)]
     pub fn lay_copies(
         &self,
         frame: &Arc<DataFrame>,

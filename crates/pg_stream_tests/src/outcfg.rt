@@ -164,7 +164,7 @@ fn frame_3001(
 {
     same(rt, parts.len(), definition.members.as_slice().len());
     let frame = data_frame(alloc, definition, 3001, list, parts).expect(rt, "memory");
-    // Whatever size is guessed it is the same frame, and its size is the next guess.
+    // Whatever size is guessed, and whatever was in the memory, it is the same frame, and its size is the next guess.
     for guess in [
         0,
         15,
@@ -175,7 +175,8 @@ fn frame_3001(
         65_535,
     ] {
         let mut size = guess;
-        let near = data_frame_near(alloc, definition, 3001, list, parts, &mut size);
+        let spare = Vec::from_slice(alloc, &[0xFF; 40]).expect(rt, "memory");
+        let near = data_frame_near(alloc, definition, 3001, list, parts, &mut size, spare);
         same(rt, near.expect(rt, "memory").as_slice(), frame.as_slice());
         same(rt, usize::from(size), frame.len());
     }

@@ -1,5 +1,6 @@
 pub mod Remainders
 pub mod Slicing
+pub mod Carrying
 pub mod Taking
 pub mod Stream
 pub mod Splitting

@@ -6,7 +6,7 @@ use Rattle.std.proofs.lemmas.Nat.{pow-add, div-add-mod', mod_below, xor_comm}
 use Rattle.std.proofs.Math.Seq.{take-add}
 use Rattle.std.proofs.lemmas.List.{drop_more, drop-drop, drop_all, append-nil}
 use Rattle.std.proofs.lemmas.Bool.{eqb-true, ltb-true, and_parts}
-use Rattle.pg_wire.specs.Check.{◌⊕◌, times_generator, IsRemainder, dividend}
+use Rattle.pg_wire.specs.Check.{◌⊕◌, times_generator, IsRemainder, dividend_from}
 use Rattle.pg_wire.proofs.Remainders.{xor_shl, xor_cat, xor_pairs, times_generator-shl, IsRemainder-xor, IsRemainder-short, IsRemainder-more, IsRemainder-shl, dividend-more}
 
 -- ---- the tables
@@ -104,17 +104,18 @@ pub IsRemainder-none : IsRemainder (lifted []) 0
 IsRemainder-none = IsRemainder-short 0 (lit< tt)
 
 -- more bytes
-dividend-append : (bs chunk : List ℕ) → ((i : ℕ) → get_or chunk i 0 < 256) → dividend (bs ++ chunk) ≡ dividend bs * 2 ^ (8 * length chunk) ⊕ lifted chunk
-dividend-append bs [] bytes = rw (append-nil, mul-one, xor_zero_r) refl
-dividend-append bs (b ∷ chunk) bytes =
+pub dividend-append : (start : ℕ) (bs chunk : List ℕ) → ((i : ℕ) → get_or chunk i 0 < 256)
+    → dividend_from start (bs ++ chunk) ≡ dividend_from start bs * 2 ^ (8 * length chunk) ⊕ lifted chunk
+dividend-append start bs [] bytes = rw (append-nil, mul-one, xor_zero_r) refl
+dividend-append start bs (b ∷ chunk) bytes =
     let k = 8 * length chunk in
-    let again : dividend (bs ++ b ∷ chunk) ≡ dividend ((bs ++ b ∷ []) ++ chunk) = ap dividend (sym (append_assoc bs (b ∷ []) chunk)) in
+    let again : dividend_from start (bs ++ b ∷ chunk) ≡ dividend_from start ((bs ++ b ∷ []) ++ chunk) = ap (dividend_from start) (sym (append_assoc bs (b ∷ []) chunk)) in
     let up : (a : ℕ) (i : ℕ) → a * 2 ^ i * 2 ^ k ≡ a * 2 ^ (i + k) = λ a i. mul_assoc a (2 ^ i) (2 ^ k) ∙ ap (λ x. a * x) (sym (pow-add 2 i k)) in
     let places : 8 + k ≡ 8 * suc (length chunk) = omega arith in
-    again ∙ dividend-append (bs ++ b ∷ []) chunk (λ i. bytes (suc i))
-    ∙ ap (λ x. x * 2 ^ k ⊕ lifted chunk) (dividend-more bs b (bytes 0))
-    ∙ ap (λ x. x ⊕ lifted chunk) (xor_shl (dividend bs * 2 ^ 8) (b * 2 ^ 16) k ∙ ap₂ (λ x y. x ⊕ y) (up (dividend bs) 8 ∙ ap (λ x. dividend bs * 2 ^ x) places) (up b 16))
-    ∙ xor_assoc (dividend bs * 2 ^ (8 * suc (length chunk))) (b * 2 ^ (16 + k)) (lifted chunk)
+    again ∙ dividend-append start (bs ++ b ∷ []) chunk (λ i. bytes (suc i))
+    ∙ ap (λ x. x * 2 ^ k ⊕ lifted chunk) (dividend-more start bs b (bytes 0))
+    ∙ ap (λ x. x ⊕ lifted chunk) (xor_shl (dividend_from start bs * 2 ^ 8) (b * 2 ^ 16) k ∙ ap₂ (λ x y. x ⊕ y) (up (dividend_from start bs) 8 ∙ ap (λ x. dividend_from start bs * 2 ^ x) places) (up b 16))
+    ∙ xor_assoc (dividend_from start bs * 2 ^ (8 * suc (length chunk))) (b * 2 ^ (16 + k)) (lifted chunk)
 
 -- the check so far goes into the first two bytes
 fold_in : (crc b d : ℕ) (bs : List ℕ) → crc * 2 ^ (8 * length (b ∷ d ∷ bs)) ⊕ lifted (b ∷ d ∷ bs) ≡ lifted ((crc / 2 ^ 8 ⊕ b) ∷ (crc % 2 ^ 8 ⊕ d) ∷ bs)
@@ -134,16 +135,17 @@ fold_in crc b d bs =
     ∙ ap₂ (λ x y. x ⊕ y) (sym (xor_shl high b i)) (sym (xor_assoc (low * 2 ^ k) (d * 2 ^ k) (lifted bs)) ∙ ap (λ x. x ⊕ lifted bs) (sym (xor_shl low d k)))
 
 -- what a chunk of two bytes and more leaves
-pub IsRemainder-chunk : (bs : List ℕ) (crc b d : ℕ) (chunk : List ℕ) (r : ℕ) → ((i : ℕ) → get_or (b ∷ d ∷ chunk) i 0 < 256) → IsRemainder (dividend bs) crc
-    → IsRemainder (lifted ((crc / 2 ^ 8 ⊕ b) ∷ (crc % 2 ^ 8 ⊕ d) ∷ chunk)) r → IsRemainder (dividend (bs ++ b ∷ d ∷ chunk)) r
-IsRemainder-chunk bs crc b d chunk r bytes old new =
+pub IsRemainder-chunk : (start : ℕ) (bs : List ℕ) (crc b d : ℕ) (chunk : List ℕ) (r : ℕ) → ((i : ℕ) → get_or (b ∷ d ∷ chunk) i 0 < 256)
+    → IsRemainder (dividend_from start bs) crc
+    → IsRemainder (lifted ((crc / 2 ^ 8 ⊕ b) ∷ (crc % 2 ^ 8 ⊕ d) ∷ chunk)) r → IsRemainder (dividend_from start (bs ++ b ∷ d ∷ chunk)) r
+IsRemainder-chunk start bs crc b d chunk r bytes old new =
     let k = 8 * length (b ∷ d ∷ chunk) in
     let all = lifted (b ∷ d ∷ chunk) in
-    let up : dividend bs * 2 ^ k ≡ times_generator (old.quotient * 2 ^ k) ⊕ crc * 2 ^ k =
+    let up : dividend_from start bs * 2 ^ k ≡ times_generator (old.quotient * 2 ^ k) ⊕ crc * 2 ^ k =
     ap (λ x. x * 2 ^ k) old.whole ∙ xor_shl (times_generator old.quotient) crc k
     ∙ ap (λ x. x ⊕ crc * 2 ^ k) (sym (times_generator-shl old.quotient k)) in
-    let is : dividend (bs ++ b ∷ d ∷ chunk) ≡ times_generator (old.quotient * 2 ^ k) ⊕ (crc * 2 ^ k ⊕ all) =
-    dividend-append bs (b ∷ d ∷ chunk) bytes ∙ ap (λ x. x ⊕ all) up ∙ xor_assoc (times_generator (old.quotient * 2 ^ k)) (crc * 2 ^ k) all in
+    let is : dividend_from start (bs ++ b ∷ d ∷ chunk) ≡ times_generator (old.quotient * 2 ^ k) ⊕ (crc * 2 ^ k ⊕ all) =
+    dividend-append start bs (b ∷ d ∷ chunk) bytes ∙ ap (λ x. x ⊕ all) up ∙ xor_assoc (times_generator (old.quotient * 2 ^ k)) (crc * 2 ^ k) all in
     subst (λ x. IsRemainder x r) (sym is)
     (IsRemainder-more (old.quotient * 2 ^ k) _ _ (subst (λ x. IsRemainder x r) (sym (fold_in crc b d chunk)) new))
 
@@ -183,12 +185,12 @@ eight_terms a b c d e f g h =
     let six : c ⊕ (d ⊕ (e ⊕ (f ⊕ (g ⊕ (h ⊕ 0))))) ≡ later = sym (simp (xor_assoc, xor_zero_r)) in
     ap (λ x. a ⊕ (b ⊕ x)) six ∙ sym (xor_assoc a b later) ∙ xor_comm (a ⊕ b) later
 
-pub IsRemainder-eight : (bs xs : List ℕ) (crc a b c d e f g h : ℕ) → length xs ≡ 8 → ((i : ℕ) → get_or xs i 0 < 256) → IsRemainder (dividend bs) crc
+pub IsRemainder-eight : (start : ℕ) (bs xs : List ℕ) (crc a b c d e f g h : ℕ) → length xs ≡ 8 → ((i : ℕ) → get_or xs i 0 < 256) → IsRemainder (dividend_from start bs) crc
     → IsRemainder ((crc / 2 ^ 8 ⊕ get_or xs 0 0) * 2 ^ 72) a → IsRemainder ((crc % 2 ^ 8 ⊕ get_or xs 1 0) * 2 ^ 64) b
     → IsRemainder (get_or xs 2 0 * 2 ^ 56) c → IsRemainder (get_or xs 3 0 * 2 ^ 48) d → IsRemainder (get_or xs 4 0 * 2 ^ 40) e
     → IsRemainder (get_or xs 5 0 * 2 ^ 32) f → IsRemainder (get_or xs 6 0 * 2 ^ 24) g → IsRemainder (get_or xs 7 0 * 2 ^ 16) h
-    → IsRemainder (dividend (bs ++ xs)) (c ⊕ d ⊕ e ⊕ f ⊕ g ⊕ h ⊕ (a ⊕ b))
-IsRemainder-eight bs xs crc a b c d e f g h size bytes old ra rb rc rd re rf rg rh =
+    → IsRemainder (dividend_from start (bs ++ xs)) (c ⊕ d ⊕ e ⊕ f ⊕ g ⊕ h ⊕ (a ⊕ b))
+IsRemainder-eight start bs xs crc a b c d e f g h size bytes old ra rb rc rd re rf rg rh =
     let is : xs ≡ listed 8 0 xs = is_listed 8 xs size in
     let fits : (i : ℕ) → get_or (listed 8 0 xs) i 0 < 256 = λ i. subst (λ ys. get_or ys i 0 < 256) is (bytes i) in
     let new : IsRemainder (lifted ((crc / 2 ^ 8 ⊕ get_or xs 0 0) ∷ (crc % 2 ^ 8 ⊕ get_or xs 1 0) ∷ listed 6 2 xs)) (a ⊕ (b ⊕ (c ⊕ (d ⊕ (e ⊕ (f ⊕ (g ⊕ (h ⊕ 0)))))))) =
@@ -200,6 +202,33 @@ IsRemainder-eight bs xs crc a b c d e f g h size bytes old ra rb rc rd re rf rg 
     (IsRemainder-lifted _ (listed 2 6 xs) _ _ rf
     (IsRemainder-lifted _ (listed 1 7 xs) _ _ rg
     (IsRemainder-lifted _ [] _ _ rh IsRemainder-none))))))) in
-    subst (λ ys. IsRemainder (dividend (bs ++ ys)) (c ⊕ d ⊕ e ⊕ f ⊕ g ⊕ h ⊕ (a ⊕ b))) (sym is)
-    (subst (λ r. IsRemainder (dividend (bs ++ listed 8 0 xs)) r) (eight_terms a b c d e f g h)
-    (IsRemainder-chunk bs crc (get_or xs 0 0) (get_or xs 1 0) (listed 6 2 xs) _ fits old new))
+    subst (λ ys. IsRemainder (dividend_from start (bs ++ ys)) (c ⊕ d ⊕ e ⊕ f ⊕ g ⊕ h ⊕ (a ⊕ b))) (sym is)
+    (subst (λ r. IsRemainder (dividend_from start (bs ++ listed 8 0 xs)) r) (eight_terms a b c d e f g h)
+    (IsRemainder-chunk start bs crc (get_or xs 0 0) (get_or xs 1 0) (listed 6 2 xs) _ fits old new))
+
+-- ---- six bytes
+
+six_terms : (a b c d e f : ℕ) → a ⊕ (b ⊕ (c ⊕ (d ⊕ (e ⊕ (f ⊕ 0))))) ≡ c ⊕ d ⊕ e ⊕ f ⊕ (a ⊕ b)
+six_terms a b c d e f =
+    let later = c ⊕ d ⊕ e ⊕ f in
+    let four : c ⊕ (d ⊕ (e ⊕ (f ⊕ 0))) ≡ later = sym (simp (xor_assoc, xor_zero_r)) in
+    ap (λ x. a ⊕ (b ⊕ x)) four ∙ sym (xor_assoc a b later) ∙ xor_comm (a ⊕ b) later
+
+pub IsRemainder-six : (start : ℕ) (bs xs : List ℕ) (crc a b c d e f : ℕ) → length xs ≡ 6 → ((i : ℕ) → get_or xs i 0 < 256) → IsRemainder (dividend_from start bs) crc
+    → IsRemainder ((crc / 2 ^ 8 ⊕ get_or xs 0 0) * 2 ^ 56) a → IsRemainder ((crc % 2 ^ 8 ⊕ get_or xs 1 0) * 2 ^ 48) b
+    → IsRemainder (get_or xs 2 0 * 2 ^ 40) c → IsRemainder (get_or xs 3 0 * 2 ^ 32) d
+    → IsRemainder (get_or xs 4 0 * 2 ^ 24) e → IsRemainder (get_or xs 5 0 * 2 ^ 16) f
+    → IsRemainder (dividend_from start (bs ++ xs)) (c ⊕ d ⊕ e ⊕ f ⊕ (a ⊕ b))
+IsRemainder-six start bs xs crc a b c d e f size bytes old ra rb rc rd re rf =
+    let is : xs ≡ listed 6 0 xs = is_listed 6 xs size in
+    let fits : (i : ℕ) → get_or (listed 6 0 xs) i 0 < 256 = λ i. subst (λ ys. get_or ys i 0 < 256) is (bytes i) in
+    let new : IsRemainder (lifted ((crc / 2 ^ 8 ⊕ get_or xs 0 0) ∷ (crc % 2 ^ 8 ⊕ get_or xs 1 0) ∷ listed 4 2 xs)) (a ⊕ (b ⊕ (c ⊕ (d ⊕ (e ⊕ (f ⊕ 0)))))) =
+    IsRemainder-lifted _ ((crc % 2 ^ 8 ⊕ get_or xs 1 0) ∷ listed 4 2 xs) _ _ ra
+    (IsRemainder-lifted _ (listed 4 2 xs) _ _ rb
+    (IsRemainder-lifted _ (listed 3 3 xs) _ _ rc
+    (IsRemainder-lifted _ (listed 2 4 xs) _ _ rd
+    (IsRemainder-lifted _ (listed 1 5 xs) _ _ re
+    (IsRemainder-lifted _ [] _ _ rf IsRemainder-none))))) in
+    subst (λ ys. IsRemainder (dividend_from start (bs ++ ys)) (c ⊕ d ⊕ e ⊕ f ⊕ (a ⊕ b))) (sym is)
+    (subst (λ r. IsRemainder (dividend_from start (bs ++ listed 6 0 xs)) r) (six_terms a b c d e f)
+    (IsRemainder-chunk start bs crc (get_or xs 0 0) (get_or xs 1 0) (listed 4 2 xs) _ fits old new))

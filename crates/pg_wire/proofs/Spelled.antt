@@ -29,6 +29,19 @@ four_bytes a b c d ha hb hc hd =
     let z : n % 256 ≡ d = omega arith in
     ap₂ (λ f g. f ++ g) (ap₂ (λ p q. p ∷ q ∷ []) w x) (ap₂ (λ p q. p ∷ q ∷ []) y z)
 
+check_is_right : (x y : ℕ) (o : Option Refusal) → (if not (x == y) then Some BadCheck else o) ≡ None → x ≡ y
+check_is_right x y o h = elim (cases_eq x y) [ inl e ↦ e | inr ne ↦ absurd (let t : not (x == y) ≡ true = (let f : (x == y) ≡ false = ne_eqb x y ne in ap not f) in let some : Some BadCheck ≡ None = sym (cond-true (not (x == y)) (Some BadCheck) o t) ∙ h in cc) ]
+
+-- a frame ends with its check
+pub frame-check : (frame : List ℕ) → IsFrame frame → check_at_end frame ≡ chk (take (length frame - 2) frame)
+frame-check frame is = check_is_right _ _ _ is.1
+
+pub take-bytes : (n : ℕ) (bytes : List ℕ) → ((i : ℕ) → get_or bytes i 0 < 256) → (i : ℕ) → get_or (take n bytes) i 0 < 256
+take-bytes zero bytes range i = omega arith
+take-bytes (suc n) [] range i = omega arith
+take-bytes (suc n) (b ∷ bytes) range zero = range 0
+take-bytes (suc n) (b ∷ bytes) range (suc i) = take-bytes n bytes (λ k. range (suc k)) i
+
 -- the check behind a frame's other bytes
 check_spelled : (l : List ℕ) → 2 ≤ length l → ((i : ℕ) → get_or l i 0 < 256) → skip_of l ≡ None
     → l ≡ take (length l - 2) l ++ to_be_bytes w16 (chk (take (length l - 2) l))
@@ -45,9 +58,6 @@ check_spelled l sized range kept =
     let right : check_at_end l ≡ chk (take (length l - 2) l) = check_is_right _ _ _ kept in
     sym (take-append-drop (length l - 2) l)
     ∙ ap (λ x. take (length l - 2) l ++ x) (end ∙ sym (two_bytes _ _ low high) ∙ ap (to_be_bytes w16) right)
-  where
-    check_is_right : (x y : ℕ) (o : Option Refusal) → (if not (x == y) then Some BadCheck else o) ≡ None → x ≡ y
-    check_is_right x y o h = elim (cases_eq x y) [ inl e ↦ e | inr ne ↦ absurd (let t : not (x == y) ≡ true = (let f : (x == y) ≡ false = ne_eqb x y ne in ap not f) in let some : Some BadCheck ≡ None = sym (cond-true (not (x == y)) (Some BadCheck) o t) ∙ h in cc) ]
 
 -- the bytes of a frame without a break
 frame_bytes : (a k s t : ℕ) (rest : List ℕ) → break_of (a ∷ k ∷ s ∷ t ∷ rest) ≡ None → (a ≡ 170) × (k < 96)

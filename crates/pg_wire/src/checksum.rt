@@ -2,7 +2,7 @@
 //! most significant bit first and no final change (C37.118.2, 6.2).
 
 ghost use Rattle.std.specs.Prelude.{◌≡◌, ◌+◌, ◌*◌, ◌^◌, ◌<◌, ℕ, List, [], ◌∷◌, ◌++◌};
-ghost use Rattle.pg_wire.specs.Check.{chk, dividend, IsRemainder};
+ghost use Rattle.pg_wire.specs.Check.{chk, dividend, dividend_from, IsRemainder};
 
 /// What the check starts from: sixteen ones over the first byte.
 const START: u16 = u16::MAX;
@@ -230,9 +230,9 @@ fn remainder_of(byte: u8, after: usize) -> u16
     REMAINDERS[after][usize::from(byte)]
 }
 
-/// The check once one more byte has come.
+/// The check once one more byte has come, whatever it started from.
 fn with_byte(crc: u16, byte: u8) -> u16
-    ensures { (bytes : List ℕ) → IsRemainder (dividend bytes) crc → IsRemainder (dividend (bytes ++ byte ∷ [])) result }
+    ensures { (start : ℕ) (bytes : List ℕ) → IsRemainder (dividend_from start bytes) crc → IsRemainder (dividend_from start (bytes ++ byte ∷ [])) result }
 {
     let high = (crc >> 8) as u8;
     (crc << 8) ^ remainder_of(high ^ byte, 0)
@@ -240,7 +240,7 @@ fn with_byte(crc: u16, byte: u8) -> u16
 
 /// The check once eight more bytes have come.
 fn with_chunk(crc: u16, chunk: &[u8; CHUNK]) -> u16
-    ensures { (bytes : List ℕ) → IsRemainder (dividend bytes) crc → IsRemainder (dividend (bytes ++ chunk.now)) result }
+    ensures { (start : ℕ) (bytes : List ℕ) → IsRemainder (dividend_from start bytes) crc → IsRemainder (dividend_from start (bytes ++ chunk.now)) result }
 {
     let later = remainder_of(chunk[2], 5)
         ^ remainder_of(chunk[3], 4)
@@ -252,6 +252,19 @@ fn with_chunk(crc: u16, chunk: &[u8; CHUNK]) -> u16
     let high = (crc >> 8) as u8;
     let low = (crc % 256) as u8;
     later ^ (remainder_of(high ^ chunk[0], 7) ^ remainder_of(low ^ chunk[1], 6))
+}
+
+/// The check once six more bytes have come.
+fn with_six(crc: u16, chunk: &[u8; 6]) -> u16
+    ensures { (start : ℕ) (bytes : List ℕ) → IsRemainder (dividend_from start bytes) crc → IsRemainder (dividend_from start (bytes ++ chunk.now)) result }
+{
+    let later = remainder_of(chunk[2], 3)
+        ^ remainder_of(chunk[3], 2)
+        ^ remainder_of(chunk[4], 1)
+        ^ remainder_of(chunk[5], 0);
+    let high = (crc >> 8) as u8;
+    let low = (crc % 256) as u8;
+    later ^ (remainder_of(high ^ chunk[0], 5) ^ remainder_of(low ^ chunk[1], 4))
 }
 
 /// CHK of these bytes, taken one byte at a time: slower than `check`, and short enough to be read.
@@ -267,13 +280,12 @@ pub fn check_bytewise(bytes: &[u8]) -> u16
     crc
 }
 
-/// CHK of these bytes: what stands behind them in a frame, high byte first. It takes them eight at a time.
-pub fn check(bytes: &[u8]) -> u16
-    ensures value { result ≡ chk bytes.now }
-    // It is what is left of the division, with some quotient.
-    ensures remainder { IsRemainder (dividend bytes.now) result }
+/// What a check becomes once these bytes have come behind those that it is of. It takes them eight at a time.
+pub fn check_more(crc: u16, bytes: &[u8]) -> u16
+    ensures { (start : ℕ) (before : List ℕ) → IsRemainder (dividend_from start before) crc
+        → IsRemainder (dividend_from start (before ++ bytes.now)) result }
 {
-    let mut crc = START;
+    let mut crc = crc;
     let (chunks, rest) = bytes.as_chunks::<CHUNK>();
     for chunk in chunks {
         crc = with_chunk(crc, chunk);
@@ -282,4 +294,31 @@ pub fn check(bytes: &[u8]) -> u16
         crc = with_byte(crc, *byte);
     }
     crc
+}
+
+/// CHK of these bytes: what stands behind them in a frame, high byte first.
+pub fn check(bytes: &[u8]) -> u16
+    ensures value { result ≡ chk bytes.now }
+    // It is what is left of the division, with some quotient.
+    ensures remainder { IsRemainder (dividend bytes.now) result }
+{
+    check_more(START, bytes)
+}
+
+/// What these bytes add to the check of a frame in which nothing stands behind them: what is left of them alone.
+pub fn check_alone(bytes: &[u8]) -> u16
+    ensures { IsRemainder (dividend_from 0 bytes.now) result }
+{
+    check_more(0, bytes)
+}
+
+/// The check of a frame's head.
+pub fn check_head(head: &[u8; 14]) -> u16
+    ensures { IsRemainder (dividend head.now) result }
+{
+    let [a, b, c, d, e, f, g, h, i, j, k, l, m, n] = *head;
+    with_chunk(
+        with_six(START, &[a, b, c, d, e, f]),
+        &[g, h, i, j, k, l, m, n],
+    )
 }

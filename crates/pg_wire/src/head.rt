@@ -2,7 +2,7 @@
 
 ghost use Rattle.std.specs.Prelude.{◌≡◌, ◌+◌, ◌/◌, ◌^◌, ◌<◌, ◌≤◌, ◌++◌, length, slice_index, vec_len, vec_capacity, IfOk, IfErr};
 ghost use Rattle.std.specs.Int.{w16, to_be_bytes};
-ghost use Rattle.pg_wire.specs.Check.{chk};
+ghost use Rattle.pg_wire.specs.Check.{chk, dividend, IsRemainder};
 ghost use Rattle.pg_wire.specs.Head.{IsFrame, HeadFits, head_of};
 ghost use Rattle.pg_wire.specs.Kinds.{kind_number};
 ghost use Rattle.pg_wire.specs.Heads.{heading_of, start_of};
@@ -70,7 +70,8 @@ pub fn start_frame(alloc: Global, head: &Head) -> Result<Vec<u8>, Refusal>
 }
 
 /// A head as the bytes of a frame (C37.118.2, 6.2).
-fn head_bytes(head: &Head) -> [u8; HEAD_SIZE]
+#[inline(always)]
+pub fn head_bytes(head: &Head) -> [u8; HEAD_SIZE]
     requires version { head.now.version < 16 }
     requires frac { head.now.frac < 2 ^ 24 }
     ensures { result ≡ start_of (heading_of head.now) head.now.size }
@@ -107,4 +108,27 @@ pub fn end_frame(frame: &mut Vec<u8>)
     let sum = check(frame);
     // It fits, by what is asked for.
     let _ = frame.extend_from_slice(&sum.to_be_bytes());
+}
+
+/// The same, where the check over all bytes that are there is known: it is `crc`.
+#[inline(always)]
+pub fn end_frame_by(frame: &mut Vec<u8>, crc: u16)
+    requires room { vec_len frame.old + 2 ≤ vec_capacity frame.old }
+    requires check { IsRemainder (dividend frame.old.items) crc }
+    ensures bytes { frame.new.items ≡ frame.old.items ++ to_be_bytes w16 (chk frame.old.items) }
+    ensures len { vec_len frame.new ≡ vec_len frame.old + 2 }
+    ensures room { vec_capacity frame.old ≤ vec_capacity frame.new }
+{
+    is_check(frame, crc);
+    // It fits, by what is asked for.
+    let _ = frame.extend_from_slice(&crc.to_be_bytes());
+}
+
+/// What is left of the division is CHK. It does nothing.
+#[inline(always)]
+fn is_check(bytes: &[u8], crc: u16)
+    requires { IsRemainder (dividend bytes.now) crc }
+    ensures { crc ≡ chk bytes.now }
+{
+    let _ = bytes;
 }

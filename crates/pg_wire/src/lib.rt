@@ -1,6 +1,7 @@
 //! Frames of a synchrophasor stream: their check, their heads, and how a stream is cut into them.
 #![tactic(auto)]
 
+mod ahead;
 mod checksum;
 mod deframer;
 mod head;
@@ -9,9 +10,10 @@ mod kind;
 mod laws;
 mod refusal;
 
-pub use checksum::{check, check_bytewise};
+pub use ahead::{Ahead, body_alone};
+pub use checksum::{check, check_alone, check_bytewise, check_head, check_more};
 pub use deframer::{CAPACITY, Deframer, Taken, is_frame};
-pub use head::{Head, end_frame, read_head, start_frame};
+pub use head::{Head, end_frame, end_frame_by, head_bytes, read_head, start_frame};
 pub use ids::{PmuId, PmuKey, StreamId, SubId};
 pub use kind::Kind;
 pub use laws::{

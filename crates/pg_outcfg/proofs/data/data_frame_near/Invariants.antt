@@ -4,5 +4,5 @@ use Rattle.pg_outcfg.specs.Frames.{data_blocks}
 use Rattle.pg_outcfg.proofs.data.data_frame_near.Given as goal
 
 -- no frame was composed yet at the size that was counted
-abbrev pub decreases-loop-frame : goal.decreases-loop-frame
-decreases-loop-frame l = if nat_eq l.near (16 + length (joined (data_blocks l.listed l.definition.members l.parts))) && nat_le l.near 12752 then 0 else 1
+abbrev pub decreases-loop-near : goal.decreases-loop-near
+decreases-loop-near l = if nat_eq l.near (16 + length (joined (data_blocks l.listed l.definition.members l.parts))) && nat_le l.near 12752 then 0 else 1

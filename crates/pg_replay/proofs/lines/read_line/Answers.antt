@@ -10,5 +10,5 @@ returns-clause-found c =
     let is = asked_text c.args.line.now (sym c.if-is_comment.ensures.value) text.1 ∙ ap text_asks (sym text.0) in
     subst (λ o. IfOk c.read_text.result (λ l. o ≡ Some (asked l))) (sym is) c.read_text.ensures.found
 
-pub returns-in_default-from_utf8-clause-refused : goal.returns-in_default-from_utf8-clause-refused
-returns-in_default-from_utf8-clause-refused c = inr (refl, asked_none c.args.line.now (sym c.if-is_comment.ensures.value) c.in_default-from_utf8.ensures.cases.0)
+pub returns-in_default-clause-refused : goal.returns-in_default-clause-refused
+returns-in_default-clause-refused c = inr (refl, asked_none c.args.line.now (sym c.if-is_comment.ensures.value) c.in_default.ensures.cases.0)

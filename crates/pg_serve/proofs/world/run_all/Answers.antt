@@ -12,7 +12,7 @@ loop-input-preserved c =
     ap (λ k. facts (take k c.args.inputs.now)) on ∙ ap facts (take-suc c.args.inputs.now c.loop-input.input-index c.input-item.result c.loop-input-test.true)
     ∙ map-append fact (take c.loop-input.input-index c.args.inputs.now) (get_or c.args.inputs.now c.loop-input.input-index c.input-item.result ∷ [])
     ∙ ap (λ x. facts (take c.loop-input.input-index c.args.inputs.now) ++ fact x ∷ []) (sym c.input-item.is) in
-    let out : outcomes c.push.new.self.items ≡ outcomes c.loop-input.outputs.items ++ outcome c.in_ok-output.output ∷ [] =
-    ap outcomes c.in_ok-push.ensures.items ∙ map-append outcome c.loop-input.outputs.items (c.in_ok-output.output ∷ []) in
-    rw (items, out) (many_more _ _ _ (facts (take c.loop-input.input-index c.args.inputs.now)) (outcomes c.loop-input.outputs.items) (fact c.input-item.result) (outcome c.in_ok-output.output)
-    c.loop-input.invariant c.in_ok-output.ensures.takes)
+    let out : outcomes c.push.new.self.items ≡ outcomes c.loop-input.outputs.items ++ outcome c.take.new.output ∷ [] =
+    ap outcomes c.in_ok-push.ensures.items ∙ map-append outcome c.loop-input.outputs.items (c.take.new.output ∷ []) in
+    rw (items, out) (many_more _ _ _ (facts (take c.loop-input.input-index c.args.inputs.now)) (outcomes c.loop-input.outputs.items) (fact c.input-item.result) (outcome c.take.new.output)
+    c.loop-input.invariant c.in_ok-take.ensures.takes)

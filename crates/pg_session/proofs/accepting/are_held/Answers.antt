@@ -17,7 +17,7 @@ returns-then-not-is_held c =
     let parts = ap (λ (s : Source). s.parts) (c.behind-frame.view_is ∙ c.deref.ensures) ∙ ap (λ (n : Measurement). n.config.parts) c.frame.view_is in
     let there = part_there arc_value c.behind-frame.inside.parts.items i c.index-config.result.now m.config.parts part parts
     (c.requires.places k 0 c.loop-place-test.true) c.index-config.ensures c.deref-in-loop-place.ensures in
-    let keeps : IsMeasurement m = subst IsMeasurement c.frame.view_is c.frame.invariant in
+    let keeps : IsMeasurement m = subst IsMeasurement c.frame.view_is c.frame.invariant.0 in
     let next = sampled_next m c.args.places.now k c.key.result part c.loop-place-test.true there (c.key.ensures.source ∙ keeps.source) c.key.ensures.pmu in (
       (λ h. absurd (cc h)),
       (λ h. absurd (let first = subst (λ (list : List Sample). AreHeld c.args.grants.now c.args.listed.now list) next (c.loop-place.invariant.0 h) in
@@ -34,7 +34,7 @@ loop-place-preserved c =
     let parts = ap (λ (s : Source). s.parts) (c.behind-frame.view_is ∙ c.deref.ensures) ∙ ap (λ (n : Measurement). n.config.parts) c.frame.view_is in
     let there = part_there arc_value c.behind-frame.inside.parts.items i c.index-config.result.now m.config.parts part parts
     (c.requires.places k 0 c.loop-place-test.true) c.index-config.ensures c.deref-in-loop-place.ensures in
-    let keeps : IsMeasurement m = subst IsMeasurement c.frame.view_is c.frame.invariant in
+    let keeps : IsMeasurement m = subst IsMeasurement c.frame.view_is c.frame.invariant.0 in
     let next = sampled_next m c.args.places.now k c.key.result part c.loop-place-test.true there (c.key.ensures.source ∙ keeps.source) c.key.ensures.pmu in
     let held = c.is_held.ensures.0 c.if-not-is_held.false in (
       (λ h. (subst (λ (list : List Sample). AreHeld c.args.grants.now c.args.listed.now list) next (c.loop-place.invariant.0 h)).2),

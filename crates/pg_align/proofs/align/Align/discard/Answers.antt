@@ -7,9 +7,9 @@ pub invariant_of-self : goal.invariant_of-self
 invariant_of-self c =
     let a = c.self.inside in
     let k = c.self.invariant in
-    let back = taken_back a c.take_back.new.leaving c.take_back.new.spare k c.take_back.ensures.none c.take_back.ensures.len c.take_back.ensures.free c.take_back.ensures.capacity in
+    let back = taken_back a c.take_back.new.lent c.take_back.new.spare k c.take_back.ensures.none c.take_back.ensures.len c.take_back.ensures.free c.take_back.ensures.capacity in
     let all = c.free_all.ensures in
-    kept_none a c.take_back.new.leaving c.free_all.new.slots c.take_back.new.spare c.free_all.new.spare k back all.none all.len all.capacity.0 all.capacity.1 (all.free _ back.free k.slots_places)
+    kept_none a c.take_back.new.lent c.free_all.new.slots c.take_back.new.spare c.free_all.new.spare k back all.none all.len all.capacity.0 all.capacity.1 (all.free _ back.free k.slots_places)
 
 pub returns-clause-shown : goal.returns-clause-shown
 returns-clause-shown c = search rules

@@ -10,8 +10,8 @@ returns-then-not-self c = record {
   takes = λ S line shown shows.
       bytes_quiet S line c.args.bytes.now _ _ _ shows.is_up (sym shows.is_up ∙ c.if-not-self.true)
       (subst (λ notes. TakesPiece S (feeding line.link c.args.bytes.now) notes (all_noted c.feed_link.new.notes.items) c.feed_link.new.gateway c.feed_link.new.link)
-      (ap all_noted c.in_ok-notes.ensures.items) (c.in_ok-feed_link.ensures.taken S line.link shown shows.shows))
-      c.new.ensures.items;
+      (ap all_noted c.clear.ensures.items) (c.in_ok-feed_link.ensures.taken S line.link shown shows.shows))
+      c.clear-2.ensures.items;
 }
 
 pub returns : goal.returns
@@ -19,6 +19,6 @@ returns c = record {
   takes = λ S line shown shows.
       bytes_answered S line c.args.bytes.now _ _ _ _ shows.is_up (sym shows.is_up ∙ c.if-not-self.false)
       (subst (λ notes. TakesPiece S (feeding line.link c.args.bytes.now) notes (all_noted c.feed_link.new.notes.items) c.feed_link.new.gateway c.feed_link.new.link)
-      (ap all_noted c.in_ok-notes.ensures.items) (c.in_ok-feed_link.ensures.taken S line.link shown shows.shows))
-      c.in_ok-to_pmu.ensures.given;
+      (ap all_noted c.clear.ensures.items) (c.in_ok-feed_link.ensures.taken S line.link shown shows.shows))
+      c.in_ok-give_commands.ensures.given;
 }

@@ -4,10 +4,10 @@ use Rattle.pg_serve.specs.Shown.{SourceLinkShows}
 use Rattle.pg_serve.proofs.Taking.{bytes_none, bytes_some}
 use Rattle.pg_serve.proofs.world_core.Core.take_source.Goals as goal
 
-pub returns-in_ok-refused-in-None : goal.returns-in_ok-refused-in-None
-returns-in_ok-refused-in-None c = record {
+pub returns-in_ok-refuse-in-None : goal.returns-in_ok-refuse-in-None
+returns-in_ok-refuse-in-None c = record {
   takes = λ m h.
-      rw c.get_mut.follows.holds-at-none (bytes_none m c.args.source c.args.bytes.now _ _ _ _ (lookup-none SourceLinkShows (nat_eq c.args.source) _ _ h.lines (sym c.in-None.ensures.value)) c.in_ok-refused-in-None.ensures.outcome h);
+      rw c.get_mut.follows.holds-at-none (bytes_none m c.args.source c.args.bytes.now _ _ _ _ (lookup-none SourceLinkShows (nat_eq c.args.source) _ _ h.lines (sym c.in-None.ensures.value)) c.in_ok-refuse-in-None.ensures.outcome h);
 }
 
 pub returns-in_ok-take-in-Some : goal.returns-in_ok-take-in-Some

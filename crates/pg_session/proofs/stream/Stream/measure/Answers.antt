@@ -87,7 +87,7 @@ returns-else-not-some-clause-stream c =
     let def = c.self.inside.definition in
     let s : StreamOf (Aligned Piece) = stream_of def c.self.inside.align c.self.inside.changes in
     let blocks = placed def.members m.quality (samples_at m places) in
-    let is : IsMeasurement m = subst IsMeasurement c.frame.view_is c.frame.invariant in
+    let is : IsMeasurement m = subst IsMeasurement c.frame.view_is c.frame.invariant.0 in
     let on : c.self.inside.align.is_on ≡ true = sym c.is_on.ensures.shown ∙ c.if-not-is_on.false in
     let exact : c.slot_of.result ≡ slot_at def.rate c.base.result m.soc m.frac =
     subst (λ (x : Measurement). c.slot_of.result ≡ slot_at def.rate c.base.result x.soc x.frac) c.frame.view_is c.slot_of.ensures.exact in
@@ -107,7 +107,7 @@ returns-else-not-some-clause-sends c =
     let def = c.self.inside.definition in
     let s : StreamOf (Aligned Piece) = stream_of def c.self.inside.align c.self.inside.changes in
     let blocks = placed def.members m.quality (samples_at m places) in
-    let is : IsMeasurement m = subst IsMeasurement c.frame.view_is c.frame.invariant in
+    let is : IsMeasurement m = subst IsMeasurement c.frame.view_is c.frame.invariant.0 in
     let on : c.self.inside.align.is_on ≡ true = sym c.is_on.ensures.shown ∙ c.if-not-is_on.false in
     let exact : c.slot_of.result ≡ slot_at def.rate c.base.result m.soc m.frac =
     subst (λ (x : Measurement). c.slot_of.result ≡ slot_at def.rate c.base.result x.soc x.frac) c.frame.view_is c.slot_of.ensures.exact in
@@ -155,7 +155,7 @@ returns-else-not-has_placed-clause-stream c =
     let def = c.self.inside.definition in
     let s : StreamOf (Aligned Piece) = stream_of def c.self.inside.align c.self.inside.changes in
     let blocks = placed def.members m.quality (samples_at m places) in
-    let is : IsMeasurement m = subst IsMeasurement c.frame.view_is c.frame.invariant in
+    let is : IsMeasurement m = subst IsMeasurement c.frame.view_is c.frame.invariant.0 in
     let on : c.self.inside.align.is_on ≡ true = sym c.is_on.ensures.shown ∙ c.if-not-is_on.false in
     let exact : c.slot_of.result ≡ slot_at def.rate c.base.result m.soc m.frac =
     subst (λ (x : Measurement). c.slot_of.result ≡ slot_at def.rate c.base.result x.soc x.frac) c.frame.view_is c.slot_of.ensures.exact in
@@ -171,7 +171,7 @@ returns-else-not-has_placed-clause-sends c =
     let def = c.self.inside.definition in
     let s : StreamOf (Aligned Piece) = stream_of def c.self.inside.align c.self.inside.changes in
     let blocks = placed def.members m.quality (samples_at m places) in
-    let is : IsMeasurement m = subst IsMeasurement c.frame.view_is c.frame.invariant in
+    let is : IsMeasurement m = subst IsMeasurement c.frame.view_is c.frame.invariant.0 in
     let on : c.self.inside.align.is_on ≡ true = sym c.is_on.ensures.shown ∙ c.if-not-is_on.false in
     let exact : c.slot_of.result ≡ slot_at def.rate c.base.result m.soc m.frac =
     subst (λ (x : Measurement). c.slot_of.result ≡ slot_at def.rate c.base.result x.soc x.frac) c.frame.view_is c.slot_of.ensures.exact in
