@@ -125,6 +125,10 @@ module _ {X : Type 0} where
   abbrev pub after_leaving : Aligned X → Aligned X
   after_leaving a = if is_leaving a then without_least a else a
 
+  -- a slot has left that was never open
+  abbrev pub with_last : Aligned X → ℕ → Aligned X
+  with_last a slot = record a { last = Some slot }
+
   -- The least of these open slots have left, one after another, while each was to leave.
   abbrev pub all_leaving_of : Aligned X → List (OpenSlot X) → Departures X (Aligned X)
   all_leaving_of a [] = record { frames = []; after = a }

@@ -3,16 +3,16 @@ ghost use Rattle.std.specs.Prelude.{◌≡◌, ◌<◌, ◌≤◌, ℕ, List, []
 ghost use Rattle.std.specs.Borrow.{sem};
 ghost use Rattle.pg_data.specs.Pieces.{Piece};
 ghost use Rattle.pg_stream.specs.Limits.{IsWithinLimits};
-ghost use Rattle.pg_align.specs.Histories.{Departed, StreamHistory, answer_to, discarded, next_to_flush, next_to_leave, open_slots, opening, reshaped, started, take_arrival, ticked};
-ghost use Rattle.pg_align.specs.Slots.{Aligned, HavePlaces, answer_at, flushed_of, front_of, head_with, least_of, leaves_now, leaving_of, none_open, others_than, with_arrival, with_none, with_shape, with_start, with_tick};
+ghost use Rattle.pg_align.specs.Histories.{Departed, StreamHistory, answer_to, is_above, discarded, next_to_flush, next_to_leave, open_slots, opening, reshaped, started, take_arrival, ticked};
+ghost use Rattle.pg_align.specs.Slots.{Aligned, HavePlaces, answer_at, flushed_of, front_of, head_with, least_of, leaves_now, leaving_of, none_open, others_than, with_arrival, with_last, with_none, with_shape, with_start, with_tick};
 ghost use Rattle.pg_align.specs.Shown.{Shows};
 ghost use Rattle.pg_align.specs.Fields.{slots_of, AreCounted};
 ghost use Rattle.pg_align.specs.declared.slot.Slot.{Slot};
 
 use crate::answer::Arrived;
 use crate::slot::{
-    Opening, Slot, add_arrival, count_effective, free_all, free_slots, take_back, take_least,
-    tick_all,
+    Opening, Slot, add_arrival, count_effective, free_all, free_slots, is_after, take_back,
+    take_least, tick_all,
 };
 use pg_data::SharedBlock;
 use pg_stream::Definition;
@@ -193,6 +193,26 @@ impl Align {
         ensures history { (h : StreamHistory Piece) → Shows self.old h → Shows self.new (ticked h) }
     {
         tick_all(&mut self.slots);
+    }
+
+    /// Whether a slot comes after the last one that left in this on-period: an arrival for it is not late.
+    #[inline(always)]
+    pub fn is_after_last(&self, slot: u64) -> bool
+        ensures shown { result ≡ is_above self.now.last slot }
+        ensures history { (h : StreamHistory Piece) → Shows self.now h → result ≡ is_above h.last slot }
+    {
+        is_after(self.last, slot)
+    }
+
+    /// A slot leaves that was never open, as one frame brought the blocks of all its members. It is the last one that left. It asks
+    /// that no slot is open.
+    #[inline(always)]
+    pub fn leave_at_once(&mut self, slot: u64)
+        requires none_open { self.old.slots ≡ [] }
+        ensures shown { self.new ≡ with_last self.old slot }
+    {
+        take_back(&mut self.lent, &mut self.spare);
+        self.last = Some(slot);
     }
 
     /// Whether a slot is to leave: `leave_next` would answer with one.

@@ -230,7 +230,7 @@ fn open_slot(slots: &mut Vec<Slot>, at: usize, mut fresh: Slot, place: usize, pa
 }
 
 /// Whether a slot comes after the last one that left.
-fn is_after(last: Option<u64>, slot: u64) -> bool
+pub(crate) fn is_after(last: Option<u64>, slot: u64) -> bool
     ensures { result ≡ is_above last slot }
 {
     match last {

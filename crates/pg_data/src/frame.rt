@@ -19,7 +19,7 @@ pub(crate) const MOST_PMUS: usize = 16;
 /// STAT's configuration change bit, bit 10 (C37.118.2, 6.3).
 const CONFIG_CHANGE: u16 = 0x0400;
 
-/// A data frame with the configuration by which it was read (C37.118.2, 6.3). It is never changed.
+/// A data frame with the configuration by which it was read (C37.118.2, 6.3). Whoever shares it sees it unchanged.
 #[derive(Drop)]
 pub struct DataFrame {
     /// The frame's IDCODE, which is the configuration's.
@@ -83,9 +83,10 @@ impl DataFrame {
         &self.body[start..end]
     }
 
-    /// What a frame's check becomes once PMU i's data block has come behind the bytes that it is of. The block is not summed again.
+    /// What a frame's check becomes once PMU i's data block has come behind the bytes that it is of: the same as `check_more` of pg_wire
+    /// says of its bytes, which are not summed again.
     #[inline(always)]
-    pub(crate) fn check_past(&self, i: usize, crc: u16) -> u16
+    pub fn check_past(&self, i: usize, crc: u16) -> u16
         requires { i < length self.now.config.parts }
         ensures { (start : ℕ) (before : List ℕ) → IsRemainder (dividend_from start before) crc
             → IsRemainder (dividend_from start (before ++ block_of self.now i)) result }

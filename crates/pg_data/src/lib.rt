@@ -12,5 +12,5 @@ pub use frame::DataFrame;
 pub use laws::{
     block_is_spelled, filler_is_block, one_resolution, own_block_alone, written_is_read,
 };
-pub use read::read_data;
+pub use read::{read_data, read_data_over};
 pub use shared::SharedBlock;

@@ -120,6 +120,20 @@ fn read(
     read_data(alloc, config, frame)
 }
 
+// The same, in the memory of a frame that is done with.
+fn read_over(
+    rt: &impl Abort,
+    alloc: Global,
+    config: &Arc<SourceConfig>,
+    frame: &[u8],
+    done: Arc<DataFrame>,
+) -> Result<Arc<DataFrame>, Refusal> {
+    assert!(rt; is_frame(frame));
+    assert!(rt; frame.len() >= 16);
+    same(rt, frame[1] / 16, 0);
+    read_data_over(alloc, config, frame, Some(done))
+}
+
 fn config_7(rt: &impl Abort, alloc: Global) -> Result<Arc<SourceConfig>, Fail>
     ensures { IfOk result (λ config. length (arc_value config).parts ≡ 1) }
 {
@@ -178,6 +192,43 @@ fn check_past_a_block(rt: HostRuntime) -> Result<(), Fail> {
     let frame = read(&rt, alloc, &config, &framed(alloc, &DATA_7)?)?;
     let block = SharedBlock::new(frame, 0);
     same(&rt, block.check_past(check(&DATA_7[..14])), 0x7FA7);
+    Ok(())
+}
+
+// Both frames say the same, and their first blocks go the same way into a check.
+fn alike(rt: &impl Abort, one: &Arc<DataFrame>, other: &Arc<DataFrame>) {
+    assert!(rt; 0 < one.count());
+    assert!(rt; 0 < other.count());
+    same(
+        rt,
+        (one.source.get(), one.soc, one.quality, one.frac),
+        (other.source.get(), other.soc, other.quality, other.frac),
+    );
+    same(rt, one.block(0), other.block(0));
+    same(
+        rt,
+        one.check_past(0, check(&DATA_7[..14])),
+        other.check_past(0, check(&DATA_7[..14])),
+    );
+}
+
+// A frame that somebody else holds stays what it is. One that nobody holds gives its memory to the next.
+#[test]
+fn frame_over_another(rt: HostRuntime) -> Result<(), Fail> {
+    let alloc = rt.alloc();
+    let config = config_7(&rt, alloc)?;
+    let first = framed(alloc, &DATA_7)?;
+    let mut second = DATA_7;
+    second[9..14].copy_from_slice(&[101, 0x20, 0, 0, 1]);
+    second[16..24].copy_from_slice(&[0x11, 2, 3, 4, 5, 6, 7, 8]);
+    let second = framed(alloc, &second)?;
+    let older = read(&rt, alloc, &config, &first)?;
+    let held = Arc::try_clone(&older)?;
+    let anew = read_over(&rt, alloc, &config, &second, older)?;
+    alike(&rt, &anew, &read(&rt, alloc, &config, &second)?);
+    alike(&rt, &held, &read(&rt, alloc, &config, &first)?);
+    let over = read_over(&rt, alloc, &config, &second, held)?;
+    alike(&rt, &over, &anew);
     Ok(())
 }
 

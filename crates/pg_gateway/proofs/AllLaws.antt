@@ -21,7 +21,7 @@ slots-map P Q f [] all = tt
 slots-map P Q f (x ∷ xs) all = (f x.1 all.0, slots-map P Q f xs all.1)
 
 pub awaits_tick : (soc : ℕ) (v : SlotValue) → HasNone v → Awaits (ticks soc) v
-awaits_tick soc v none = record { fit = tt; laid = record { blocks = none.0.blocks; configs = none.0.configs }; spared = λ is. absurd (true≢false (sym is ∙ none.1)); whole = λ is. absurd (true≢false (sym is ∙ none.2)) }
+awaits_tick soc v none = record { fit = tt; laid = inl (record { blocks = none.0.blocks; configs = none.0.configs }); spared = λ is. absurd (true≢false (sym is ∙ none.1)); whole = λ is. absurd (true≢false (sym is ∙ none.2)) }
 
 pub awaits_revoke : (key : PmuKey) (v : SlotValue) → HasNone v → Awaits (revokes key) v
 awaits_revoke key v none = record {
@@ -36,7 +36,7 @@ awaits_revoke key v none = record {
     fits false = tt
 
     lays : (b : Bool) → IsLaid v.subscriber (if b then Some (event.revoke key) else None)
-    lays true = record { blocks = none.0.blocks; configs = none.0.configs }
+    lays true = inl (record { blocks = none.0.blocks; configs = none.0.configs })
     lays false = none.0
 
 pub dropped_none : (key : PmuKey) (S : SharedMachine) (v : GatewayValue) → GatewayShows v S → has_key S.pmus key ≡ false → Steps S (drop_pmu key) (tells (refused NoSuchPmu)) v

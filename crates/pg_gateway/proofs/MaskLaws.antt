@@ -1,7 +1,9 @@
 -- The masks of a frame's blocks tell who holds them.
-use Rattle.std.proofs.Common.{◌≡◌, ◌≢◌, ℕ, zero, suc, ◌+◌, ◌<◌, ◌&&◌, add-one, get_or, Bool, true, false, not, if◌then◌else◌, is_some, List, [], ◌∷◌, ◌++◌, length, take, map, filter, Option, Some, None, refl, sym, ap, subst, ◌∙◌, arith, inl, inr}
+use Rattle.std.proofs.Common.{◌≡◌, ◌≢◌, ℕ, zero, suc, ◌+◌, ◌<◌, ◌&&◌, add-one, get_or, min, true≢false, Bool, true, false, not, if◌then◌else◌, is_some, List, [], ◌∷◌, ◌++◌, length, take, map, filter, Option, Some, None, refl, sym, ap, subst, ◌∙◌, arith, inl, inr}
 use Rattle.std.specs.Prelude.{slice_get, nat_eq}
 use Rattle.std.specs.Int.{bit_at}
+use Rattle.std.specs.Int.Bits.{bit_and}
+use Rattle.std.proofs.lemmas.Nat.Bits.{bit_at_and, bit_at-lt}
 use Rattle.std.specs.Map.{keys_of, values_of}
 use Rattle.std.proofs.lemmas.Bool.{cases_eq}
 use Rattle.std.proofs.lemmas.List.{append_assoc}
@@ -52,6 +54,19 @@ all_marked j [] ns same set = refl
 all_marked j (p ∷ ps) [] same set = absurd (omega arith)
 all_marked j (p ∷ ps) (n ∷ ns) same set =
     rw (set 0 (omega arith)) (ap (λ l. p ∷ l) (all_marked j ps ns (omega arith) (λ i lt. set (suc i) (omega arith))))
+
+-- a bit that two numbers share is set in both
+pub both_set : (a b j : ℕ) → nat_eq (bit_at (bit_and a b) j) 1 ≡ true → (nat_eq (bit_at a j) 1 ≡ true) × (nat_eq (bit_at b j) 1 ≡ true)
+both_set a b j set = by (bit_at a j) (bit_at b j) (bit_at-lt a j) (bit_at-lt b j) (sym (ap (λ n. nat_eq n 1) (bit_at_and a b j)) ∙ set)
+  where
+    by : (m n : ℕ) → m < 2 → n < 2 → nat_eq (min m n) 1 ≡ true → (nat_eq m 1 ≡ true) × (nat_eq n 1 ≡ true)
+    by zero zero first second set = absurd (true≢false (sym set))
+    by zero (suc zero) first second set = absurd (true≢false (sym set))
+    by (suc zero) zero first second set = absurd (true≢false (sym set))
+    by (suc zero) (suc zero) first second set = (refl, refl)
+    by zero (suc (suc n)) first second set = absurd (omega arith)
+    by (suc zero) (suc (suc n)) first second set = absurd (omega arith)
+    by (suc (suc m)) n first second set = absurd (omega arith)
 
 pub masks_next : (masks : List ℕ) (bs : List (ℕ × Option Refusal)) (k : ℕ) (d : ℕ × Option Refusal) → k < length bs
     → masks_taken masks (take (k + 1) bs) ≡ masks_taken masks (take k bs) ++ mask_where (get_or bs k d).1 (get_or masks (get_or bs k d).0 0)

@@ -14,6 +14,7 @@ use Rattle.pg_session.specs.Private.{Told, done, refused, takes_memory, answer, 
 use Rattle.pg_session.specs.Shown.{Own, SubscriberValue, Takes, Follows, ShowsPrivate, OwnShows}
 use Rattle.pg_session.specs.ByAll.{by_arrivals, by_numbers}
 use Rattle.pg_session.specs.Ready.{AreRising, IsFor, IsReady, NeedsNone}
+use Rattle.pg_session.specs.Filling.{IsLaidFor}
 use Rattle.pg_session.specs.Steps.{HasNoCopies}
 use Rattle.pg_gateway.specs.Sharing.{SubscriberSlot, Offer, announces, some_announced, some_measured, share, notes_of, frames_in_share, after_share}
 use Rattle.pg_gateway.specs.Shown.{SlotValue, SlotShows}
@@ -137,14 +138,27 @@ some_taken o lost old new x r s shown some takes noted = by r (rw q.allowed at f
 pub fit_at : (v : SubscriberValue) (o : Option Happening) (x : Happening) → o ≡ Some x → IsFit v o → IsFor v.own x
 fit_at v o x is fit = subst (λ o. IsFit v o) is fit
 
-pub laid_at : (v : SubscriberValue) (o : Option Happening) (x : Happening) → o ≡ Some x → IsLaid v o → IsReady v x
+pub laid_at : (v : SubscriberValue) (o : Option Happening) (x : Happening) → o ≡ Some x → IsLaid v o → IsLaidFor v x
 laid_at v o x is laid = subst (λ o. IsLaid v o) is laid
+
+-- Of all events but a frame just the copies lie ready.
+pub announced_ready : (v : SubscriberValue) (list : List Announcing) → IsLaidFor v (event.announce list) → IsReady v (event.announce list)
+announced_ready v list (inl ready) = ready
+announced_ready v list (inr none) = absurd none.1
+
+pub revoked_ready : (v : SubscriberValue) (key : PmuKey) → IsLaidFor v (event.revoke key) → IsReady v (event.revoke key)
+revoked_ready v key (inl ready) = ready
+revoked_ready v key (inr none) = absurd none.1
+
+pub ticked_ready : (v : SubscriberValue) (soc : ℕ) → IsLaidFor v (event.tick soc) → IsReady v (event.tick soc)
+ticked_ready v soc (inl ready) = ready
+ticked_ready v soc (inr none) = absurd none.1
 
 pub laid_none : (v : SubscriberValue) (o : Option Happening) → o ≡ None → IsLaid v o → HasNoCopies v
 laid_none v o is laid = subst (λ o. IsLaid v o) is laid
 
-pub lays : (v : SubscriberValue) (o : Option Happening) (x : Happening) → o ≡ Some x → IsReady v x → IsLaid v o
-lays v o x is ready = subst (λ o. IsLaid v o) (sym is) ready
+pub lays : (v : SubscriberValue) (o : Option Happening) (x : Happening) → o ≡ Some x → IsLaidFor v x → IsLaid v o
+lays v o x is laid = subst (λ o. IsLaid v o) (sym is) laid
 
 pub lays_none : (v : SubscriberValue) (o : Option Happening) → o ≡ None → HasNoCopies v → IsLaid v o
 lays_none v o is none = subst (λ o. IsLaid v o) (sym is) none
@@ -167,9 +181,9 @@ lays_nothing o old inner is none nothing = record {
 }
 
 pub lays_some : (o : Offer) (old inner : SlotValue) (x : Happening) (after : SubscriberValue) → inner ≡ old → HasNone old → share o old.subscriber.own.grants ≡ Some x
-    → IsReady after x → after.own ≡ inner.subscriber.own → LaysShare o old (Ok tt) (record inner { subscriber = after })
-lays_some o old inner x after is none some ready own = record {
-  laid = lays after _ x some ready;
+    → IsLaidFor after x → after.own ≡ inner.subscriber.own → LaysShare o old (Ok tt) (record inner { subscriber = after })
+lays_some o old inner x after is none some laid own = record {
+  laid = lays after _ x some laid;
   memory = tt;
   needless = λ _. refl;
   spared = λ spared. absurd (true≢false (sym spared ∙ ap (λ (v : SlotValue). v.spared) is ∙ none.1));
@@ -180,10 +194,10 @@ lays_some o old inner x after is none some ready own = record {
 
 -- it lays copies for all that is offered of a frame
 pub lays_whole : (o : Offer) (old inner : SlotValue) (x : Happening) (after : SubscriberValue) → inner ≡ old → HasNone old → share o old.subscriber.own.grants ≡ Some x
-    → IsWhole o old.subscriber.own.grants → IsReady after x → after.own ≡ inner.subscriber.own
+    → IsWhole o old.subscriber.own.grants → IsLaidFor after x → after.own ≡ inner.subscriber.own
     → LaysShare o old (Ok tt) (record inner { subscriber = after; whole = true })
-lays_whole o old inner x after is none some whole ready own = record {
-  laid = lays after _ x some ready;
+lays_whole o old inner x after is none some whole laid own = record {
+  laid = lays after _ x some laid;
   memory = tt;
   needless = λ _. refl;
   spared = λ spared. absurd (true≢false (sym spared ∙ ap (λ (v : SlotValue). v.spared) is ∙ none.1));

@@ -1,5 +1,5 @@
 -- Which subscribers hold a PMU, as the bits of a number: subscriber j's is bit j.
-use Rattle.std.specs.Prelude.{◌≡◌, ◌≤◌, ℕ, nat_eq, Bool, true, if◌then◌else◌, List, [], ◌∷◌, ◌++◌, filter, get_or, slice_get, Option, Some, None}
+use Rattle.std.specs.Prelude.{◌≡◌, ◌<◌, ◌≤◌, ℕ, nat_eq, Bool, true, if◌then◌else◌, List, [], ◌∷◌, ◌++◌, length, filter, get_or, slice_get, Option, Some, None}
 use Rattle.std.specs.Int.{bit_at}
 use Rattle.std.specs.Map.{keys_of, values_of}
 use Rattle.pg_wire.specs.declared.ids.PmuKey.{PmuKey}
@@ -56,6 +56,10 @@ abbrev pub places_marked : ℕ → List ℕ → List ℕ → List ℕ
 places_marked j [] masks = []
 places_marked j (p ∷ places) [] = []
 places_marked j (p ∷ places) (n ∷ masks) = (if nat_eq (bit_at n j) 1 then p ∷ [] else []) ++ places_marked j places masks
+
+-- Where a bit is set in this number, there are places, and the mask of each of them has it set.
+abbrev pub IsCommon : ℕ → List ℕ → List ℕ → Type 0
+IsCommon common masks places = (j : ℕ) → nat_eq (bit_at common j) 1 ≡ true → (0 < length places) × (places_marked j places masks ≡ places)
 
 -- By the masks of these places of a source's PMUs, those that subscriber j holds are those that it is granted.
 abbrev pub MasksTell : List ℕ → Source → List ℕ → ℕ → SlotValue → Type 0

@@ -14,7 +14,8 @@ use Rattle.pg_session.specs.Private.{refusal, Told, done, refused, handed, May}
 use Rattle.pg_session.specs.ByAll.{by_arrivals, by_numbers}
 use Rattle.pg_session.specs.Shown.{SubscriberValue}
 use Rattle.pg_session.specs.Steps.{HasNoCopies}
-use Rattle.pg_session.specs.Ready.{IsReady, IsFor, NeedsNone, AreRising}
+use Rattle.pg_session.specs.Ready.{IsFor, NeedsNone, AreRising}
+use Rattle.pg_session.specs.Filling.{IsLaidFor}
 use Rattle.pg_gateway.specs.declared.event.Event.{Event}
 use Rattle.pg_gateway.specs.declared.event.Event.TheVariants as event
 use Rattle.pg_gateway.specs.Sharing.{SubscriberSlot, SubscriberSlots, Offer, revokes, announces, measures, ticks, share, frames_for, shared_to, total, fan_out}
@@ -109,14 +110,14 @@ abbrev pub part_passes : (PmuKey → Bool) → Source → Option Part → Bool
 part_passes test config None = false
 part_passes test config (Some part) = test (key_in config part)
 
--- The subscriber may take its share, where it has one: the copies lie ready, and it is as the subscriber asks it to be.
+-- The subscriber may take its share, where it has one: the copies lie ready that it needs, and it is as the subscriber asks it to be.
 abbrev pub IsFit : SubscriberValue → Option Happening → Type 0
 IsFit v None = Unit {0}
 IsFit v (Some x) = IsFor v.own x
 
 abbrev pub IsLaid : SubscriberValue → Option Happening → Type 0
 IsLaid v None = HasNoCopies v
-IsLaid v (Some x) = IsReady v x
+IsLaid v (Some x) = IsLaidFor v x
 
 -- Its share of a frame is all that is offered of it.
 abbrev pub IsWhole : Offer → List PmuKey → Type 0

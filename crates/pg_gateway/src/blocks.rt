@@ -72,20 +72,22 @@ fn soc_of(frame: &DataFrame) -> u32
 }
 
 /// What becomes of the block of a source's PMU: where the PMU is registered, and why the block is refused, if it is. `None` where
-/// the PMU is not registered.
+/// the PMU is not registered. It is guessed to stand at the place `near` or at the one before it; `near` is then the place behind it.
 fn judge_block(
     config: &SourceConfig,
     soc: u32,
     place: usize,
     registry: &Registry,
     last: Option<u32>,
+    near: &mut usize,
 ) -> Option<(usize, Option<Refusal>)>
     requires place { place < length config.now.parts }
     ensures { Judges registry.now last config.now soc place result }
 {
-    let Some(at) = registry.place_of(config.key(place)) else {
+    let Some(at) = registry.place_near(config.key(place), *near) else {
         return None;
     };
+    *near = at.wrapping_add(1);
     let part = part_of(config, place);
     let refusal = block_refusal(registry.config_at(at), last, soc, part);
     Some((at, refusal))
@@ -117,11 +119,13 @@ fn note_judged(
 }
 
 /// Which blocks of a frame are taken, by their places, and what is to be counted: each registered PMU's place, and why its block
-/// is refused, if it is.
+/// is refused, if it is. The first PMU is guessed to stand at the place `near` or at the one before it, each other one behind the last;
+/// `near` is then the place behind the last one.
 pub(crate) fn judge(
     frame: &DataFrame,
     registry: &Registry,
     last: Option<u32>,
+    near: &mut usize,
     blocks: &mut Vec<(usize, Option<Refusal>)>,
     taken: &mut Vec<usize>,
 )
@@ -140,7 +144,7 @@ pub(crate) fn judge(
     let config = source_of(frame);
     let soc = soc_of(frame);
     for place in 0..config.count() {
-        let judged = judge_block(config, soc, place, registry, last);
+        let judged = judge_block(config, soc, place, registry, last, near);
         note_judged(judged, place, blocks, taken);
     }
 }
@@ -222,6 +226,7 @@ pub(crate) fn judge_shared(
     frame: &Arc<DataFrame>,
     registry: &Registry,
     last: Option<u32>,
+    near: &mut usize,
     blocks: &mut Vec<(usize, Option<Refusal>)>,
     taken: &mut Vec<usize>,
 ) -> bool
@@ -237,7 +242,7 @@ pub(crate) fn judge_shared(
     ensures room { 16 ≤ vec_capacity blocks.new }
     ensures places { 16 ≤ vec_capacity taken.new }
 {
-    judge(frame, registry, last, blocks, taken);
+    judge(frame, registry, last, near, blocks, taken);
     !taken.is_empty()
 }
 

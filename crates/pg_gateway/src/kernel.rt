@@ -37,6 +37,7 @@ use indexmap::IndexMap;
 use pg_audit::What;
 use pg_config::{PmuConfig, SourceConfig};
 use pg_data::DataFrame;
+use pg_outcfg::Stamps;
 use pg_registry::Registry;
 use pg_ring::{OutQueue, RingBytes, RingSize};
 use pg_session::PrivateEvent;
@@ -68,6 +69,10 @@ pub(crate) struct Kernel {
     masks: Vec<u64>,
     // And for what became of them: where their PMUs stand in the registry, and why a block is refused, if it is.
     judged: Vec<(usize, Option<Refusal>)>,
+    // The slot and the stamp that were found last, for streams of one rate.
+    stamps: Stamps,
+    // Where the PMU of the next frame's first block is guessed to stand in the registry.
+    near: usize,
     // And for the copies of what they announce, on their way to the registry.
     copies: HeapCircularBuffer<Arc<PmuConfig>>,
 }
@@ -101,6 +106,8 @@ impl Kernel {
             held: Vec::with_capacity(alloc, MOST_BLOCKS)?,
             masks: Vec::with_capacity(alloc, MOST_BLOCKS)?,
             judged: Vec::with_capacity(alloc, MOST_BLOCKS)?,
+            stamps: Stamps::new(),
+            near: 0,
             copies: HeapCircularBuffer::with_capacity(alloc, MOST_BLOCKS)?,
         })
     }
@@ -364,6 +371,7 @@ impl Kernel {
             frame,
             &self.registry,
             self.last_tick,
+            &mut self.near,
             &mut self.judged,
             &mut self.taken,
         );
@@ -381,6 +389,7 @@ impl Kernel {
             &self.taken,
             &self.masks,
             &mut self.held,
+            &mut self.stamps,
         ) {
             Err(refusal) => {
                 count_memory(&mut self.registry, &self.judged);
@@ -396,6 +405,7 @@ impl Kernel {
             &self.taken,
             &self.masks,
             &mut self.held,
+            &mut self.stamps,
         );
         Ok((made, kept))
     }

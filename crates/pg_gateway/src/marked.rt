@@ -9,12 +9,13 @@ ghost use Rattle.pg_gateway.specs.Sharing.{SubscriberSlots};
 ghost use Rattle.pg_gateway.specs.Shown.{SlotShows};
 ghost use Rattle.pg_gateway.specs.Taking.{measured, Awaits, HasNone, Fits, FansOut};
 ghost use Rattle.pg_gateway.specs.Frugal.{AllSlots, Spares};
-ghost use Rattle.pg_gateway.specs.Routes.{WhereBit, HasBits, IsPassed, MasksTellAll};
+ghost use Rattle.pg_gateway.specs.Routes.{WhereBit, HasBits, IsCommon, IsPassed, MasksTellAll};
 
 use crate::fan::forget_all;
 use crate::slot::SubscriberSlot;
 use indexmap::IndexMap;
 use pg_data::DataFrame;
+use pg_outcfg::Stamps;
 use pg_wire::{Refusal, SubId};
 use std::sync::Arc;
 
@@ -26,6 +27,7 @@ pub(crate) fn fan_out_marked(
     places: &[usize],
     masks: &[u64],
     held: &mut Vec<usize>,
+    stamps: &mut Stamps,
 ) -> (u64, u64)
     requires few { index_map_len subs.old ≤ 64 }
     requires bits { HasBits (index_map_len subs.old) marks }
@@ -52,7 +54,7 @@ pub(crate) fn fan_out_marked(
         let bit = left.trailing_zeros();
         left &= !(1u64 << bit);
         let (more, more_kept) = subs[bit as usize].take_measured(
-            frame, places, masks, bit, held, lost,
+            frame, places, masks, bit, held, lost, stamps,
         );
         made += more;
         kept += more_kept;
@@ -75,6 +77,7 @@ pub(crate) fn lay_copies_marked(
     places: &[usize],
     masks: &[u64],
     held: &mut Vec<usize>,
+    stamps: &mut Stamps,
 ) -> Result<(), Refusal>
     requires bits { HasBits (index_map_len subs.old) marks }
     requires rising { AreRising 0 (length (arc_value frame.now).config.parts) places.now }
@@ -96,7 +99,8 @@ pub(crate) fn lay_copies_marked(
     ensures len { index_map_len subs.new ≡ index_map_len subs.old }
     ensures room { 16 ≤ vec_capacity held.new }
 {
-    match lay_marked(subs, marks, frame, places, masks, held) {
+    let common = common_of(masks);
+    match lay_marked(subs, marks, frame, places, masks, common, held, stamps) {
         Ok(_) => Ok(()),
         Err(refusal) => {
             forget_all(subs);
@@ -105,19 +109,37 @@ pub(crate) fn lay_copies_marked(
     }
 }
 
-/// Each marked subscriber lays the copies that its share needs, as far as memory goes.
+/// The bits that are set in each of the masks: none, where there are no masks.
+fn common_of(masks: &[u64]) -> u64
+    ensures { (places : List ℕ) → length masks.now ≡ length places → IsCommon result masks.now places }
+{
+    if masks.is_empty() {
+        return 0;
+    }
+    let mut common = u64::MAX;
+    for mask in masks {
+        common &= *mask;
+    }
+    common
+}
+
+/// Each marked subscriber lays the copies that its share needs, as far as memory goes. The bits of those that hold all blocks are
+/// common to the masks.
 fn lay_marked(
     subs: &mut IndexMap<SubId, SubscriberSlot>,
     marks: u64,
     frame: &Arc<DataFrame>,
     places: &[usize],
     masks: &[u64],
+    common: u64,
     held: &mut Vec<usize>,
+    stamps: &mut Stamps,
 ) -> Result<(), Refusal>
     requires bits { HasBits (index_map_len subs.old) marks }
     requires rising { AreRising 0 (length (arc_value frame.now).config.parts) places.now }
     requires masks { length masks.now ≡ length places.now }
     requires places { length places.now ≤ 16 }
+    requires common { IsCommon common masks.now places.now }
     requires tell { MasksTellAll masks.now (arc_value frame.now).config places.now subs.old.entries }
     requires room { 16 ≤ vec_capacity held.old }
     requires none { AllSlots HasNone subs.old.entries }
@@ -137,7 +159,7 @@ fn lay_marked(
     'marked: while left != 0 {
         let bit = left.trailing_zeros();
         left &= !(1u64 << bit);
-        subs[bit as usize].lay_measured(frame, places, masks, bit, held)?;
+        subs[bit as usize].lay_measured(frame, places, masks, common, bit, held, stamps)?;
     }
     Ok(())
 }

@@ -17,7 +17,7 @@ ghost use Rattle.pg_gateway.specs.Sharing.{SubscriberSlot as SlotState, announce
 ghost use Rattle.pg_gateway.specs.State.{added, with_note, noted_as};
 ghost use Rattle.pg_gateway.specs.Shown.{SlotShows, slot_waits};
 ghost use Rattle.pg_gateway.specs.Taking.{Asks, AsksNothing, HasNone, offered, measured, part_passes, IsNoFrame, IsRising, Fits, LaysShare, Awaits, TakesOffer, TakesGrant, counts_of};
-ghost use Rattle.pg_gateway.specs.Routes.{places_marked, MasksTell};
+ghost use Rattle.pg_gateway.specs.Routes.{places_marked, IsCommon, MasksTell};
 
 use crate::asking::code;
 use crate::blocks::keep_place;
@@ -25,6 +25,7 @@ use crate::event::Event;
 use pg_audit::{Audit, Entry, Stats, What};
 use pg_config::{PmuConfig, SourceConfig};
 use pg_data::DataFrame;
+use pg_outcfg::Stamps;
 use pg_ring::{RingBytes, RingSize};
 use pg_session::{PrivateEvent, PrivateReply, Standing, Subscriber};
 use pg_wire::{PmuKey, Refusal};
@@ -213,20 +214,23 @@ impl SubscriberSlot {
         Ok(())
     }
 
-    /// Lays the copies of granted PMUs' blocks that its streams ask for. The masks tell who holds each block; its bit is this one.
-    /// Nothing else changes. The one refusal is `NoMemory`.
+    /// Lays the copies of granted PMUs' blocks that its streams need. The masks tell who holds each block, and `common` who holds
+    /// all; its bit is this one. Nothing else changes. The one refusal is `NoMemory`.
     pub(crate) fn lay_measured(
         &mut self,
         frame: &Arc<DataFrame>,
         places: &[usize],
         masks: &[u64],
+        common: u64,
         bit: u32,
         held: &mut Vec<usize>,
+        stamps: &mut Stamps,
     ) -> Result<(), Refusal>
         requires rising { AreRising 0 (length (arc_value frame.now).config.parts) places.now }
         requires masks { length masks.now ≡ length places.now }
         requires few { length places.now ≤ 16 }
         requires bit { bit < 64 }
+        requires common { IsCommon common masks.now places.now }
         requires tell { MasksTell masks.now (arc_value frame.now).config places.now bit self.old }
         requires room { 16 ≤ vec_capacity held.old }
         requires none { HasNone self.old }
@@ -234,9 +238,8 @@ impl SubscriberSlot {
         ensures lays { LaysShare (measured (arc_value frame.now) places.now) self.old result self.new }
         ensures room { 16 ≤ vec_capacity held.new }
     {
-        if are_marked(masks, bit) {
-            self.subscriber
-                .copies(&PrivateEvent::Measure(frame, places))?;
+        if has_bit(common, bit) {
+            self.subscriber.lay_frame(frame, places, stamps)?;
             self.whole = true;
             return Ok(());
         }
@@ -244,7 +247,7 @@ impl SubscriberSlot {
             self.spared = true;
             return Ok(());
         }
-        self.subscriber.copies(&PrivateEvent::Measure(frame, held))?;
+        self.subscriber.lay_frame(frame, held, stamps)?;
         Ok(())
     }
 
@@ -341,6 +344,7 @@ impl SubscriberSlot {
         bit: u32,
         held: &mut Vec<usize>,
         lost: bool,
+        stamps: &mut Stamps,
     ) -> (u64, u64)
         requires rising { AreRising 0 (length (arc_value frame.now).config.parts) places.now }
         requires masks { length masks.now ≡ length places.now }
@@ -360,18 +364,12 @@ impl SubscriberSlot {
         }
         if self.whole {
             self.whole = false;
-            return counts(
-                self.subscriber
-                    .take(PrivateEvent::Measure(frame, places), lost),
-            );
+            return counts(self.subscriber.take_frame(frame, places, lost, stamps));
         }
         if !hold_marked(places, masks, bit, held) {
             return (0, 0);
         }
-        counts(
-            self.subscriber
-                .take(PrivateEvent::Measure(frame, held), lost),
-        )
+        counts(self.subscriber.take_frame(frame, held, lost, stamps))
     }
 }
 
@@ -427,20 +425,6 @@ fn has_bit(mask: u64, bit: u32) -> bool
     ensures { result ≡ nat_eq (bit_at mask bit) 1 }
 {
     (mask >> bit) & 1 == 1
-}
-
-/// Whether there are masks, and the bit is set in each.
-fn are_marked(masks: &[u64], bit: u32) -> bool
-    requires bit { bit < 64 }
-    ensures some { result ≡ true → 0 < length masks.now }
-    ensures all { result ≡ true → (places : List ℕ) → length masks.now ≡ length places → places_marked bit places masks.now ≡ places }
-{
-    for mask in masks {
-        if !has_bit(*mask, bit) {
-            return false;
-        }
-    }
-    !masks.is_empty()
 }
 
 /// Of these places of a frame's blocks, each with the mask of who holds it, those of the subscriber whose bit this is. It answers

@@ -53,6 +53,8 @@ pub struct Link {
     asking: Asking,
     stats: PmuStats,
     pending: Pending,
+    // The memory of a data frame that is done with, for the next one.
+    spare: Option<Arc<DataFrame>>,
 }
 
 impl Model for Link {
@@ -84,6 +86,7 @@ impl Link {
             asking: Asking::new(),
             stats: PmuStats::new(),
             pending: Pending::none(),
+            spare: None,
         })
     }
 
@@ -127,6 +130,7 @@ impl Link {
     }
 
     /// The next event, as soon as its frame is whole, or why a frame was ignored. Events and ignored frames are counted.
+    #[inline(always)]
     pub fn next_event(&mut self) -> LinkEvent
         ensures gives { GivesEvent self.old result self.new }
         ensures holds { Holds self.old result self.new }
@@ -136,13 +140,22 @@ impl Link {
     {
         match self.deframer.next() {
             Taken::Frame(frame) => {
-                let told = tell(self.alloc, self.source, &self.known, frame);
+                let spare = self.spare.take();
+                let told = tell(self.alloc, self.source, &self.known, frame, spare);
                 self.take(told)
             }
             Taken::Skipped(refusal) => self.take(Told::Skipped(refusal)),
             Taken::More => LinkEvent::More,
             Taken::Broken(refusal) => LinkEvent::Ended(refusal),
         }
+    }
+
+    /// Keeps the memory of a data frame that is done with, for the next one. It is used where nobody else holds the frame.
+    #[inline(always)]
+    pub fn give_back(&mut self, frame: Arc<DataFrame>)
+        ensures { self.new ≡ self.old }
+    {
+        self.spare = Some(frame);
     }
 
     /// Keeps what a frame tells, counts it, and tells it.

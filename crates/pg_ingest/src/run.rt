@@ -15,6 +15,7 @@ use crate::transfer::{PIECE, end_of_read, write_bytes};
 use pg_gateway::{Event, Gate};
 use pg_wire::Refusal;
 use std::io::{Read, Write};
+use std::sync::Arc;
 
 /// How a call of `run_link` ended (own rule).
 #[derive(Clone, Copy, Debug, PartialEq, Eq)]
@@ -76,7 +77,11 @@ fn post_events<G: Gate>(link: &mut Link, gate: &mut G) -> Option<Refusal>
                 gate.post(Event::Announce(config));
             }
             LinkEvent::Measure(frame) => {
+                let shared = Arc::try_clone(&frame);
                 gate.post(Event::Measure(frame));
+                if let Ok(done) = shared {
+                    link.give_back(done);
+                }
             }
             LinkEvent::Ignored(_) => {}
             LinkEvent::Ended(refusal) => return Some(refusal),

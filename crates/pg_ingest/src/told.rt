@@ -8,7 +8,7 @@ ghost use Rattle.pg_ingest.specs.Items.{announces, rejects_config, Tells};
 ghost use Rattle.pg_ingest.specs.Reading.{item_told, IsPaired, TellsConfig, TellsData};
 
 use pg_config::{SourceConfig, read_config};
-use pg_data::{DataFrame, read_data};
+use pg_data::{DataFrame, read_data_over};
 use pg_wire::{Kind, PmuId, Refusal, read_head};
 use std::alloc::Global;
 use std::sync::Arc;
@@ -31,13 +31,14 @@ pub(crate) enum Told {
 }
 
 /// Reads a frame of a source, by the configuration that it announced last. Each frame is read once, into memory that
-/// whoever is told shares.
+/// whoever is told shares: that of `spare`, a data frame that is done with, if it can.
 #[inline(always)]
 pub(crate) fn tell(
     alloc: Global,
     source: PmuId,
     known: &Option<Arc<SourceConfig>>,
     frame: &[u8],
+    spare: Option<Arc<DataFrame>>,
 ) -> Told
     requires { IsFrame frame.now }
     ensures item { Tells source (option_map arc_value known.now) frame.now (item_told result) }
@@ -45,7 +46,7 @@ pub(crate) fn tell(
 {
     match read_head(frame).kind {
         Kind::CfgTwo => tell_config(alloc, source, frame),
-        Kind::Measured => tell_data(alloc, known, frame),
+        Kind::Measured => tell_data(alloc, known, frame, spare),
         _ => Told::Other,
     }
 }
@@ -86,7 +87,12 @@ fn accepted_config(
 
 /// Reads a data frame.
 #[inline(always)]
-fn tell_data(alloc: Global, known: &Option<Arc<SourceConfig>>, frame: &[u8]) -> Told
+fn tell_data(
+    alloc: Global,
+    known: &Option<Arc<SourceConfig>>,
+    frame: &[u8],
+    spare: Option<Arc<DataFrame>>,
+) -> Told
     requires { IsDataFrame frame.now }
     ensures item { TellsData (option_map arc_value known.now) frame.now (item_told result) }
     ensures paired { IsPaired result }
@@ -94,7 +100,7 @@ fn tell_data(alloc: Global, known: &Option<Arc<SourceConfig>>, frame: &[u8]) -> 
     let Some(config) = known else {
         return Told::BadData(Refusal::NoConfig);
     };
-    match read_data(alloc, config, frame) {
+    match read_data_over(alloc, config, frame, spare) {
         Ok(measured) => Told::Data(measured),
         Err(refusal) => Told::BadData(refusal),
     }

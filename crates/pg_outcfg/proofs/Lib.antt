@@ -4,3 +4,4 @@ pub mod Blocks
 pub mod Joining
 pub mod Joined
 pub mod Reading
+pub mod Ordered

@@ -3,6 +3,7 @@
 pub mod Listing
 pub mod Quality
 pub mod Frames
+pub mod Ordered
 pub mod Reading
 -- Only private contracts and proofs use these: places in the list, and how it lies in memory.
 pub mod Places

@@ -1,15 +1,20 @@
 //! The data frame of a slot.
-ghost use Rattle.std.specs.Prelude.{◌≡◌, ◌+◌, ◌/◌, ◌<◌, ◌≤◌, ◌++◌, ◌^◌, List, length, drop, zip, ℕ, IsTrue, IfOk, IfErr, IfSome, IsSome, vec_len, vec_capacity};
+ghost use Rattle.std.specs.Prelude.{◌≡◌, ◌+◌, ◌/◌, ◌<◌, ◌≤◌, ◌++◌, ◌^◌, List, length, drop, zip, ℕ, replicate, IsTrue, IfOk, IfErr, IfSome, IsSome, vec_len, vec_capacity};
 ghost use Rattle.pg_wire.specs.Check.{dividend, IsRemainder};
 ghost use Rattle.pg_wire.specs.Heads.{start_of};
 ghost use Rattle.pg_wire.specs.Stream.{joined};
 ghost use Rattle.pg_stream.specs.Limits.{IsWithinLimits};
+ghost use Rattle.pg_stream.specs.Slots.{stamp_at};
+ghost use Rattle.pg_data.specs.Measurements.{block_of};
+ghost use Rattle.pg_outcfg.specs.Listing.{Listing};
+ghost use Rattle.pg_outcfg.specs.Ordered.{AreBlocks, AreMembers, blocks_in, pieces_in};
 ghost use Rattle.pg_outcfg.specs.Quality.{joined_quality};
 ghost use Rattle.pg_outcfg.specs.Frames.{block_or_filler, data_blocks, data_heading, qualities_of, data_frame_of};
 
 use crate::list::ConfigList;
+use crate::stamps::Stamps;
 use pg_config::PmuConfig;
-use pg_data::{SharedBlock, filler_into};
+use pg_data::{DataFrame, SharedBlock, filler_into};
 use pg_stream::{Definition, stamp_of};
 use pg_wire::{Head, Kind, PmuKey, Refusal, check_head, check_more, end_frame_by, head_bytes};
 use std::alloc::Global;
@@ -91,6 +96,108 @@ pub fn data_frame_near(
     }
 }
 
+/// The data frame of a slot for which one frame brought the blocks of all members. `order` has for each member, in the definition's
+/// order, which of that frame's blocks is its own.
+///
+/// It asks for what `data_frame` asks for, and of each block that the frame has it. The frame is the same for every list in which
+/// all members stand: it is composed in the memory of `spare`, or in an allocation of its size where that has less room. The one
+/// refusal is `NoMemory`.
+pub fn data_frame_at_once(
+    alloc: Global,
+    definition: &Definition,
+    slot: u64,
+    frame: &DataFrame,
+    order: &[Option<u8>],
+    stamps: &mut Stamps,
+    spare: Vec<u8>,
+) -> Result<Vec<u8>, Refusal>
+    requires limits { IsWithinLimits definition.now }
+    requires time { slot / definition.now.rate < 2 ^ 32 }
+    requires members { length order.now ≡ length definition.now.members }
+    requires blocks { AreBlocks (length frame.now.config.parts) order.now }
+    ensures frame { IfOk result (λ v. (listed : Listing) → AreMembers listed definition.now.members
+        → v.items ≡ data_frame_of definition.now slot listed (pieces_in frame.now order.now)) }
+    ensures least { IfOk result (λ v. 16 ≤ vec_len v) }
+    ensures most { IfOk result (λ v. vec_len v ≤ 12752) }
+    ensures memory { IfErr result (λ refusal. refusal ≡ Refusal.NoMemory) }
+{
+    let size = AROUND_BODY + ordered_len(frame, order);
+    let mut out = room_for(alloc, spare, size)?;
+    let stamp = stamps.stamp_of(definition.rate, definition.base, slot);
+    let quality = clear_quality(frame.quality);
+    let crc = start_stamped(&mut out, definition, stamp, quality, size);
+    let crc = add_ordered(&mut out, crc, frame, order);
+    if out.capacity() - out.len() < CHECK_BYTES {
+        unreachable!();
+    }
+    end_frame_by(&mut out, crc);
+    Ok(out)
+}
+
+/// The joined time quality where all blocks are of one frame: that frame's without bit 7.
+fn clear_quality(quality: u8) -> u8
+    ensures { (n : ℕ) → result ≡ joined_quality (replicate (n + 1) quality) }
+{
+    quality & LEAP_FLAGS | quality & QUALITY_CODE
+}
+
+/// How many bytes these blocks of a frame have.
+fn ordered_len(frame: &DataFrame, order: &[Option<u8>]) -> u16
+    requires few { length order.now ≤ 32 }
+    requires blocks { AreBlocks (length frame.now.config.parts) order.now }
+    ensures value { result ≡ length (joined (blocks_in frame.now order.now)) }
+    ensures most { result ≤ 12736 }
+{
+    let mut len = 0;
+    for place in order {
+        let Some(i) = place else {
+            unreachable!();
+        };
+        len += frame.block(usize::from(*i)).len() as u16;
+    }
+    len
+}
+
+/// Adds these blocks of a frame, and returns the check of all that is there then.
+fn add_ordered(out: &mut Vec<u8>, crc: u16, frame: &DataFrame, order: &[Option<u8>]) -> u16
+    requires check { IsRemainder (dividend out.old.items) crc }
+    requires blocks { AreBlocks (length frame.now.config.parts) order.now }
+    requires room { vec_len out.old + length (joined (blocks_in frame.now order.now)) ≤ vec_capacity out.old }
+    ensures bytes { out.new.items ≡ out.old.items ++ joined (blocks_in frame.now order.now) }
+    ensures len { vec_len out.new ≡ vec_len out.old + length (joined (blocks_in frame.now order.now)) }
+    ensures check { IsRemainder (dividend out.new.items) result }
+    ensures room { vec_capacity out.old ≤ vec_capacity out.new }
+{
+    let mut crc = crc;
+    for place in order {
+        let Some(i) = place else {
+            unreachable!();
+        };
+        crc = add_block(out, crc, frame, usize::from(*i));
+    }
+    crc
+}
+
+/// Adds a block of a frame, and returns what the check becomes.
+fn add_block(out: &mut Vec<u8>, crc: u16, frame: &DataFrame, i: usize) -> u16
+    requires check { IsRemainder (dividend out.old.items) crc }
+    requires place { i < length frame.now.config.parts }
+    requires room { vec_len out.old + length (block_of frame.now i) ≤ vec_capacity out.old }
+    ensures bytes { out.new.items ≡ out.old.items ++ block_of frame.now i }
+    ensures len { vec_len out.new ≡ vec_len out.old + length (block_of frame.now i) }
+    ensures check { IsRemainder (dividend out.new.items) result }
+    ensures room { vec_capacity out.old ≤ vec_capacity out.new }
+{
+    let after = frame.check_past(i, crc);
+    let bytes = frame.block(i);
+    if out.capacity() - out.len() < bytes.len() {
+        unreachable!();
+    }
+    // With the room tested, the block is added without a way to take memory.
+    let _ = out.extend_from_slice(bytes);
+    after
+}
+
 /// This memory, if it has room for so many bytes, or else memory that has.
 fn room_for(alloc: Global, spare: Vec<u8>, size: u16) -> Result<Vec<u8>, Refusal>
     ensures room { IfOk result (λ v. size ≤ vec_capacity v) }
@@ -148,7 +255,29 @@ fn start_data(
     ensures check { IsRemainder (dividend frame.new.items) result }
     ensures room { vec_capacity frame.old ≤ vec_capacity frame.new }
 {
-    let (soc, frac) = stamp_of(definition.rate, definition.base, slot);
+    let stamp = stamp_of(definition.rate, definition.base, slot);
+    start_stamped(frame, definition, stamp, quality, size)
+}
+
+/// The same of a slot's stamp.
+#[inline(always)]
+fn start_stamped(
+    frame: &mut Vec<u8>,
+    definition: &Definition,
+    stamp: (u32, u32),
+    quality: u8,
+    size: u16,
+) -> u16
+    requires limits { IsWithinLimits definition.now }
+    requires inside { stamp.1 < definition.now.base }
+    requires room { 14 ≤ vec_capacity frame.old }
+    ensures bytes { (slot : ℕ) → stamp ≡ stamp_at definition.now.rate definition.now.base slot
+        → frame.new.items ≡ start_of (data_heading definition.now slot quality) size }
+    ensures len { vec_len frame.new ≡ 14 }
+    ensures check { IsRemainder (dividend frame.new.items) result }
+    ensures room { vec_capacity frame.old ≤ vec_capacity frame.new }
+{
+    let (soc, frac) = stamp;
     let head = Head {
         kind: Kind::Measured,
         version: 2,
@@ -160,7 +289,10 @@ fn start_data(
     };
     let bytes = head_bytes(&head);
     frame.clear();
-    // It fits, by what is asked for.
+    if frame.capacity() < bytes.len() {
+        unreachable!();
+    }
+    // With the room tested, the head is added without a way to take memory.
     let _ = frame.extend_from_slice(&bytes);
     check_head(&bytes)
 }

@@ -169,6 +169,36 @@ impl Registry {
         self.pmus.get_index_of(&key)
     }
 
+    /// The same of a PMU that is guessed to stand at the place `guess` or at the one before it: where it does there is no search.
+    #[inline(always)]
+    pub fn place_near(&self, key: PmuKey, guess: usize) -> Option<usize>
+        ensures value { result ≡ place_in self.now key }
+        ensures found { is_some result ≡ has_key self.now key }
+        ensures within { IfSome result (λ place. place < length self.now) }
+        ensures pmu { IfSome result (λ place. pmu_at self.now place ≡ pmu_of self.now key) }
+    {
+        let before = guess.wrapping_sub(1);
+        if self.stands_at(&key, guess) {
+            Some(guess)
+        } else if self.stands_at(&key, before) {
+            Some(before)
+        } else {
+            self.place_of(key)
+        }
+    }
+
+    /// Whether a PMU stands at a place.
+    #[inline(always)]
+    fn stands_at(&self, key: &PmuKey, place: usize) -> bool
+        ensures value { result ≡ true → place_in self.now key.now ≡ Some place }
+        ensures found { result ≡ true → has_key self.now key.now ≡ true }
+        ensures within { result ≡ true → place < length self.now }
+        ensures pmu { result ≡ true → pmu_at self.now place ≡ pmu_of self.now key.now }
+    {
+        let keys = self.list();
+        place < keys.len() && *key == keys[place]
+    }
+
     /// What the PMU at a place announced last.
     pub fn config_at(&self, place: usize) -> Option<&Arc<PmuConfig>>
         requires { place < length self.now }

@@ -5,7 +5,7 @@ ghost use Rattle.pg_ring.specs.Shown.{Queue, Framed, IsWithinLimits, empty_queue
 ghost use Rattle.pg_ring.specs.Steps.{with_data, with_lost, with_reply, takes_reply, begun_next};
 ghost use Rattle.pg_ring.specs.Numbers.{Numbered, ShowsNumbered, push_made, dropped_by, lose_made, drain_made, clear_made, cleared_by, none_made, reply_made};
 
-use crate::ring::{QueuedFrame, copy_front, push_frame};
+use crate::ring::{QueuedFrame, copy_front, keep_spare, push_frame};
 use crate::sizes::{RingBytes, RingSize};
 use circular_buffer::HeapCircularBuffer;
 use pg_wire::Refusal;
@@ -13,10 +13,13 @@ use std::alloc::Global;
 use std::marker::Model;
 use std::mem;
 
+/// The most data frames whose memory is kept: so many are handed out at once.
+const MOST_SPARES: usize = 64;
+
 /// What waits to be handed to a subscriber: the rest of the frame in hand, up to 8 replies, and a ring of data frames
 /// that is bounded by frames and by bytes (own rule). A frame of which one byte was handed out is in hand: it has left
-/// its queue, is never dropped, and counts towards no limit. Only `new` takes memory. The memory of the data frame that went last,
-/// dropped or handed out, is kept for the next one.
+/// its queue, is never dropped, and counts towards no limit. Only `new` takes memory. The memory of data frames that went, dropped or
+/// handed out, is kept for the next ones.
 #[derive(Drop)]
 pub struct OutQueue {
     hand: Vec<u8>,
@@ -27,7 +30,8 @@ pub struct OutQueue {
     held: usize,
     byte_limit: usize,
     pending: u64,
-    spare: Vec<u8>,
+    // Of data frames that went, the last one behind the others. There is room for as many as may come at once.
+    spares: Vec<Vec<u8>>,
 }
 
 impl Model for OutQueue {
@@ -54,7 +58,7 @@ pub struct Drained {
 }
 
 impl OutQueue {
-    /// An empty queue, with room reserved for the ring and for 8 replies. Refused with `NoMemory` alone.
+    /// An empty queue, with room reserved for the ring, for 8 replies and for the memory that is kept. Refused with `NoMemory` alone.
     pub fn new(alloc: Global, ring: RingSize, bytes: RingBytes) -> Result<OutQueue, Refusal>
         ensures shown { IfOk result (λ queue. queue ≡ empty_queue ring bytes) }
         ensures numbered { IfOk result (λ queue. ShowsNumbered queue (none_made ring bytes)) }
@@ -64,6 +68,7 @@ impl OutQueue {
         let size = usize::from(ring.get());
         let replies = HeapCircularBuffer::with_capacity(alloc, 8)?;
         let frames = HeapCircularBuffer::with_capacity(alloc, size)?;
+        let spares = Vec::with_capacity(alloc, size.min(MOST_SPARES))?;
         Ok(OutQueue {
             hand: Vec::new(alloc),
             taken: 0,
@@ -73,7 +78,7 @@ impl OutQueue {
             held: 0,
             byte_limit,
             pending: 0,
-            spare: Vec::new(alloc),
+            spares,
         })
     }
 
@@ -195,7 +200,7 @@ impl OutQueue {
             &mut self.held,
             self.byte_limit,
             frame,
-            &mut self.spare,
+            &mut self.spares,
         );
         self.pending = 0;
         dropped as u64
@@ -245,13 +250,27 @@ impl OutQueue {
         cleared
     }
 
-    /// Memory of a data frame that is done with, for the next one; none where no frame has gone since it was last taken. What its
-    /// bytes are says nothing. At most one frame's memory is kept.
+    /// Memory of a data frame that is done with, for the next one: of those that are kept, the one that went last; none where none is
+    /// kept. What its bytes are says nothing. At most as many frames' memory is kept as the ring has places, and of no more than 64.
     pub fn take_spare(&mut self, alloc: Global) -> Vec<u8>
         ensures shown { self.new ≡ self.old }
         ensures numbered { (m : Numbered) → ShowsNumbered self.old m → ShowsNumbered self.new m }
     {
-        mem::replace(&mut self.spare, Vec::new(alloc))
+        match self.spares.pop() {
+            Some(spare) => spare,
+            None => self.take_done(alloc),
+        }
+    }
+
+    /// The memory of a data frame of which nothing is left in hand; none where no such frame is there.
+    fn take_done(&mut self, alloc: Global) -> Vec<u8>
+        ensures { self.new ≡ self.old }
+    {
+        if !self.data_in_hand || self.taken < self.hand.len() {
+            return Vec::new(alloc);
+        }
+        self.taken = 0;
+        mem::replace(&mut self.hand, Vec::new(alloc))
     }
 
     /// Takes a frame in hand, and keeps the memory of a data frame that was there.
@@ -259,8 +278,9 @@ impl OutQueue {
         ensures { self.new ≡ record self.old { rest = frame.items; data_in_hand = is_data } }
     {
         let done = mem::replace(&mut self.hand, frame);
-        if self.data_in_hand {
-            self.spare = done;
+        // A frame whose memory was taken left none.
+        if self.data_in_hand && done.capacity() > 0 {
+            keep_spare(&mut self.spares, done);
         }
         self.taken = 0;
         self.data_in_hand = is_data;

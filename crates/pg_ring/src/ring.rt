@@ -14,13 +14,21 @@ pub(crate) struct QueuedFrame {
     pub(crate) gap: u64,
 }
 
-/// Drops the oldest frames until the others have at most `limit` bytes, and returns the gap that they pass on. The memory of the
-/// last one is kept in `spare`.
+/// Keeps the memory of a data frame that is done with, behind what is kept already, where there is room for it.
+#[inline(always)]
+pub(crate) fn keep_spare(spares: &mut Vec<Vec<u8>>, done: Vec<u8>) {
+    if spares.len() < spares.capacity() {
+        spares.push_reserved(done);
+    }
+}
+
+/// Drops the oldest frames until the others have at most `limit` bytes, and returns the gap that they pass on. Their memory is kept in
+/// `spares`.
 fn make_room(
     frames: &mut HeapCircularBuffer<QueuedFrame>,
     held: &mut usize,
     limit: usize,
-    spare: &mut Vec<u8>,
+    spares: &mut Vec<Vec<u8>>,
 ) -> u64
     requires counted { held.old ≡ bytes_in (shown frames.old.items) }
     ensures kept { (size : ℕ) → length frames.new.items < size
@@ -39,7 +47,7 @@ fn make_room(
         };
         *held -= oldest.bytes.len();
         passed = passed.saturating_add(oldest.gap).saturating_add(1);
-        *spare = oldest.bytes;
+        keep_spare(spares, oldest.bytes);
     }
     passed
 }
@@ -57,14 +65,14 @@ fn pass_gap(frames: &mut HeapCircularBuffer<QueuedFrame>, passed: u64)
 }
 
 /// Appends a frame that is no longer than `limit`. The oldest frames go until it fits, and their gaps pass on. Returns
-/// how many went. The memory of the last one is kept in `spare`.
+/// how many went. Their memory is kept in `spares`.
 #[tactic(auto, using(crate::proofs::Room::ring_steps))]
 pub(crate) fn push_frame(
     frames: &mut HeapCircularBuffer<QueuedFrame>,
     held: &mut usize,
     limit: usize,
     frame: QueuedFrame,
-    spare: &mut Vec<u8>,
+    spares: &mut Vec<Vec<u8>>,
 ) -> usize
     requires counted { held.old ≡ bytes_in (shown frames.old.items) }
     requires some_size { 0 < frames.old.capacity }
@@ -81,7 +89,7 @@ pub(crate) fn push_frame(
     ensures have_bytes { HaveBytes (shown frames.new.items) }
 {
     let before = frames.len();
-    let passed = make_room(frames, held, limit - frame.bytes.len(), spare);
+    let passed = make_room(frames, held, limit - frame.bytes.len(), spares);
     let dropped = before - frames.len();
     *held += frame.bytes.len();
     let Some(oldest) = frames.push_back(frame) else {
@@ -91,7 +99,7 @@ pub(crate) fn push_frame(
     // The ring was full, so none had to go for its bytes.
     *held -= oldest.bytes.len();
     pass_gap(frames, oldest.gap.saturating_add(1));
-    *spare = oldest.bytes;
+    keep_spare(spares, oldest.bytes);
     1
 }
 

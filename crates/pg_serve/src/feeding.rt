@@ -110,7 +110,10 @@ fn post_events(
     loop {
         match link.next_event() {
             LinkEvent::Announce(config) => post(gateway, Event::Announce(config), notes)?,
-            LinkEvent::Measure(frame) => post_measured(gateway, &frame, notes)?,
+            LinkEvent::Measure(frame) => {
+                post_measured(gateway, &frame, notes)?;
+                link.give_back(frame);
+            }
             LinkEvent::Ignored(refusal) => note_ignored(notes, refusal)?,
             LinkEvent::Ended(refusal) => return Ok(Some(refusal)),
             LinkEvent::More => return Ok(None),

@@ -22,3 +22,4 @@ pub mod Going
 pub mod Running
 pub mod Stamping
 pub mod Counting
+pub mod Filled

@@ -126,7 +126,7 @@ part_some [] i h = absurd (omega arith)
 part_some (p ∷ ps) zero h = refl
 part_some (p ∷ ps) (suc i) h = part_some ps i (omega arith)
 
-base_shared : (m : Measurement) (members : List PmuKey) (places : List ℕ) → IsMeasurement m → All (λ i. i < length m.config.parts) places
+pub base_shared : (m : Measurement) (members : List PmuKey) (places : List ℕ) → IsMeasurement m → All (λ i. i < length m.config.parts) places
     → 0 < length (placed members m.quality (samples_at m places)) → base_of (samples_at m places) ≡ resolution m.config
 base_shared m members [] is w some = absurd (omega arith)
 base_shared m members (i ∷ places) is w some =

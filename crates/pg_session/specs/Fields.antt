@@ -1,5 +1,5 @@
 -- What private contracts and proofs say of a stream, of a subscriber's fields, and of what is under way. No public clause names any of it.
-use Rattle.std.specs.Prelude.{◌≡◌, ◌/◌, ◌^◌, ◌<◌, ◌≤◌, ℕ, true, IsTrue, List, [], ◌∷◌, length, is_some, None, MatchOption, slice_index_or, Bool, false}
+use Rattle.std.specs.Prelude.{◌≡◌, ◌⊎◌, ◌/◌, ◌^◌, ◌<◌, ◌≤◌, ℕ, true, IsTrue, List, [], ◌∷◌, length, is_some, None, MatchOption, slice_index_or, Bool, false}
 use Rattle.pg_wire.specs.declared.ids.PmuKey.{PmuKey}
 use Rattle.pg_wire.specs.declared.refusal.Refusal.{Refusal}
 use Rattle.pg_wire.specs.declared.refusal.Refusal.TheVariants.{NoMemory}
@@ -18,6 +18,8 @@ use Rattle.pg_session.specs.Private.{refusal, effect, asks_reply}
 use Rattle.pg_session.specs.Kept.{by_slots, by_gaps}
 use Rattle.pg_session.specs.Sending.{Sending}
 use Rattle.pg_session.specs.Shown.{Own, SubscriberValue}
+use Rattle.pg_session.specs.Wanted.{wanted_of}
+use Rattle.pg_session.specs.Filling.{fills}
 
 -- the second of each slot can be told by a SOC
 abbrev pub AreTimed : ℕ → List (OpenSlot Piece) → Type 0
@@ -55,6 +57,15 @@ AreListed listed (s ∷ samples) = IsTrue (is_some (config_at listed s.key)) × 
 -- the counters after what a stream ignored
 abbrev pub turn_stats : Turn (Aligned Piece) → Stats → Stats
 turn_stats turn stats = all_ignored turn.late turn.twice turn.past stats
+
+-- The stream asks for no copies of a measurement's blocks, or these leave no slot open behind them.
+abbrev pub NeedsNoCopy : StreamOf (Aligned Piece) → ℕ → ℕ → ℕ → List Sample → Type 0
+NeedsNoCopy s soc quality frac samples = (wanted_of s quality samples ≡ []) ⊎ (fills s soc quality frac samples ≡ true)
+
+-- the same of each of these streams
+abbrev pub NeedNoCopies : ℕ → ℕ → ℕ → List Sample → List (StreamOf (Aligned Piece)) → Type 0
+NeedNoCopies soc quality frac samples [] = Unit {0}
+NeedNoCopies soc quality frac samples (s ∷ streams) = NeedsNoCopy s soc quality frac samples × NeedNoCopies soc quality frac samples streams
 
 -- each stream's effective members are those that the CFG-1 list has
 abbrev pub AreFitted : Listing → List (StreamOf (Aligned Piece)) → Type 0

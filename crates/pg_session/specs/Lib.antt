@@ -15,6 +15,7 @@ pub mod Standing
 pub mod Steps
 pub mod Wanted
 pub mod Ready
+pub mod Filling
 -- Laws of whole runs: fates of numbers, stamps, and which changes count.
 pub mod Laws
 pub mod Stamps

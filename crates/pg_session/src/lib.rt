@@ -6,6 +6,7 @@ mod arriving;
 mod change;
 mod copying;
 mod event;
+mod filling;
 mod laws;
 mod leaving;
 mod listing;

@@ -166,6 +166,7 @@ impl Output {
     }
 
     /// Takes a frame that was composed, or loses it where that found no memory. It asks that none of the event was lost.
+    #[inline(always)]
     pub fn send(&mut self, composed: Result<Vec<u8>, Refusal>)
         requires none_lost { self.old.lost ≡ false }
         requires bytes { IfOk composed (λ frame. 0 < vec_len frame) }
@@ -186,6 +187,7 @@ impl Output {
     }
 
     /// Loses a frame that is not composed.
+    #[inline(never)]
     pub fn lose(&mut self)
         requires bounded { self.old.made < 2 ^ 32 }
         ensures sends { (frame : List ℕ) → Sends (frame ∷ []) self.old self.new }

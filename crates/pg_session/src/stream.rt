@@ -1,6 +1,6 @@
 //! One stream of a subscriber.
 
-ghost use Rattle.std.specs.Prelude.{◌≡◌, ◌+◌, ◌<◌, ◌≤◌, ◌^◌, ◌++◌, ◌∷◌, [], ℕ, List, length, map, drop, not, All, IfOk, IfErr, OnOk, IsOk, IsTrue, IsSome, option_map, if◌then◌else◌, true, false};
+ghost use Rattle.std.specs.Prelude.{◌≡◌, ◌+◌, ◌<◌, ◌≤◌, ◌^◌, ◌++◌, ◌∷◌, [], ℕ, List, length, map, drop, not, All, IfOk, IfErr, IfSome, OnOk, IsOk, IsTrue, IsSome, Ok, is_some, option_map, ◌/◌, if◌then◌else◌, true, false};
 ghost use Rattle.std.specs.Arc.{arc_value};
 ghost use Rattle.circular_buffer.specs.Buffer.{Buffer};
 ghost use Rattle.pg_data.specs.Pieces.{Piece};
@@ -16,7 +16,10 @@ ghost use Rattle.pg_session.specs.Private.{stopped, started};
 ghost use Rattle.pg_session.specs.Sending.{Sending, Sends};
 ghost use Rattle.pg_session.specs.Kept.{by_slots, by_gaps};
 ghost use Rattle.pg_session.specs.Ready.{GoesOn};
-ghost use Rattle.pg_session.specs.Fields.{IsStream, AreListed, turn_stats, with_stats};
+ghost use Rattle.pg_session.specs.Fields.{IsStream, AreListed, NeedsNoCopy, turn_stats, with_stats};
+ghost use Rattle.pg_session.specs.Filling.{can_leave, fills};
+ghost use Rattle.pg_stream.specs.Slots.{slot_at};
+ghost use Rattle.pg_data.specs.Measurements.{resolution};
 ghost use Rattle.pg_session.specs.Wanted.{wanted_of};
 ghost use Rattle.pg_session.specs.Standing.{stream_standing};
 
@@ -24,14 +27,15 @@ use crate::accepting::after_members;
 use crate::arriving::{arrive_all_in, count_placed, has_placed, pass_all};
 use crate::change::{Change, config_of};
 use crate::copying::copy_members;
+use crate::filling::{Brought, place_all, send_filled};
 use crate::leaving::{flush_all, leave_all};
 use crate::output::Output;
 use crate::standing::{StreamStanding, count_effective};
 use circular_buffer::HeapCircularBuffer;
 use pg_align::Align;
 use pg_data::{DataFrame, SharedBlock};
-use pg_outcfg::{ConfigList, OutCfg, header};
-use pg_stream::{Definition, slot_of};
+use pg_outcfg::{ConfigList, OutCfg, Stamps, header};
+use pg_stream::Definition;
 use pg_wire::{PmuKey, Refusal, StreamId};
 use std::alloc::Global;
 use std::marker::Model;
@@ -308,6 +312,7 @@ impl Stream {
         frame: &DataFrame,
         places: &[usize],
         blocks: &mut HeapCircularBuffer<SharedBlock>,
+        stamps: &mut Stamps,
         output: &mut Output,
     )
         requires places { All (λ i. i < length frame.now.config.parts) places.now }
@@ -329,7 +334,7 @@ impl Stream {
         if !self.align.is_on() {
             return;
         }
-        match slot_of(self.definition.rate, frame.base(), frame.soc, frame.frac) {
+        match stamps.slot_of(self.definition.rate, frame.base(), frame.soc, frame.frac) {
             Ok(slot) => {
                 let some = arrive_all_in(
                     &self.definition,
@@ -361,6 +366,91 @@ impl Stream {
                 pass_all(count, blocks, output);
             }
         }
+    }
+
+    /// Whether those blocks of a data frame leave no slot open behind them: no slot is open, and they are no member's, or those of all
+    /// members for a slot that is not late. So it is with a stream that is off. It asks for no copies then.
+    #[inline(always)]
+    pub fn is_filled(&self, frame: &DataFrame, places: &[usize], stamps: &mut Stamps) -> bool
+        requires places { All (λ i. i < length frame.now.config.parts) places.now }
+        ensures { result ≡ fills self.now frame.now.soc frame.now.quality frame.now.frac (samples_at frame.now places.now) }
+    {
+        if !self.align.is_on() {
+            return true;
+        }
+        if self.align.open_slots() > 0 {
+            return false;
+        }
+        let _count = frame.count();
+        let mut order = [None; MOST_MEMBERS];
+        let order = &mut order[..self.definition.members.as_slice().len()];
+        let mut next = self.guess;
+        match place_all(&self.definition, frame, places, &mut next, order) {
+            Brought::Nothing => true,
+            Brought::Some => false,
+            Brought::All => self.slot_for(frame, stamps).is_some(),
+        }
+    }
+
+    /// The slot of a data frame, if it is not late and not past the end of time.
+    #[inline(always)]
+    fn slot_for(&self, frame: &DataFrame, stamps: &mut Stamps) -> Option<u64>
+        ensures some { IfSome result (λ slot. slot_at self.now.definition.rate (resolution frame.now.config) frame.now.soc frame.now.frac ≡ Ok slot) }
+        ensures timed { IfSome result (λ slot. slot / self.now.definition.rate < 2 ^ 32) }
+        ensures value { is_some result ≡ can_leave self.now.slots.last (slot_at self.now.definition.rate (resolution frame.now.config) frame.now.soc frame.now.frac) }
+    {
+        match stamps.slot_of(self.definition.rate, frame.base(), frame.soc, frame.frac) {
+            Ok(slot) if self.align.is_after_last(slot) => Some(slot),
+            _ => None,
+        }
+    }
+
+    /// The same as `measure`, for blocks that leave no slot open behind them, or of which none is a member's. No copies are asked for.
+    #[inline(always)]
+    pub fn measure_filled(
+        &mut self,
+        alloc: Global,
+        listed: &ConfigList,
+        frame: &DataFrame,
+        places: &[usize],
+        stamps: &mut Stamps,
+        output: &mut Output,
+    )
+        requires places { All (λ i. i < length frame.now.config.parts) places.now }
+        requires listed { AreListed listed.now (samples_at frame.now places.now) }
+        requires effective { self.old.slots.effective ≡ effective_in listed.now self.old.definition.members }
+        requires filled { NeedsNoCopy self.old frame.now.soc frame.now.quality frame.now.frac (samples_at frame.now places.now) }
+        requires kept { output.old.kept ≤ output.old.made }
+        requires bounded { output.old.made < 2 ^ 31 }
+        ensures stream { self.new ≡ (measure_turn by_slots listed.now frame.now.soc frame.now.quality frame.now.frac (samples_at frame.now places.now) self.old).stream }
+        ensures sends { Sends (measure_turn by_slots listed.now frame.now.soc frame.now.quality frame.now.frac (samples_at frame.now places.now) self.old).frames
+            (with_stats output.old (turn_stats (measure_turn by_slots listed.now frame.now.soc frame.now.quality frame.now.frac (samples_at frame.now places.now) self.old) output.old.output.stats))
+            output.new }
+        ensures bounded { output.new.made ≤ output.old.made + 80 }
+    {
+        if !self.align.is_on() {
+            return;
+        }
+        let _count = frame.count();
+        let mut order = [None; MOST_MEMBERS];
+        let order = &mut order[..self.definition.members.as_slice().len()];
+        let Brought::All = place_all(&self.definition, frame, places, &mut self.guess, order) else {
+            return;
+        };
+        let Some(slot) = self.slot_for(frame, stamps) else {
+            unreachable!();
+        };
+        self.align.leave_at_once(slot);
+        send_filled(
+            alloc,
+            &self.definition,
+            listed,
+            slot,
+            frame,
+            order,
+            stamps,
+            output,
+        );
     }
 
     /// Lays a copy of each of those blocks that it asks for: of its members', where it is on. The one refusal is `NoMemory`; some

@@ -9,7 +9,8 @@ ghost use Rattle.pg_session.specs.Private.{stopped, stream_at, at_stream, switch
 ghost use Rattle.pg_session.specs.Sending.{Sending};
 ghost use Rattle.pg_session.specs.Taking.{Taken};
 ghost use Rattle.pg_session.specs.Kept.{by_slots, by_gaps};
-ghost use Rattle.pg_session.specs.Fields.{AreListed, AreFitted, stream_after};
+ghost use Rattle.pg_session.specs.Fields.{AreListed, AreFitted, NeedNoCopies, stream_after};
+ghost use Rattle.pg_session.specs.Filling.{all_fill};
 ghost use Rattle.pg_session.specs.Wanted.{all_wanted};
 ghost use Rattle.pg_session.specs.Standing.{stream_standing};
 
@@ -19,7 +20,7 @@ use crate::standing::StreamStanding;
 use crate::stream::Stream;
 use circular_buffer::HeapCircularBuffer;
 use pg_data::{DataFrame, SharedBlock};
-use pg_outcfg::ConfigList;
+use pg_outcfg::{ConfigList, Stamps};
 use std::alloc::Global;
 
 /// The CFG-1 list is about to change: each stream whose effective blocks change is flushed by the list as it is.
@@ -73,6 +74,7 @@ pub(crate) fn measure_all(
     places: &[usize],
     streams: &mut [Stream],
     blocks: &mut HeapCircularBuffer<SharedBlock>,
+    stamps: &mut Stamps,
     output: &mut Output,
 )
     requires places { All (λ i. i < length frame.now.config.parts) places.now }
@@ -90,8 +92,54 @@ pub(crate) fn measure_all(
     ensures bounded { output.new.made ≤ output.old.made + 640 }
 {
     for s in streams.iter_mut() {
-        s.measure(alloc, listed, frame, places, blocks, output);
+        s.measure(alloc, listed, frame, places, blocks, stamps, output);
     }
+}
+
+/// The same where the blocks leave no slot of a stream open behind them, so that no copies are asked for.
+#[inline(never)]
+pub(crate) fn measure_all_filled(
+    alloc: Global,
+    listed: &ConfigList,
+    frame: &DataFrame,
+    places: &[usize],
+    streams: &mut [Stream],
+    stamps: &mut Stamps,
+    output: &mut Output,
+)
+    requires places { All (λ i. i < length frame.now.config.parts) places.now }
+    requires listed { AreListed listed.now (samples_at frame.now places.now) }
+    requires fitted { AreFitted listed.now streams.old }
+    requires filled { NeedNoCopies frame.now.soc frame.now.quality frame.now.frac (samples_at frame.now places.now) streams.old }
+    requires streams { length streams.old ≤ 8 }
+    requires few { output.old.kept ≤ output.old.made }
+    requires bounded { output.old.made ≤ 1000 }
+    ensures streams { streams.new ≡ map (λ s. stream_after (measure_turn by_slots listed.now frame.now.soc frame.now.quality frame.now.frac (samples_at frame.now places.now) s)) streams.old }
+    ensures taken { Taken (map (measure_turn by_slots listed.now frame.now.soc frame.now.quality frame.now.frac (samples_at frame.now places.now)) streams.old) output.old output.new }
+    ensures bounded { output.new.made ≤ output.old.made + 640 }
+{
+    for s in streams.iter_mut() {
+        s.measure_filled(alloc, listed, frame, places, stamps, output);
+    }
+}
+
+/// Whether the blocks leave no slot of a stream open behind them.
+#[inline(always)]
+pub(crate) fn are_filled(
+    frame: &DataFrame,
+    places: &[usize],
+    streams: &[Stream],
+    stamps: &mut Stamps,
+) -> bool
+    requires places { All (λ i. i < length frame.now.config.parts) places.now }
+    ensures { result ≡ all_fill streams.now frame.now.soc frame.now.quality frame.now.frac (samples_at frame.now places.now) }
+{
+    for s in streams {
+        if !s.is_filled(frame, places, stamps) {
+            return false;
+        }
+    }
+    true
 }
 
 /// All streams are switched off, and their open slots discarded.

@@ -11,7 +11,8 @@ ghost use Rattle.pg_session.specs.Ready.{Accepts, AreHeld, AreOwn, ArePlaces, Is
 ghost use Rattle.pg_session.specs.Shown.{Model, SubscriberValue, ShowsPrivate, Takes, begin};
 ghost use Rattle.pg_session.specs.Standing.{standing_of, own_standing};
 ghost use Rattle.pg_session.specs.Steps.{Steps, MakesFew, HasNoCopies};
-ghost use Rattle.pg_session.specs.Fields.{Obeys, MayRefuse};
+ghost use Rattle.pg_session.specs.Fields.{NeedNoCopies, Obeys, MayRefuse};
+ghost use Rattle.pg_session.specs.Filling.{IsLaidFor};
 ghost use Rattle.pg_session.specs.Wanted.{all_wanted, granted_wanted};
 
 use crate::accepting::{are_copies, are_held, are_own, are_places, are_wanted, is_copy};
@@ -24,8 +25,8 @@ use crate::reply::{is_question, send_reply, word_at};
 use crate::standing::Standing;
 use crate::stream::Stream;
 use crate::streams::{
-    measure_all, remove_streams, reshape_all, stop_all, stream_of, stream_standing_at,
-    switch_streams, tick_all,
+    are_filled, measure_all, measure_all_filled, remove_streams, reshape_all, stop_all, stream_of,
+    stream_standing_at, switch_streams, tick_all,
 };
 use circular_buffer::HeapCircularBuffer;
 use pg_audit::Stats;
@@ -33,7 +34,7 @@ use pg_command::Command;
 use pg_config::{PmuConfig, SourceConfig};
 use pg_data::{DataFrame, SharedBlock};
 use pg_entitle::Grants;
-use pg_outcfg::ConfigList;
+use pg_outcfg::{ConfigList, Stamps};
 use pg_ring::{OutQueue, RingBytes, RingSize};
 use pg_stream::{Definition, check_definition};
 use pg_wire::{PmuKey, Refusal, StreamId};
@@ -348,7 +349,9 @@ impl Subscriber {
             PrivateEvent::Grant(key, _) => self.grant(key, lost),
             PrivateEvent::Revoke(key) => self.revoke(key, lost),
             PrivateEvent::Announce(config, places) => self.announce(config, places, lost),
-            PrivateEvent::Measure(frame, places) => self.measure(frame, places, lost),
+            PrivateEvent::Measure(frame, places) => {
+                self.measure(frame, places, lost, &mut Stamps::new())
+            }
             PrivateEvent::Define(definition) => self.define(definition, lost),
             PrivateEvent::Remove(stream) => self.remove(stream, lost),
             PrivateEvent::Tick(soc) => self.tick(soc, lost),
@@ -357,6 +360,93 @@ impl Subscriber {
             PrivateEvent::Command(asked) => self.command(&asked, lost),
             PrivateEvent::Drain(buf) => self.drain(buf, lost),
         }
+    }
+
+    /// Lays the copies that a data frame needs, before anything changes, as `copies` does; but none where its blocks leave no slot of a
+    /// stream open behind them. Those that lay ready before are given up.
+    ///
+    /// # Errors
+    ///
+    /// `NoMemory`, and then no copy lies ready.
+    #[inline(always)]
+    pub fn lay_frame(
+        &mut self,
+        frame: &Arc<DataFrame>,
+        places: &[usize],
+        stamps: &mut Stamps,
+    ) -> Result<(), Refusal>
+        requires places { ArePlaces (length (arc_value frame.now).config.parts) places.now }
+        requires held { AreHeld self.old.own.grants self.old.own.listed (samples_at (arc_value frame.now) places.now) }
+        ensures laid { IfOk result (λ u. IsLaidFor self.new (measure (arc_value frame.now).soc (arc_value frame.now).quality (arc_value frame.now).frac (samples_at (arc_value frame.now) places.now))) }
+        ensures none { IfErr result (λ refusal. HasNoCopies self.new) }
+        ensures memory { IfErr result (λ refusal. refusal ≡ Refusal.NoMemory) }
+        ensures needless { NeedsNone self.old (measure (arc_value frame.now).soc (arc_value frame.now).quality (arc_value frame.now).frac (samples_at (arc_value frame.now) places.now)) → IsOk result }
+        ensures own { self.new.own ≡ self.old.own }
+    {
+        if are_filled(frame, places, &self.streams, stamps) {
+            self.forget();
+            return Ok(());
+        }
+        self.copies(&PrivateEvent::Measure(frame, places))?;
+        Ok(())
+    }
+
+    /// Takes a data frame's blocks: the same step as `take` of them, where just the copies lie ready that `lay_frame` lays. Afterwards
+    /// no copy lies ready.
+    #[inline(always)]
+    pub fn take_frame(
+        &mut self,
+        frame: &Arc<DataFrame>,
+        places: &[usize],
+        lost: bool,
+        stamps: &mut Stamps,
+    ) -> PrivateReply
+        requires places { ArePlaces (length (arc_value frame.now).config.parts) places.now }
+        requires held { AreHeld self.old.own.grants self.old.own.listed (samples_at (arc_value frame.now) places.now) }
+        requires laid { IsLaidFor self.old (measure (arc_value frame.now).soc (arc_value frame.now).quality (arc_value frame.now).frac (samples_at (arc_value frame.now) places.now)) }
+        ensures takes { Takes self.old (measure (arc_value frame.now).soc (arc_value frame.now).quality (arc_value frame.now).frac (samples_at (arc_value frame.now) places.now)) lost (told result) self.new }
+        // the same of what is kept, whatever state that shows
+        ensures steps { Steps self.old (measure (arc_value frame.now).soc (arc_value frame.now).quality (arc_value frame.now).frac (samples_at (arc_value frame.now) places.now)) lost (told result) self.new }
+        ensures few { MakesFew (told result) }
+        ensures plain { IsPlain result }
+        ensures none { HasNoCopies self.new }
+    {
+        if self.blocks.is_empty() {
+            return self.measure_filled(frame, places, lost, stamps);
+        }
+        self.measure(frame, places, lost, stamps)
+    }
+
+    /// Blocks of granted PMUs came that leave no slot of a stream open behind them, or are no member's. No copies lie ready.
+    #[inline(always)]
+    fn measure_filled(
+        &mut self,
+        frame: &DataFrame,
+        places: &[usize],
+        lost: bool,
+        stamps: &mut Stamps,
+    ) -> PrivateReply
+        requires places { ArePlaces (length frame.now.config.parts) places.now }
+        requires held { AreHeld self.old.own.grants self.old.own.listed (samples_at frame.now places.now) }
+        requires filled { NeedNoCopies frame.now.soc frame.now.quality frame.now.frac (samples_at frame.now places.now) self.old.own.streams }
+        requires none { HasNoCopies self.old }
+        ensures steps { Steps self.old (measure frame.now.soc frame.now.quality frame.now.frac (samples_at frame.now places.now)) lost (told result) self.new }
+        ensures none { HasNoCopies self.new }
+        ensures few { MakesFew (told result) }
+        ensures plain { IsPlain result }
+    {
+        let _count = frame.count();
+        self.output.begin(lost);
+        measure_all_filled(
+            self.alloc,
+            &self.listed,
+            frame,
+            places,
+            &mut self.streams,
+            stamps,
+            &mut self.output,
+        );
+        self.output.done()
     }
 
     /// A tick.
@@ -382,7 +472,13 @@ impl Subscriber {
     /// Blocks of granted PMUs came, whose copies lie ready.
     // Inlined, its reply is not laid into memory and read again.
     #[inline(always)]
-    fn measure(&mut self, frame: &DataFrame, places: &[usize], lost: bool) -> PrivateReply
+    fn measure(
+        &mut self,
+        frame: &DataFrame,
+        places: &[usize],
+        lost: bool,
+        stamps: &mut Stamps,
+    ) -> PrivateReply
         requires places { ArePlaces (length frame.now.config.parts) places.now }
         requires held { AreHeld self.old.own.grants self.old.own.listed (samples_at frame.now places.now) }
         requires ready { self.old.blocks ≡ all_wanted self.old.own.streams frame.now.quality (samples_at frame.now places.now) }
@@ -401,6 +497,7 @@ impl Subscriber {
             places,
             &mut self.streams,
             &mut self.blocks,
+            stamps,
             &mut self.output,
         );
         self.output.done()

@@ -3,7 +3,7 @@ ghost use Rattle.pg_stream.specs.Limits.{IsWithinLimits};
 
 use crate::asserts::same;
 use pg_config::{SourceConfig, read_config};
-use pg_data::{SharedBlock, read_data};
+use pg_data::{DataFrame, SharedBlock, read_data};
 use pg_outcfg::*;
 use pg_stream::{Definition, HeaderText, Members, check_definition};
 use pg_wire::{PmuId, PmuKey, Refusal, StreamId, check, is_frame};
@@ -87,15 +87,14 @@ fn source_9(rt: &impl Abort, alloc: Global) -> Result<Arc<SourceConfig>, AllocEr
     announced(rt, alloc, &[&CONFIG_9, &BLOCK_7, &block_11, &RATE])
 }
 
-// The data block of a PMU in a frame of SOC 100 and numerator 33,333 that has these bytes as its body.
-fn block(
+// A frame of SOC 100 and numerator 33,333 that has these bytes as its body.
+fn measured(
     rt: &impl Abort,
     alloc: Global,
     config: &Arc<SourceConfig>,
     quality: u8,
     body: &[u8],
-    place: usize,
-) -> Result<Option<SharedBlock>, AllocError> {
+) -> Result<Arc<DataFrame>, AllocError> {
     let [_, id] = config.source.get().to_be_bytes();
     assert!(rt; body.len() < 200);
     let size = 16 + body.len() as u8;
@@ -106,7 +105,19 @@ fn block(
     assert!(rt; is_frame(&bytes));
     assert!(rt; bytes.len() >= 16);
     same(rt, bytes[1] / 16, 0);
-    let frame = read_data(alloc, config, &bytes).expect(rt, "memory");
+    Ok(read_data(alloc, config, &bytes).expect(rt, "memory"))
+}
+
+// The data block of a PMU in such a frame.
+fn block(
+    rt: &impl Abort,
+    alloc: Global,
+    config: &Arc<SourceConfig>,
+    quality: u8,
+    body: &[u8],
+    place: usize,
+) -> Result<Option<SharedBlock>, AllocError> {
+    let frame = measured(rt, alloc, config, quality, body)?;
     assert!(rt; place < frame.count());
     Ok(Some(SharedBlock::new(frame, place)))
 }
@@ -330,6 +341,45 @@ fn shared_frame(rt: HostRuntime) {
         frame.as_slice(),
         b"\xAA\x02\x00\x24\x00\x65\x00\x00\x00\x64\x00\x00\x82\x35\x00\x00\x10\x00\x20\x00\x00\x00\x00\x00\x00\x00\x30\x00\x40\x00\x00\x00\x00\x00\x5D\x65".as_slice(),
     );
+}
+
+// One frame brought the blocks of both members, which are not in its own order: bit 7 of its quality is not shown.
+#[test]
+fn all_of_one_frame(rt: HostRuntime) {
+    let alloc = rt.alloc();
+    let (seven, eleven) = (
+        key(9, 7).expect(&rt, "reserved"),
+        key(9, 11).expect(&rt, "reserved"),
+    );
+    let definition = stream(alloc, 101, &[eleven, seven]).expect(&rt, "memory");
+    let config = source_9(&rt, alloc).expect(&rt, "memory");
+    let mut list = ConfigList::new(alloc).expect(&rt, "memory");
+    put_all(&rt, &mut list, &config).expect(&rt, "memory");
+    let body = [
+        0, 0, 0x10, 0, 0x20, 0, 0, 0, 0, 0, 0, 0, 0x30, 0, 0x40, 0, 0, 0, 0, 0,
+    ];
+    let parts = [
+        block(&rt, alloc, &config, 0xA4, &body, 1).expect(&rt, "memory"),
+        block(&rt, alloc, &config, 0xA4, &body, 0).expect(&rt, "memory"),
+    ];
+    let wanted = frame_3001(&rt, alloc, &definition, &list, &parts).expect(&rt, "memory");
+    same(&rt, wanted.len(), 36);
+    same(&rt, wanted[10], 0x24);
+    let frame = measured(&rt, alloc, &config, 0xA4, &body).expect(&rt, "memory");
+    same(&rt, frame.count(), 2);
+    let order = [Some(1), Some(0)];
+    same(&rt, order.len(), definition.members.as_slice().len());
+    let mut stamps = Stamps::new();
+    // Whether or not the stamp was found before, and whatever memory is there.
+    for room in [0, 40] {
+        let spare = vec![in alloc; 0xFF; room].expect(&rt, "memory");
+        let came = data_frame_at_once(alloc, &definition, 3001, &frame, &order, &mut stamps, spare);
+        same(
+            &rt,
+            came.expect(&rt, "memory").as_slice(),
+            wanted.as_slice(),
+        );
+    }
 }
 
 // CFG-1 lists all PMUs by rising key, CFG-2 the members in the definition's order.

@@ -239,3 +239,30 @@ fn reply_in_hand(rt: HostRuntime) -> Result<(), Fail> {
     same(&rt, queue.clear(), 0);
     Ok(())
 }
+
+/// The room of the memory that the queue gives for the next frame.
+fn spare(rt: &HostRuntime, queue: &mut OutQueue) -> usize {
+    queue.take_spare(rt.alloc()).capacity()
+}
+
+#[test]
+fn memory_is_kept(rt: HostRuntime) -> Result<(), Fail> {
+    let mut queue = queue_of(&rt, 1, 16_777_216)?;
+    push(&rt, &mut queue, 1)?;
+    same(&rt, spare(&rt, &mut queue), 0);
+    push(&rt, &mut queue, 2)?;
+    assert!(rt; spare(&rt, &mut queue) >= 26);
+    same(&rt, spare(&rt, &mut queue), 0);
+    let mut queue = queue_of(&rt, 4, 16_777_216)?;
+    for _ in 0..2 {
+        for last in 1..=3 {
+            push(&rt, &mut queue, last)?;
+        }
+        drain(&rt, &mut queue, 78)?;
+        for _ in 0..3 {
+            assert!(rt; spare(&rt, &mut queue) >= 26);
+        }
+        same(&rt, spare(&rt, &mut queue), 0);
+    }
+    Ok(())
+}

@@ -26,8 +26,8 @@ events-preserved-in-Announce-3 g c = record {
   left = c.next_event.ensures.left ∙ c.events.invariant.left;
 }
 
-pub events-preserved-in-Measure-2 : goal.events-preserved-in-Measure-2
-events-preserved-in-Measure-2 g c = record {
+pub events-preserved-in_default : goal.events-preserved-in_default
+events-preserved-in_default g c = record {
   ran = λ r w.
       ran_more Posted Posted Posted posted_more _ _ _ _ _ _ _ _ _ _ _ _ (c.events.invariant.ran r w)
       (ran_told _ _ r w _ _ (measures (arc_value c.in-Measure.frame)) _ c.in-Measure.ensures.gives c.post-in-Measure.ensures.posted refl c.next_event.ensures.left);
@@ -35,14 +35,14 @@ events-preserved-in-Measure-2 g c = record {
   left = c.next_event.ensures.left ∙ c.events.invariant.left;
 }
 
-pub events-preserved-in-Measure-3 : goal.events-preserved-in-Measure-3
-events-preserved-in-Measure-3 g c = record {
+pub events-preserved-in-Ok : goal.events-preserved-in-Ok
+events-preserved-in-Ok g c = rw (c.give_back.ensures) (record {
   ran = λ r w.
       ran_more Posted Posted Posted posted_more _ _ _ _ _ _ _ _ _ _ _ _ (c.events.invariant.ran r w)
       (ran_told _ _ r w _ _ (measures (arc_value c.in-Measure.frame)) _ c.in-Measure.ensures.gives c.post-in-Measure.ensures.posted refl c.next_event.ensures.left);
   onward = g.met.G.Gate.joins _ _ _ c.events.invariant.onward c.post-in-Measure.ensures.goes_on;
   left = c.next_event.ensures.left ∙ c.events.invariant.left;
-}
+})
 
 pub events-preserved : goal.events-preserved
 events-preserved g c = record {

@@ -17,8 +17,9 @@ loop-config-preserved-in-Continue-1 c = λ S past shown shows.
 pub loop-config-preserved-in-Measure : goal.loop-config-preserved-in-Measure
 loop-config-preserved-in-Measure c = λ S past shown shows.
     let t = c.loop-config.invariant S past shown shows in
-    Tells-one S past _ _ _ _ _ _ _ (measures (arc_value c.in-Measure.frame)) t (c.in-Measure.ensures.gives (telling_so past t.items) t.shows)
-    (c.in_ok-post_measured-in-Measure.ensures.did (state_after S (pairs_of t.did.deeds)) t.did.shows)
+    rw (c.give_back.ensures)
+    (Tells-one S past _ _ _ _ _ _ _ (measures (arc_value c.in-Measure.frame)) t (c.in-Measure.ensures.gives (telling_so past t.items) t.shows)
+    (c.in_ok-post_measured-in-Measure.ensures.did (state_after S (pairs_of t.did.deeds)) t.did.shows))
 
 pub loop-config-preserved : goal.loop-config-preserved
 loop-config-preserved c = λ S past shown shows.

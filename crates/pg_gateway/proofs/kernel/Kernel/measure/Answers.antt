@@ -1,15 +1,16 @@
-use Rattle.std.proofs.Common.{sym, ap, subst, length, ◌∙◌, arith}
+use Rattle.std.proofs.Common.{◌≡◌, true, false, sym, ap, subst, length, ◌∙◌, arith}
 use Rattle.std.specs.Arc.{arc_value}
 use Rattle.std.specs.Map.{keys_of}
 use Rattle.pg_session.specs.Events.{samples_at}
 use Rattle.pg_gateway.specs.Sharing.{measures}
-use Rattle.pg_gateway.specs.Judging.{samples_in}
+use Rattle.pg_gateway.specs.Judging.{samples_in, taken_of}
 use Rattle.pg_gateway.specs.Placing.{placed_counted, placed_refusal, placed_memory}
 use Rattle.pg_gateway.specs.Taking.{Awaits, Fits, FansOut, measured}
 use Rattle.pg_gateway.specs.Routes.{WhereBit, IsPassed, masks_taken, MasksTellAll}
 use Rattle.pg_gateway.proofs.RouteKept.{masks_length, keys_within, marks_within, measured_passes}
 use Rattle.pg_gateway.proofs.MaskLaws.{measured_told}
-use Rattle.pg_gateway.specs.Frugal.{AllSlots}
+use Rattle.pg_gateway.specs.Frugal.{AllSlots, Spares}
+use Rattle.pg_gateway.specs.Shown.{GatewayValue}
 use Rattle.pg_gateway.proofs.Places.{samples-some}
 use Rattle.pg_gateway.proofs.Counted.{placed_within, counted_placed, memory_placed, refusal_placed}
 use Rattle.pg_gateway.proofs.Fitting.{all_fit_measured}
@@ -128,6 +129,17 @@ returns-in-Err-clause-goes c = λ S h.
     let some = sym (taken_shown m S _ c.judge_shared-some.new.taken.items shown c.judge_shared-some.ensures.taken) ∙ there.2 in
     let counted = c.count_memory.ensures ∙ ap (placed_memory c.self.inside.registry) c.deref-in-Err.ensures.value ∙ ap (λ pmus. placed_memory pmus items) shown.pmus ∙ memory_placed S.pmus items _ placed in
     rw c.in-Err.ensures.memory (measured_memory m S _ c.count_memory.new.registry c.lay_copies_marked.new.subs.entries there.0 there.1 shown some (c.lay_copies_marked.ensures.shows S.subs shown.subs) counted)
+
+pub returns-in-Err-clause-frugal : goal.returns-in-Err-clause-frugal
+returns-in-Err-clause-frugal c = λ S h none spares e.
+    let m = arc_value c.args.frame.now in
+    let xs = c.self.inside.subs.entries in
+    let offer : measured m c.deref-4.result.now ≡ measures m.soc m.quality m.frac (taken_of c.self.inside.registry c.self.inside.last_tick m) =
+    ap (λ l. measures m.soc m.quality m.frac l) (ap (samples_at m) c.deref-4.ensures.value ∙ c.judge_shared-some.ensures.taken) in
+    let inside : AllSlots (Spares (measures m.soc m.quality m.frac (taken_of c.self.inside.registry c.self.inside.last_tick m))) xs =
+    subst (λ (v : GatewayValue). AllSlots (Spares (measures m.soc m.quality m.frac (taken_of v.pmus v.last_tick m))) v.subs) (sym c.self.view_is) spares in
+    let never : false ≡ true = c.in-Err.ensures.needless (subst (λ o. AllSlots (Spares o) xs) (sym offer) inside) in
+    cc never
 
 pub returns-clause-goes : goal.returns-clause-goes
 returns-clause-goes c = λ S h.

@@ -1,4 +1,4 @@
-use Rattle.std.proofs.Common.{sym, ap, ◌∙◌}
+use Rattle.std.proofs.Common.{inl, sym, ap, ◌∙◌}
 use Rattle.std.proofs.lemmas.Result.{err_from_is_err_and}
 use Rattle.pg_session.specs.Events.{announced_at}
 use Rattle.pg_gateway.specs.Sharing.{announces, share}
@@ -38,4 +38,4 @@ returns-clause-lays c =
     let ready = rw c.deref.ensures.value at c.in_ok-copies.ensures.ready in
     lays_some (announces (announced_at c.args.config.now c.args.places.now)) c.args.self.now _ _ c.copies.new.self c.self.view_is c.requires.none
     (ap (λ v. share (announces (announced_at c.args.config.now c.args.places.now)) v.subscriber.own.grants) (sym c.self.view_is) ∙ some)
-    ready c.copies.ensures.own
+    (inl ready) c.copies.ensures.own

@@ -1,4 +1,4 @@
-use Rattle.std.proofs.Common.{sym, ap, subst, arith, ◌∙◌, ◌<◌, length}
+use Rattle.std.proofs.Common.{sym, ap, subst, arith, ◌∙◌}
 use Rattle.std.proofs.lemmas.Result.{err_from_is_err_and}
 use Rattle.std.specs.Arc.{arc_value}
 use Rattle.pg_gateway.specs.Sharing.{share}
@@ -15,75 +15,71 @@ returns-then-not-hold_marked-clause-lays c =
     lays_nothing (measured (arc_value c.args.frame.now) c.args.places.now) c.args.self.now _ c.self.view_is c.requires.none
     (ap (λ v. share (measured (arc_value c.args.frame.now) c.args.places.now) v.subscriber.own.grants) (sym c.self.view_is) ∙ none)
 
-pub copies-requires-2 : goal.copies-requires-2
-copies-requires-2 c =
+pub lay_frame-requires-2 : goal.lay_frame-requires-2
+lay_frame-requires-2 c =
     let held = held_told c.args.masks.now (arc_value c.args.frame.now).config c.args.places.now c.args.bit c.args.self.now _ c.hold_marked.new.held.items c.self.view_is c.hold_marked.ensures.held c.requires.tell in
     let rising = rising_told (arc_value c.args.frame.now).config c.args.places.now c.self.inside.subscriber.own.grants c.hold_marked.new.held.items held c.requires.rising in
     let full = (c.hold_marked.ensures.some c.if-not-hold_marked.false) in
     let some = measured_share (arc_value c.args.frame.now) c.args.places.now c.hold_marked.new.held.items c.self.inside.subscriber.own.grants held rising full in
     let fit = rw (← c.self.view_is) at c.requires.fit in
     record {
-      accepts = record {
-        placed = rw c.deref.ensures.value (record { some = full; rising = rising });
-        own = rw c.deref.ensures.value (fit_at c.self.inside.subscriber _ _ some fit);
-      };
+      places = rw c.deref.ensures.value (record { some = full; rising = rising });
+      held = rw c.deref.ensures.value (fit_at c.self.inside.subscriber _ _ some fit);
     }
 
-pub returns-in_err-copies-2-clause-lays : goal.returns-in_err-copies-2-clause-lays
-returns-in_err-copies-2-clause-lays c =
+pub returns-in_err-lay_frame-2-clause-lays : goal.returns-in_err-lay_frame-2-clause-lays
+returns-in_err-lay_frame-2-clause-lays c =
     let held = held_told c.args.masks.now (arc_value c.args.frame.now).config c.args.places.now c.args.bit c.args.self.now _ c.hold_marked.new.held.items c.self.view_is c.hold_marked.ensures.held c.requires.tell in
     let rising = rising_told (arc_value c.args.frame.now).config c.args.places.now c.self.inside.subscriber.own.grants c.hold_marked.new.held.items held c.requires.rising in
     let some = measured_share (arc_value c.args.frame.now) c.args.places.now c.hold_marked.new.held.items c.self.inside.subscriber.own.grants held rising (c.hold_marked.ensures.some c.if-not-hold_marked.false) in
-    let needless = rw c.deref.ensures.value at c.in_err-copies-2.ensures.needless in
-    let err = err_from_is_err_and c.from_residual-in_err-copies-2.result c.from_residual-in_err-copies-2.ensures.1 in
-    rw (err.1, err.2) (lays_refused (measured (arc_value c.args.frame.now) c.args.places.now) c.args.self.now _ _ _ c.copies-2.new.self c.self.view_is
+    let needless = rw c.deref.ensures.value at c.in_err-lay_frame-2.ensures.needless in
+    let err = err_from_is_err_and c.from_residual-in_err-lay_frame-2.result c.from_residual-in_err-lay_frame-2.ensures.1 in
+    rw (err.1, err.2) (lays_refused (measured (arc_value c.args.frame.now) c.args.places.now) c.args.self.now _ _ _ c.lay_frame-2.new.self c.self.view_is
     (ap (λ v. share (measured (arc_value c.args.frame.now) c.args.places.now) v.subscriber.own.grants) (sym c.self.view_is) ∙ some)
-    c.in_err-copies-2.ensures.memory needless c.copies-2.ensures.own)
+    c.in_err-lay_frame-2.ensures.memory needless c.lay_frame-2.ensures.own)
 
 pub returns-clause-lays : goal.returns-clause-lays
 returns-clause-lays c =
     let held = held_told c.args.masks.now (arc_value c.args.frame.now).config c.args.places.now c.args.bit c.args.self.now _ c.hold_marked.new.held.items c.self.view_is c.hold_marked.ensures.held c.requires.tell in
     let rising = rising_told (arc_value c.args.frame.now).config c.args.places.now c.self.inside.subscriber.own.grants c.hold_marked.new.held.items held c.requires.rising in
     let some = measured_share (arc_value c.args.frame.now) c.args.places.now c.hold_marked.new.held.items c.self.inside.subscriber.own.grants held rising (c.hold_marked.ensures.some c.if-not-hold_marked.false) in
-    let ready = rw c.deref.ensures.value at c.in_ok-copies-2.ensures.ready in
-    lays_some (measured (arc_value c.args.frame.now) c.args.places.now) c.args.self.now _ _ c.copies-2.new.self c.self.view_is c.requires.none
+    let laid = rw c.deref.ensures.value at c.in_ok-lay_frame-2.ensures.laid in
+    lays_some (measured (arc_value c.args.frame.now) c.args.places.now) c.args.self.now _ _ c.lay_frame-2.new.self c.self.view_is c.requires.none
     (ap (λ v. share (measured (arc_value c.args.frame.now) c.args.places.now) v.subscriber.own.grants) (sym c.self.view_is) ∙ some)
-    ready c.copies-2.ensures.own
+    laid c.lay_frame-2.ensures.own
 
-pub copies-requires : goal.copies-requires
-copies-requires c =
-    let held = held_told c.args.masks.now (arc_value c.args.frame.now).config c.args.places.now c.args.bit c.args.self.now _ c.args.places.now c.self.view_is (sym (c.are_marked.ensures.all c.if-are_marked.true c.args.places.now c.requires.masks)) c.requires.tell in
-    let many = c.are_marked.ensures.some c.if-are_marked.true in
-    let full : 0 < length c.args.places.now = omega (arith, many, c.requires.masks) in
+pub lay_frame-requires : goal.lay_frame-requires
+lay_frame-requires c =
+    let common = c.requires.common c.args.bit (sym c.has_bit.ensures ∙ c.if-has_bit.true) in
+    let held = held_told c.args.masks.now (arc_value c.args.frame.now).config c.args.places.now c.args.bit c.args.self.now _ c.args.places.now c.self.view_is (sym common.1) c.requires.tell in
+    let full = common.0 in
     let some = measured_share (arc_value c.args.frame.now) c.args.places.now c.args.places.now c.self.inside.subscriber.own.grants held c.requires.rising full in
     let fit = rw (← c.self.view_is) at c.requires.fit in
     record {
-      accepts = record {
-        placed = record { some = full; rising = c.requires.rising };
-        own = fit_at c.self.inside.subscriber _ _ some fit;
-      };
+      places = record { some = full; rising = c.requires.rising };
+      held = fit_at c.self.inside.subscriber _ _ some fit;
     }
 
-pub returns-in_err-copies-clause-lays : goal.returns-in_err-copies-clause-lays
-returns-in_err-copies-clause-lays c =
-    let held = held_told c.args.masks.now (arc_value c.args.frame.now).config c.args.places.now c.args.bit c.args.self.now _ c.args.places.now c.self.view_is (sym (c.are_marked.ensures.all c.if-are_marked.true c.args.places.now c.requires.masks)) c.requires.tell in
-    let many = c.are_marked.ensures.some c.if-are_marked.true in
-    let full : 0 < length c.args.places.now = omega (arith, many, c.requires.masks) in
+pub returns-in_err-lay_frame-clause-lays : goal.returns-in_err-lay_frame-clause-lays
+returns-in_err-lay_frame-clause-lays c =
+    let common = c.requires.common c.args.bit (sym c.has_bit.ensures ∙ c.if-has_bit.true) in
+    let held = held_told c.args.masks.now (arc_value c.args.frame.now).config c.args.places.now c.args.bit c.args.self.now _ c.args.places.now c.self.view_is (sym common.1) c.requires.tell in
+    let full = common.0 in
     let some = measured_share (arc_value c.args.frame.now) c.args.places.now c.args.places.now c.self.inside.subscriber.own.grants held c.requires.rising full in
     let err = err_from_is_err_and c.from_residual.result c.from_residual.ensures.1 in
-    rw (err.1, err.2) (lays_refused (measured (arc_value c.args.frame.now) c.args.places.now) c.args.self.now _ _ _ c.copies.new.self c.self.view_is
+    rw (err.1, err.2) (lays_refused (measured (arc_value c.args.frame.now) c.args.places.now) c.args.self.now _ _ _ c.lay_frame.new.self c.self.view_is
     (ap (λ v. share (measured (arc_value c.args.frame.now) c.args.places.now) v.subscriber.own.grants) (sym c.self.view_is) ∙ some)
-    c.in_err-copies.ensures.memory c.in_err-copies.ensures.needless c.copies.ensures.own)
+    c.in_err-lay_frame.ensures.memory c.in_err-lay_frame.ensures.needless c.lay_frame.ensures.own)
 
-pub returns-then-are_marked-clause-lays : goal.returns-then-are_marked-clause-lays
-returns-then-are_marked-clause-lays c =
-    let held = held_told c.args.masks.now (arc_value c.args.frame.now).config c.args.places.now c.args.bit c.args.self.now _ c.args.places.now c.self.view_is (sym (c.are_marked.ensures.all c.if-are_marked.true c.args.places.now c.requires.masks)) c.requires.tell in
-    let many = c.are_marked.ensures.some c.if-are_marked.true in
-    let full : 0 < length c.args.places.now = omega (arith, many, c.requires.masks) in
+pub returns-then-has_bit-clause-lays : goal.returns-then-has_bit-clause-lays
+returns-then-has_bit-clause-lays c =
+    let common = c.requires.common c.args.bit (sym c.has_bit.ensures ∙ c.if-has_bit.true) in
+    let held = held_told c.args.masks.now (arc_value c.args.frame.now).config c.args.places.now c.args.bit c.args.self.now _ c.args.places.now c.self.view_is (sym common.1) c.requires.tell in
+    let full = common.0 in
     let some = measured_share (arc_value c.args.frame.now) c.args.places.now c.args.places.now c.self.inside.subscriber.own.grants held c.requires.rising full in
     let o = measured (arc_value c.args.frame.now) c.args.places.now in
     let whole = measured_whole (arc_value c.args.frame.now) c.args.places.now c.args.places.now c.self.inside.subscriber.own.grants held c.requires.rising full (omega arith) in
-    lays_whole o c.args.self.now _ _ c.copies.new.self c.self.view_is c.requires.none
+    lays_whole o c.args.self.now _ _ c.lay_frame.new.self c.self.view_is c.requires.none
     (ap (λ v. share o v.subscriber.own.grants) (sym c.self.view_is) ∙ some)
     (subst (λ v. IsWhole o v.subscriber.own.grants) c.self.view_is whole)
-    c.in_ok-copies.ensures.ready c.copies.ensures.own
+    c.in_ok-lay_frame.ensures.laid c.lay_frame.ensures.own

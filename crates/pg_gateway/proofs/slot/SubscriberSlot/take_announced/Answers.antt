@@ -3,7 +3,7 @@ use Rattle.pg_audit.specs.Noting as audit
 use Rattle.pg_session.specs.Events.{announce, announced_at}
 use Rattle.pg_session.specs.Private.{told}
 use Rattle.pg_gateway.specs.Sharing.{announces, share}
-use Rattle.pg_gateway.proofs.Taking.{announced_none, announced_share, offer_none, offer_some, fit_at, laid_at}
+use Rattle.pg_gateway.proofs.Taking.{announced_none, announced_share, offer_none, offer_some, fit_at, laid_at, announced_ready}
 use Rattle.std.proofs.lemmas.List.{append-nil}
 use Rattle.pg_gateway.proofs.slot.SubscriberSlot.take_announced.Goals as goal
 
@@ -27,7 +27,7 @@ take-requires-clause-ready c =
     let full = (c.hold.ensures.some c.if-not-hold.false) in
     let some = announced_share c.args.config.now c.args.places.now c.hold.new.held.items c.self.inside.subscriber.own.grants c.hold.ensures.held c.hold.ensures.rising full in
     let awaits = rw (← c.self.view_is) at c.requires.awaits in
-    rw c.deref.ensures.value (laid_at c.self.inside.subscriber _ _ some awaits.laid)
+    rw c.deref.ensures.value (announced_ready c.self.inside.subscriber _ (laid_at c.self.inside.subscriber _ _ some awaits.laid))
 
 pub returns-clause-takes : goal.returns-clause-takes
 returns-clause-takes c =

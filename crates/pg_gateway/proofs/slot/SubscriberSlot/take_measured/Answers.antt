@@ -17,53 +17,41 @@ returns-then-not-hold_marked-clause-takes c =
     let none = measured_none (arc_value c.args.frame.now) c.args.places.now c.hold_marked.new.held.items c.self.inside.subscriber.own.grants held (c.hold_marked.ensures.none c.if-not-hold_marked.true) in
     offer_none (measured (arc_value c.args.frame.now) c.args.places.now) c.args.lost c.args.self.now (ap (λ v. share (measured (arc_value c.args.frame.now) c.args.places.now) v.subscriber.own.grants) (sym c.self.view_is) ∙ none) c.requires.awaits
 
-pub take-requires-clause-accepts : goal.take-requires-clause-accepts
-take-requires-clause-accepts c =
+pub take_frame-requires : goal.take_frame-requires
+take_frame-requires c =
     let awaits = rw (← c.self.view_is) at c.requires.awaits in
     let whole = awaits.whole c.if-self-2.true in
     record {
-      placed = record { some = whole_some (arc_value c.args.frame.now) c.args.places.now c.self.inside.subscriber.own.grants whole; rising = c.requires.rising };
-      own = fit_at c.self.inside.subscriber _ _ whole awaits.fit;
+      places = record { some = whole_some (arc_value c.args.frame.now) c.args.places.now c.self.inside.subscriber.own.grants whole; rising = c.requires.rising };
+      held = fit_at c.self.inside.subscriber _ _ whole awaits.fit;
+      laid = laid_at c.self.inside.subscriber _ _ whole awaits.laid;
     }
-
-pub take-requires-clause-ready : goal.take-requires-clause-ready
-take-requires-clause-ready c =
-    let awaits = rw (← c.self.view_is) at c.requires.awaits in
-    laid_at c.self.inside.subscriber _ _ (awaits.whole c.if-self-2.true) awaits.laid
 
 pub returns-then-self-2-clause-takes : goal.returns-then-self-2-clause-takes
 returns-then-self-2-clause-takes c =
     let o = measured (arc_value c.args.frame.now) c.args.places.now in
     let awaits = rw (← c.self.view_is) at c.requires.awaits in
-    rw (← c.self.view_is) (offer_some o c.args.lost _ _ (measure (arc_value c.args.frame.now).soc (arc_value c.args.frame.now).quality (arc_value c.args.frame.now).frac (samples_at (arc_value c.args.frame.now) c.args.places.now)) (told c.take.result) c.counts.result (awaits.whole c.if-self-2.true) c.take.ensures.takes
-    (λ s h. subst (λ l. audit.ShowsAudit c.self.inside.audit l) (sym (append-nil s.noted)) h.audit) c.counts.ensures.counts (c.counts.ensures.few c.take.ensures.few) c.take.ensures.none)
+    rw (← c.self.view_is) (offer_some o c.args.lost _ _ (measure (arc_value c.args.frame.now).soc (arc_value c.args.frame.now).quality (arc_value c.args.frame.now).frac (samples_at (arc_value c.args.frame.now) c.args.places.now)) (told c.take_frame.result) c.counts.result (awaits.whole c.if-self-2.true) c.take_frame.ensures.takes
+    (λ s h. subst (λ l. audit.ShowsAudit c.self.inside.audit l) (sym (append-nil s.noted)) h.audit) c.counts.ensures.counts (c.counts.ensures.few c.take_frame.ensures.few) c.take_frame.ensures.none)
 
-pub take-requires-2-clause-accepts : goal.take-requires-2-clause-accepts
-take-requires-2-clause-accepts c =
+pub take_frame-requires-2 : goal.take_frame-requires-2
+take_frame-requires-2 c =
     let held = held_told c.args.masks.now (arc_value c.args.frame.now).config c.args.places.now c.args.bit c.args.self.now _ c.hold_marked.new.held.items c.self.view_is c.hold_marked.ensures.held c.requires.tell in
     let rising = rising_told (arc_value c.args.frame.now).config c.args.places.now c.self.inside.subscriber.own.grants c.hold_marked.new.held.items held c.requires.rising in
     let full = (c.hold_marked.ensures.some c.if-not-hold_marked.false) in
     let some = measured_share (arc_value c.args.frame.now) c.args.places.now c.hold_marked.new.held.items c.self.inside.subscriber.own.grants held rising full in
     let awaits = rw (← c.self.view_is) at c.requires.awaits in
     record {
-      placed = rw c.deref.ensures.value (record { some = full; rising = rising });
-      own = rw c.deref.ensures.value (fit_at c.self.inside.subscriber _ _ some awaits.fit);
+      places = rw c.deref.ensures.value (record { some = full; rising = rising });
+      held = rw c.deref.ensures.value (fit_at c.self.inside.subscriber _ _ some awaits.fit);
+      laid = rw c.deref.ensures.value (laid_at c.self.inside.subscriber _ _ some awaits.laid);
     }
-
-pub take-requires-2-clause-ready : goal.take-requires-2-clause-ready
-take-requires-2-clause-ready c =
-    let held = held_told c.args.masks.now (arc_value c.args.frame.now).config c.args.places.now c.args.bit c.args.self.now _ c.hold_marked.new.held.items c.self.view_is c.hold_marked.ensures.held c.requires.tell in
-    let rising = rising_told (arc_value c.args.frame.now).config c.args.places.now c.self.inside.subscriber.own.grants c.hold_marked.new.held.items held c.requires.rising in
-    let full = (c.hold_marked.ensures.some c.if-not-hold_marked.false) in
-    let some = measured_share (arc_value c.args.frame.now) c.args.places.now c.hold_marked.new.held.items c.self.inside.subscriber.own.grants held rising full in
-    let awaits = rw (← c.self.view_is) at c.requires.awaits in
-    rw c.deref.ensures.value (laid_at c.self.inside.subscriber _ _ some awaits.laid)
 
 pub returns-clause-takes : goal.returns-clause-takes
 returns-clause-takes c =
     let held = held_told c.args.masks.now (arc_value c.args.frame.now).config c.args.places.now c.args.bit c.args.self.now _ c.hold_marked.new.held.items c.self.view_is c.hold_marked.ensures.held c.requires.tell in
     let rising = rising_told (arc_value c.args.frame.now).config c.args.places.now c.self.inside.subscriber.own.grants c.hold_marked.new.held.items held c.requires.rising in
     let some = measured_share (arc_value c.args.frame.now) c.args.places.now c.hold_marked.new.held.items c.self.inside.subscriber.own.grants held rising (c.hold_marked.ensures.some c.if-not-hold_marked.false) in
-    let takes = rw c.deref.ensures.value at c.take-2.ensures.takes in
-    rw (← c.self.view_is) (offer_some (measured (arc_value c.args.frame.now) c.args.places.now) c.args.lost _ _ (measure (arc_value c.args.frame.now).soc (arc_value c.args.frame.now).quality (arc_value c.args.frame.now).frac (samples_at (arc_value c.args.frame.now) c.hold_marked.new.held.items)) (told c.take-2.result) c.counts-2.result some takes
-    (λ s h. subst (λ l. audit.ShowsAudit c.self.inside.audit l) (sym (append-nil s.noted)) h.audit) c.counts-2.ensures.counts (c.counts-2.ensures.few c.take-2.ensures.few) c.take-2.ensures.none)
+    let takes = rw c.deref.ensures.value at c.take_frame-2.ensures.takes in
+    rw (← c.self.view_is) (offer_some (measured (arc_value c.args.frame.now) c.args.places.now) c.args.lost _ _ (measure (arc_value c.args.frame.now).soc (arc_value c.args.frame.now).quality (arc_value c.args.frame.now).frac (samples_at (arc_value c.args.frame.now) c.hold_marked.new.held.items)) (told c.take_frame-2.result) c.counts-2.result some takes
+    (λ s h. subst (λ l. audit.ShowsAudit c.self.inside.audit l) (sym (append-nil s.noted)) h.audit) c.counts-2.ensures.counts (c.counts-2.ensures.few c.take_frame-2.ensures.few) c.take_frame-2.ensures.none)
