@@ -158,6 +158,7 @@ impl Align {
     /// Takes a member's data block for a slot, where `place` is the member's in the definition's order. A slot at or below
     /// the last one that left is late, and a second block of a member for a slot is ignored. It asks that the stream is
     /// on, that the member is effective, and that at most the window's slots are open besides this one.
+    #[inline(always)]
     pub fn arrive(&mut self, slot: u64, place: usize, block: SharedBlock) -> Arrived
         requires on { IsTrue self.old.is_on }
         requires effective { IsTrue (slice_index_or self.old.effective place false) }

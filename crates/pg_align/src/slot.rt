@@ -53,6 +53,7 @@ pub(crate) fn count_effective(effective: &[bool]) -> u32
 }
 
 /// Puts a part into its place, unless one is there.
+#[inline(always)]
 #[tactic(auto, using(crate::proofs::Parts::part_steps))]
 fn put_part(parts: &mut [Option<SharedBlock>], place: usize, part: SharedBlock) -> bool
     requires { place < length parts.old }
@@ -109,7 +110,7 @@ pub(crate) fn take_back(lent: &mut bool, spare: &mut Vec<Slot>)
 }
 
 /// Gives up the parts of the last slot, which was lent.
-#[inline(always)]
+#[inline(never)]
 fn give_back(spare: &mut Vec<Slot>)
     ensures len { length spare.new.items ≡ length spare.old.items }
     ensures free { (places : ℕ) → AreBeforeLent places spare.old.items → AreFree places (slots_of spare.new.items) }
@@ -142,6 +143,7 @@ pub(crate) fn free_all(slots: &mut Vec<Slot>, spare: &mut Vec<Slot>)
 
 /// The place of the first slot whose number is not below this one, looked for from the newest end: most arrivals are for
 /// the newest slot or one near it.
+#[inline(never)]
 fn first_from(slots: &[Slot], number: u64) -> usize
     requires rising { AreRising (slots_of slots.now) }
     ensures place { result ≡ count_below number (slots_of slots.now) }
@@ -155,6 +157,7 @@ fn first_from(slots: &[Slot], number: u64) -> usize
 }
 
 /// Where a slot stands among the open ones, or else where it would.
+#[inline(always)]
 fn place_of(slots: &[Slot], number: u64) -> Result<usize, usize>
     requires rising { AreRising (slots_of slots.now) }
     ensures stands { IfOk result (λ at. StandsAt number (slots_of slots.now) at) }
@@ -180,6 +183,7 @@ fn place_of(slots: &[Slot], number: u64) -> Result<usize, usize>
 }
 
 /// Puts a part into the slot at `at`, unless one is there.
+#[inline(always)]
 #[tactic(auto, using(crate::proofs::Parts::part_steps))]
 fn add_part(slots: &mut Vec<Slot>, at: usize, place: usize, part: SharedBlock) -> bool
     requires within { at < vec_len slots.old }
@@ -205,6 +209,7 @@ fn add_part(slots: &mut Vec<Slot>, at: usize, place: usize, part: SharedBlock) -
 }
 
 /// Opens a slot at `at` with one part, in places that were free: its member's is missing no longer.
+#[inline(never)]
 #[tactic(auto, using(crate::proofs::Parts::part_steps))]
 fn open_slot(slots: &mut Vec<Slot>, at: usize, mut fresh: Slot, place: usize, part: SharedBlock)
     requires room { vec_len slots.old < vec_capacity slots.old }
@@ -248,6 +253,7 @@ fn told(kept: bool) -> Arrived
 
 /// Puts a part of a slot into its place, and opens the slot if it is not open: each slot has that many places. Nothing
 /// changes if a part is there, or if the slot does not come after the last one that left, as all that are open do.
+#[inline(always)]
 pub(crate) fn add_arrival(
     slots: &mut Vec<Slot>,
     spare: &mut Vec<Slot>,

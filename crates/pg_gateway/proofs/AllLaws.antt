@@ -21,14 +21,13 @@ slots-map P Q f [] all = tt
 slots-map P Q f (x ∷ xs) all = (f x.1 all.0, slots-map P Q f xs all.1)
 
 pub awaits_tick : (soc : ℕ) (v : SlotValue) → HasNone v → Awaits (ticks soc) v
-awaits_tick soc v none = record { fit = tt; laid = inl (record { blocks = none.0.blocks; configs = none.0.configs }); spared = λ is. absurd (true≢false (sym is ∙ none.1)); whole = λ is. absurd (true≢false (sym is ∙ none.2)) }
+awaits_tick soc v none = record { fit = tt; laid = inl (record { blocks = none.0.blocks; configs = none.0.configs }); spared = λ is. absurd (true≢false (sym is ∙ none.1)) }
 
 pub awaits_revoke : (key : PmuKey) (v : SlotValue) → HasNone v → Awaits (revokes key) v
 awaits_revoke key v none = record {
   fit = fits (grants.has_key v.subscriber.own.grants key);
   laid = lays (grants.has_key v.subscriber.own.grants key);
   spared = λ is. absurd (true≢false (sym is ∙ none.1));
-  whole = λ is. absurd (true≢false (sym is ∙ none.2));
 }
   where
     fits : (b : Bool) → IsFit v.subscriber (if b then Some (event.revoke key) else None)

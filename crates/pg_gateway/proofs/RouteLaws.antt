@@ -246,7 +246,6 @@ awaits_passed o v none passed =
       fit = subst (λ x. IsFit v.subscriber x) (sym passed) tt;
       laid = lays_none v.subscriber (share o v.subscriber.own.grants) passed none.0;
       spared = λ _. passed;
-      whole = λ is. absurd (true≢false (sym is ∙ none.2));
     }
 
 -- past the last subscriber no bit is set

@@ -18,7 +18,7 @@ use Rattle.pg_session.specs.Filling.{IsLaidFor}
 use Rattle.pg_session.specs.Steps.{HasNoCopies}
 use Rattle.pg_gateway.specs.Sharing.{SubscriberSlot, Offer, announces, some_announced, some_measured, share, notes_of, frames_in_share, after_share}
 use Rattle.pg_gateway.specs.Shown.{SlotValue, SlotShows}
-use Rattle.pg_gateway.specs.Taking.{measured, part_passes, IsFit, IsLaid, IsWhole, Awaits, Fits, HasNone, LaysShare, TakesShare, TakesOffer, counts_of}
+use Rattle.pg_gateway.specs.Taking.{measured, part_passes, IsFit, IsLaid, Awaits, Fits, HasNone, LaysShare, TakesShare, TakesOffer, counts_of}
 use Rattle.pg_gateway.specs.Frugal.{NeedsNoCopy}
 use Rattle.pg_gateway.proofs.Places.{announced-filter, samples-filter, announced-some, samples-some}
 use Rattle.pg_gateway.proofs.ShareLaws.{Quiet, share_quiet}
@@ -53,43 +53,13 @@ measured_share m ps held grants is rising some =
     ap (some_measured m.soc m.quality m.frac) (sym (samples-filter (has_key grants) m ps)) ∙ ap (λ l. some_measured m.soc m.quality m.frac (samples_at m l)) (sym is)
     ∙ (let there = samples-some m 0 held rising some in rw there.2 refl)
 
--- a list of which all passes a test
-filter_all : (test : ℕ → Bool) (ps : List ℕ) → length (filter test ps) ≤ length ps
-filter_all test [] = omega arith
-filter_all test (p ∷ ps) = by (test p) (filter_all test ps)
-  where
-    by : (b : Bool) → length (filter test ps) ≤ length ps → length (if b then p ∷ filter test ps else filter test ps) ≤ length (p ∷ ps)
-    by true rest = omega arith
-    by false rest = omega arith
-
-filter_same : (test : ℕ → Bool) (ps : List ℕ) → length ps ≤ length (filter test ps) → filter test ps ≡ ps
-filter_same test [] all = refl
-filter_same test (p ∷ ps) all = by (test p) all (λ rest. filter_same test ps rest)
-  where
-    by : (b : Bool) → length (p ∷ ps) ≤ length (if b then p ∷ filter test ps else filter test ps) → (length ps ≤ length (filter test ps) → filter test ps ≡ ps)
-        → (if b then p ∷ filter test ps else filter test ps) ≡ p ∷ ps
-    by true all rest = ap (λ l. p ∷ l) (rest (omega arith))
-    by false all rest = let few = filter_all test ps in absurd (omega arith)
-
--- a frame whose blocks are granted, all that are offered
-pub measured_whole : (m : Measurement) (ps held : List ℕ) (grants : List PmuKey) → held ≡ filter (λ i. part_passes (has_key grants) m.config (slice_get m.config.parts i)) ps
-    → AreRising 0 (length m.config.parts) held → 0 < length held → length ps ≤ length held → IsWhole (measured m ps) grants
-measured_whole m ps held grants is rising some all =
-    let same : held ≡ ps = is ∙ filter_same (λ i. part_passes (has_key grants) m.config (slice_get m.config.parts i)) ps (subst (λ l. length ps ≤ length l) is all) in
-    measured_share m ps held grants is rising some ∙ ap (λ l. Some (event.measure m.soc m.quality m.frac (samples_at m l))) same
-
-none_is_some : {A : Type 0} {x : Happening} → None ≡ Some x → A
+pub none_is_some : {A : Type 0} {x : Happening} → None ≡ Some x → A
 none_is_some e = cc
 
--- some of a frame's blocks are offered, where a share is whole
-pub whole_some : (m : Measurement) (ps : List ℕ) (grants : List PmuKey) → IsWhole (measured m ps) grants → 0 < length ps
-whole_some m [] grants whole = none_is_some whole
-whole_some m (p ∷ ps) grants whole = omega arith
-
--- nothing else than a frame is whole
-pub not_whole : (b : Bool) → (b ≡ true → ⊥) → b ≡ false
-not_whole true never = absurd (never refl)
-not_whole false never = refl
+-- what is never so
+pub not_true : (b : Bool) → (b ≡ true → ⊥) → b ≡ false
+not_true true never = absurd (never refl)
+not_true false never = refl
 
 -- a subscriber that has no share
 pub none_taken : (o : Offer) (lost : Bool) (v : SlotValue) (s : SubscriberSlot) → SlotShows v s → share o v.subscriber.own.grants ≡ None → TakesShare o lost 0 0 s v
@@ -175,7 +145,16 @@ lays_nothing o old inner is none nothing = record {
   memory = tt;
   needless = λ _. refl;
   spared = λ _. nothing;
-  whole = λ whole. absurd (true≢false (sym whole ∙ ap (λ (v : SlotValue). v.whole) is ∙ none.2));
+  own = ap (λ (v : SlotValue). v.subscriber.own) is;
+  audit = ap (λ (v : SlotValue). v.audit) is;
+}
+
+pub lays_no_share : (o : Offer) (old inner : SlotValue) → inner ≡ old → HasNone old → share o old.subscriber.own.grants ≡ None → LaysShare o old (Ok tt) inner
+lays_no_share o old inner is none nothing = record {
+  laid = lays_none inner.subscriber _ nothing (subst (λ (v : SlotValue). HasNoCopies v.subscriber) (sym is) none.0);
+  memory = tt;
+  needless = λ _. refl;
+  spared = λ _. nothing;
   own = ap (λ (v : SlotValue). v.subscriber.own) is;
   audit = ap (λ (v : SlotValue). v.audit) is;
 }
@@ -187,21 +166,6 @@ lays_some o old inner x after is none some laid own = record {
   memory = tt;
   needless = λ _. refl;
   spared = λ spared. absurd (true≢false (sym spared ∙ ap (λ (v : SlotValue). v.spared) is ∙ none.1));
-  whole = λ whole. absurd (true≢false (sym whole ∙ ap (λ (v : SlotValue). v.whole) is ∙ none.2));
-  own = own ∙ ap (λ (v : SlotValue). v.subscriber.own) is;
-  audit = ap (λ (v : SlotValue). v.audit) is;
-}
-
--- it lays copies for all that is offered of a frame
-pub lays_whole : (o : Offer) (old inner : SlotValue) (x : Happening) (after : SubscriberValue) → inner ≡ old → HasNone old → share o old.subscriber.own.grants ≡ Some x
-    → IsWhole o old.subscriber.own.grants → IsLaidFor after x → after.own ≡ inner.subscriber.own
-    → LaysShare o old (Ok tt) (record inner { subscriber = after; whole = true })
-lays_whole o old inner x after is none some whole laid own = record {
-  laid = lays after _ x some laid;
-  memory = tt;
-  needless = λ _. refl;
-  spared = λ spared. absurd (true≢false (sym spared ∙ ap (λ (v : SlotValue). v.spared) is ∙ none.1));
-  whole = λ _. whole;
   own = own ∙ ap (λ (v : SlotValue). v.subscriber.own) is;
   audit = ap (λ (v : SlotValue). v.audit) is;
 }
@@ -213,7 +177,6 @@ lays_refused o old inner x r after is some memory needless own = record {
   memory = memory;
   needless = λ needs. needless (subst (λ (v : SlotValue). NeedsNone v.subscriber x) (sym is) (needless_at old.subscriber _ x some needs));
   spared = tt;
-  whole = tt;
   own = own ∙ ap (λ (v : SlotValue). v.subscriber.own) is;
   audit = ap (λ (v : SlotValue). v.audit) is;
 }
@@ -243,14 +206,13 @@ fit_same v w None same fit = tt
 fit_same v w (Some x) same fit = subst (λ own. IsFor own x) (sym same) fit
 
 pub awaits_laid : (o : Offer) (v w : SlotValue) → w.subscriber.own ≡ v.subscriber.own → Fits o v → IsLaid w.subscriber (share o v.subscriber.own.grants)
-    → (w.spared ≡ true → share o v.subscriber.own.grants ≡ None) → (w.whole ≡ true → IsWhole o v.subscriber.own.grants) → Awaits o w
-awaits_laid o v w same fit laid spared whole =
+    → (w.spared ≡ true → share o v.subscriber.own.grants ≡ None) → Awaits o w
+awaits_laid o v w same fit laid spared =
     let grants : v.subscriber.own.grants ≡ w.subscriber.own.grants = ap (λ (own : Own). own.grants) (sym same) in
     record {
       fit = subst (λ g. IsFit w.subscriber (share o g)) grants (fit_same v.subscriber w.subscriber (share o v.subscriber.own.grants) same fit);
       laid = subst (λ g. IsLaid w.subscriber (share o g)) grants laid;
       spared = λ is. subst (λ g. share o g ≡ None) grants (spared is);
-      whole = λ is. subst (λ g. IsWhole o g) grants (whole is);
     }
 
 pub shows_kept : (v w : SlotValue) (s : SubscriberSlot) → w.subscriber.own ≡ v.subscriber.own → w.audit ≡ v.audit → SlotShows v s → SlotShows w s
@@ -259,3 +221,19 @@ shows_kept v w s own noted shown =
       subscriber = subst (λ p. OwnShows p s.own) (sym own) shown.subscriber;
       audit = subst (λ a. audit.ShowsAudit a s.noted) (sym noted) shown.audit;
     }
+
+-- one that has no share is spared no more
+pub offer_cleared : (o : Offer) (lost : Bool) (old inner : SlotValue) → inner ≡ old → share o old.subscriber.own.grants ≡ None → Awaits o old
+    → TakesOffer o lost old (0, 0) (record inner { spared = false })
+offer_cleared o lost old inner is none awaits = record {
+  shares = λ s h.
+      let taken = none_taken o lost old s h none in
+      record {
+        count = taken.count;
+        none_kept = taken.none_kept;
+        shows = shows_kept old (record inner { spared = false }) _ (ap (λ (v : SlotValue). v.subscriber.own) is) (ap (λ (v : SlotValue). v.audit) is) taken.shows;
+      };
+  few = omega arith;
+  kept = omega arith;
+  none = subst (λ (v : SlotValue). HasNoCopies v.subscriber) (sym is) (laid_none old.subscriber _ none awaits.laid);
+}

@@ -1,5 +1,5 @@
 -- Which subscribers hold a PMU, as the bits of a number: subscriber j's is bit j.
-use Rattle.std.specs.Prelude.{◌≡◌, ◌<◌, ◌≤◌, ℕ, nat_eq, Bool, true, if◌then◌else◌, List, [], ◌∷◌, ◌++◌, length, filter, get_or, slice_get, Option, Some, None}
+use Rattle.std.specs.Prelude.{◌≡◌, ◌<◌, ◌≤◌, ℕ, suc, nat_eq, Bool, true, false, if◌then◌else◌, List, [], ◌∷◌, ◌++◌, length, filter, get_or, slice_get, Option, Some, None}
 use Rattle.std.specs.Int.{bit_at}
 use Rattle.std.specs.Map.{keys_of, values_of}
 use Rattle.pg_wire.specs.declared.ids.PmuKey.{PmuKey}
@@ -51,23 +51,41 @@ abbrev pub masks_taken : List ℕ → List (ℕ × Option Refusal) → List ℕ
 masks_taken masks [] = []
 masks_taken masks (b ∷ blocks) = mask_where b.1 (get_or masks b.0 0) ++ masks_taken masks blocks
 
--- of these places, each with a mask, those whose mask has a subscriber's bit set
-abbrev pub places_marked : ℕ → List ℕ → List ℕ → List ℕ
-places_marked j [] masks = []
-places_marked j (p ∷ places) [] = []
-places_marked j (p ∷ places) (n ∷ masks) = (if nat_eq (bit_at n j) 1 then p ∷ [] else []) ++ places_marked j places masks
+-- of these places, those whose bits are set in a number: the first one's is bit k
+abbrev pub places_at : ℕ → ℕ → List ℕ → List ℕ
+places_at n k [] = []
+places_at n k (p ∷ places) = (if nat_eq (bit_at n k) 1 then p ∷ [] else []) ++ places_at n (suc k) places
 
--- Where a bit is set in this number, there are places, and the mask of each of them has it set.
-abbrev pub IsCommon : ℕ → List ℕ → List ℕ → Type 0
-IsCommon common masks places = (j : ℕ) → nat_eq (bit_at common j) 1 ≡ true → (0 < length places) × (places_marked j places masks ≡ places)
+-- the whole of these places, or those whose bits are set in a number
+abbrev pub places_held : Bool → ℕ → List ℕ → List ℕ
+places_held true n places = places
+places_held false n places = places_at n 0 places
 
--- By the masks of these places of a source's PMUs, those that subscriber j holds are those that it is granted.
-abbrev pub MasksTell : List ℕ → Source → List ℕ → ℕ → SlotValue → Type 0
-MasksTell masks source places j v =
-    places_marked j places masks ≡ filter (λ i. part_passes (has_key v.subscriber.own.grants) source (slice_get source.parts i)) places
+-- the whole of these places, or the one of them, or those that are held
+abbrev pub share_in : Bool → Option ℕ → List ℕ → List ℕ → List ℕ
+share_in true one places held = places
+share_in false None places held = held
+share_in false (Some i) places held = get_or places i 0 ∷ []
 
-abbrev pub MasksTellAll : List ℕ → Source → List ℕ → List (ℕ × SlotValue) → Type 0
-MasksTellAll masks source places entries = (j : ℕ) (v : SlotValue) → slice_get (values_of entries) j ≡ Some v → MasksTell masks source places j v
+-- By the whole or the number, the places of a source's PMUs that a subscriber holds are those that it is granted.
+pub record TellsShare (whole : Bool) (n : ℕ) (source : Source) (places : List ℕ) (v : SlotValue) : Type 0 where
+  pub bits : whole ≡ false → HasBits (length places) n
+  pub held : places_held whole n places
+      ≡ filter (λ i. part_passes (has_key v.subscriber.own.grants) source (slice_get source.parts i)) places
+
+-- So it is for each marked subscriber: it holds the whole where its bit is set in `common`, and else its number tells.
+abbrev pub SharesTold : ℕ → List ℕ → Source → List ℕ → ℕ → List (ℕ × SlotValue) → Type 0
+SharesTold common turned source places marks entries =
+    (j : ℕ) (v : SlotValue) → slice_get (values_of entries) j ≡ Some v → bit_at marks j ≡ 1
+    → TellsShare (nat_eq (bit_at common j) 1) (get_or turned j 0) source places v
+
+-- where a bit is set in `common`, each mask has it set
+abbrev pub IsCommon : ℕ → List ℕ → Type 0
+IsCommon common masks = (j : ℕ) → nat_eq (bit_at common j) 1 ≡ true → (i : ℕ) → i < length masks → nat_eq (bit_at (get_or masks i 0) j) 1 ≡ true
+
+-- The masks are turned for the subscribers of some bits: what is bit j of mask i, is bit i of number j.
+abbrev pub IsTurned : ℕ → List ℕ → List ℕ → Type 0
+IsTurned some masks turned = (j : ℕ) → bit_at some j ≡ 1 → (i : ℕ) → bit_at (get_or turned j 0) i ≡ bit_at (get_or masks i 0) j
 
 -- the masks that are kept, and whether nothing happened since that may have changed who holds what
 pub record RoutesValue : Type 0 where

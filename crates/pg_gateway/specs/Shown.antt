@@ -11,13 +11,11 @@ use Rattle.pg_gateway.specs.Sharing.{SubscriberSlot}
 use Rattle.pg_gateway.specs.State.{SharedMachine, May, next}
 use Rattle.pg_gateway.specs.Related.{Related}
 
--- A subscriber with its audit; whether it is spared the event that is under way, which does not concern it; and whether that is a
--- frame of whose blocks it is granted all that were taken.
+-- A subscriber with its audit, and whether it is spared the event that is under way, which does not concern it.
 pub record SlotValue : Type 0 where
   pub subscriber : SubscriberValue
   pub audit : AuditValue
   pub spared : Bool
-  pub whole : Bool
 
 -- whether something waits to be handed out to a subscriber, who may not be there
 abbrev pub slot_waits : Option SlotValue → Bool

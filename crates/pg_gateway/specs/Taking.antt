@@ -119,18 +119,10 @@ abbrev pub IsLaid : SubscriberValue → Option Happening → Type 0
 IsLaid v None = HasNoCopies v
 IsLaid v (Some x) = IsLaidFor v x
 
--- Its share of a frame is all that is offered of it.
-abbrev pub IsWhole : Offer → List PmuKey → Type 0
-IsWhole (measures soc quality frac samples) grants = share (measures soc quality frac samples) grants ≡ Some (event_of.measure soc quality frac samples)
-IsWhole (revokes key) grants = ⊥
-IsWhole (announces list) grants = ⊥
-IsWhole (ticks soc) grants = ⊥
-
 pub record Awaits (o : Offer) (v : SlotValue) : Type 0 where
   pub fit : IsFit v.subscriber (share o v.subscriber.own.grants)
   pub laid : IsLaid v.subscriber (share o v.subscriber.own.grants)
   pub spared : v.spared ≡ true → share o v.subscriber.own.grants ≡ None
-  pub whole : v.whole ≡ true → IsWhole o v.subscriber.own.grants
 
 -- One subscriber took its share.
 pub record TakesShare (o : Offer) (lost : Bool) (made kept : ℕ) (s : SubscriberSlot) (v : SlotValue) : Type 0 where
@@ -158,19 +150,18 @@ counts_of (handed bytes begun gap) = (0, 0)
 
 -- no copies lie ready, and nothing is known of its share; its share is as it asks it to be
 abbrev pub HasNone : SlotValue → Type 0
-HasNone v = HasNoCopies v.subscriber × (v.spared ≡ false) × (v.whole ≡ false)
+HasNone v = HasNoCopies v.subscriber × (v.spared ≡ false)
 
 abbrev pub Fits : Offer → SlotValue → Type 0
 Fits o v = IsFit v.subscriber (share o v.subscriber.own.grants)
 
 -- A subscriber laid the copies that its share needs, or memory was refused; where it needs none, it was not. A subscriber that
--- is spared has no share, and one whose share is noted as whole has all of the frame. Nothing that it shows changed.
+-- is spared has no share. Nothing that it shows changed.
 pub record LaysShare (o : Offer) (old : SlotValue) (result : Result Unit Refusal) (new : SlotValue) : Type 0 where
   pub laid : IfOk result (λ u. IsLaid new.subscriber (share o old.subscriber.own.grants))
   pub memory : IfErr result (λ r. r ≡ NoMemory)
   pub needless : Spares o old → IsOk result
   pub spared : IfOk result (λ u. new.spared ≡ true → share o old.subscriber.own.grants ≡ None)
-  pub whole : IfOk result (λ u. new.whole ≡ true → IsWhole o old.subscriber.own.grants)
   pub own : new.subscriber.own ≡ old.subscriber.own
   pub audit : new.audit ≡ old.audit
 

@@ -84,6 +84,8 @@ impl Gateway {
     /// Takes one event: an atomic step of the shared machine.
     ///
     /// A drain is answered with a drain's reply, and a buffer as long as the event's; all other events without a buffer.
+    // Inlined, the reply to a data frame is made where it lies, and not filled and moved.
+    #[inline(always)]
     pub fn step(&mut self, event: Event) -> Reply
         ensures goes { Goes self.old (occurrence event) (told result) self.new }
         ensures alike { LeavesAlike self.old (occurrence event) (told result) }

@@ -50,7 +50,7 @@ use std::sync::Arc;
 const MOST_PMUS: usize = 256;
 
 /// The most subscribers.
-const MOST_SUBS: usize = 64;
+pub(crate) const MOST_SUBS: usize = 64;
 
 /// The most blocks of a frame.
 const MOST_BLOCKS: usize = 16;
@@ -65,8 +65,8 @@ pub(crate) struct Kernel {
     // Room for the places of a frame's blocks: those that were taken, and of them those that a subscriber holds.
     taken: Vec<usize>,
     held: Vec<usize>,
-    // And for the masks of who holds each of those that were taken.
-    masks: Vec<u64>,
+    // And for which of them each subscriber holds, as the bits of a number.
+    turned: [u16; MOST_SUBS],
     // And for what became of them: where their PMUs stand in the registry, and why a block is refused, if it is.
     judged: Vec<(usize, Option<Refusal>)>,
     // The slot and the stamp that were found last, for streams of one rate.
@@ -88,7 +88,7 @@ impl Model for Kernel {
 
     ghost view = { λ g. record { pmus = g.registry; subs = g.subs.entries; last_tick = g.last_tick } };
 
-    ghost invariant = { λ g. (index_map_len g.subs ≤ 64) × AllSlots HasNone g.subs.entries × (16 ≤ vec_capacity g.taken) × (16 ≤ vec_capacity g.held) × (16 ≤ vec_capacity g.masks) × (16 ≤ vec_capacity g.judged) × (g.copies.capacity ≡ 16) };
+    ghost invariant = { λ g. (index_map_len g.subs ≤ 64) × AllSlots HasNone g.subs.entries × (16 ≤ vec_capacity g.taken) × (16 ≤ vec_capacity g.held) × (16 ≤ vec_capacity g.judged) × (g.copies.capacity ≡ 16) };
 }
 
 impl Kernel {
@@ -104,7 +104,7 @@ impl Kernel {
             last_tick: None,
             taken: Vec::with_capacity(alloc, MOST_BLOCKS)?,
             held: Vec::with_capacity(alloc, MOST_BLOCKS)?,
-            masks: Vec::with_capacity(alloc, MOST_BLOCKS)?,
+            turned: [0; MOST_SUBS],
             judged: Vec::with_capacity(alloc, MOST_BLOCKS)?,
             stamps: Stamps::new(),
             near: 0,
@@ -380,14 +380,14 @@ impl Kernel {
             return Err(first_refusal(&self.judged));
         }
         routes.refresh(&self.registry, &self.subs);
-        let marks = routes.union_of(&self.judged);
-        routes.masks_of(&self.judged, &mut self.masks);
+        let (marks, common) = routes.shares_of(&self.judged, &mut self.turned);
         match lay_copies_marked(
             &mut self.subs,
             marks,
             frame,
             &self.taken,
-            &self.masks,
+            common,
+            &self.turned,
             &mut self.held,
             &mut self.stamps,
         ) {
@@ -403,7 +403,8 @@ impl Kernel {
             marks,
             frame,
             &self.taken,
-            &self.masks,
+            common,
+            &self.turned,
             &mut self.held,
             &mut self.stamps,
         );

@@ -21,6 +21,7 @@ impl Machine for Gateway {
 
     ghost may = { λ calls event reply. MayCall calls event reply };
 
+    #[inline(always)]
     fn step(&mut self, event: Event) -> Reply {
         Gateway::step(self, event)
     }

@@ -1,6 +1,7 @@
 //! A data frame taken by marked subscribers alone.
 
-ghost use Rattle.std.specs.Prelude.{◌≡◌, ◌≤◌, ℕ, List, length, vec_capacity, IfOk, IfErr, IsOk};
+ghost use Rattle.std.specs.Prelude.{◌≡◌, ◌<◌, ◌≤◌, ℕ, List, nat_eq, length, vec_capacity, IfOk, IfErr, IsOk};
+ghost use Rattle.std.specs.Int.{bit_at};
 ghost use Rattle.std.specs.Arc.{arc_value};
 ghost use Rattle.indexmap.specs.IndexMap.{index_map_len};
 ghost use Rattle.pg_session.specs.Ready.{AreRising};
@@ -9,9 +10,10 @@ ghost use Rattle.pg_gateway.specs.Sharing.{SubscriberSlots};
 ghost use Rattle.pg_gateway.specs.Shown.{SlotShows};
 ghost use Rattle.pg_gateway.specs.Taking.{measured, Awaits, HasNone, Fits, FansOut};
 ghost use Rattle.pg_gateway.specs.Frugal.{AllSlots, Spares};
-ghost use Rattle.pg_gateway.specs.Routes.{WhereBit, HasBits, IsCommon, IsPassed, MasksTellAll};
+ghost use Rattle.pg_gateway.specs.Routes.{WhereBit, HasBits, IsPassed, SharesTold};
 
 use crate::fan::forget_all;
+use crate::kernel::MOST_SUBS;
 use crate::slot::SubscriberSlot;
 use indexmap::IndexMap;
 use pg_data::DataFrame;
@@ -19,22 +21,24 @@ use pg_outcfg::Stamps;
 use pg_wire::{Refusal, SubId};
 use std::sync::Arc;
 
-/// Each marked subscriber takes its share, in their order. The frame is nothing to the others. The masks tell who holds each block.
+/// Each marked subscriber takes its share, in their order. The frame is nothing to the others. The bits of those that hold the
+/// whole of these places are common to them, and the others' numbers have the bits of those that they hold.
 pub(crate) fn fan_out_marked(
     subs: &mut IndexMap<SubId, SubscriberSlot>,
     marks: u64,
     frame: &Arc<DataFrame>,
     places: &[usize],
-    masks: &[u64],
+    common: u64,
+    turned: &[u16; MOST_SUBS],
     held: &mut Vec<usize>,
     stamps: &mut Stamps,
 ) -> (u64, u64)
     requires few { index_map_len subs.old ≤ 64 }
     requires bits { HasBits (index_map_len subs.old) marks }
     requires rising { AreRising 0 (length (arc_value frame.now).config.parts) places.now }
-    requires masks { length masks.now ≡ length places.now }
     requires places { length places.now ≤ 16 }
-    requires tell { MasksTellAll masks.now (arc_value frame.now).config places.now subs.old.entries }
+    requires some { 0 < length places.now }
+    requires tell { SharesTold common turned.now (arc_value frame.now).config places.now marks subs.old.entries }
     requires room { 16 ≤ vec_capacity held.old }
     requires awaits { WhereBit 1 marks (Awaits (measured (arc_value frame.now) places.now)) subs.old.entries }
     requires passed { WhereBit 0 marks (IsPassed (measured (arc_value frame.now) places.now)) subs.old.entries }
@@ -53,8 +57,10 @@ pub(crate) fn fan_out_marked(
     'marked: while left != 0 {
         let bit = left.trailing_zeros();
         left &= !(1u64 << bit);
+        let whole = has_bit(common, bit);
+        let number = u64::from(turned[bit as usize]);
         let (more, more_kept) = subs[bit as usize].take_measured(
-            frame, places, masks, bit, held, lost, stamps,
+            frame, places, whole, number, held, lost, stamps,
         );
         made += more;
         kept += more_kept;
@@ -75,22 +81,23 @@ pub(crate) fn lay_copies_marked(
     marks: u64,
     frame: &Arc<DataFrame>,
     places: &[usize],
-    masks: &[u64],
+    common: u64,
+    turned: &[u16; MOST_SUBS],
     held: &mut Vec<usize>,
     stamps: &mut Stamps,
 ) -> Result<(), Refusal>
     requires bits { HasBits (index_map_len subs.old) marks }
     requires rising { AreRising 0 (length (arc_value frame.now).config.parts) places.now }
-    requires masks { length masks.now ≡ length places.now }
     requires places { length places.now ≤ 16 }
-    requires tell { MasksTellAll masks.now (arc_value frame.now).config places.now subs.old.entries }
+    requires some { 0 < length places.now }
+    requires tell { SharesTold common turned.now (arc_value frame.now).config places.now marks subs.old.entries }
     requires room { 16 ≤ vec_capacity held.old }
     requires none { AllSlots HasNone subs.old.entries }
     requires fits { AllSlots (Fits (measured (arc_value frame.now) places.now)) subs.old.entries }
     requires passed { WhereBit 0 marks (IsPassed (measured (arc_value frame.now) places.now)) subs.old.entries }
     ensures laid { IfOk result (λ u. WhereBit 1 marks (Awaits (measured (arc_value frame.now) places.now)) subs.new.entries) }
     ensures passed { IfOk result (λ u. WhereBit 0 marks (IsPassed (measured (arc_value frame.now) places.now)) subs.new.entries) }
-    ensures tell { IfOk result (λ u. MasksTellAll masks.now (arc_value frame.now).config places.now subs.new.entries) }
+    ensures tell { IfOk result (λ u. SharesTold common turned.now (arc_value frame.now).config places.now marks subs.new.entries) }
     ensures passed_none { IfOk result (λ u. WhereBit 0 marks HasNone subs.new.entries) }
     ensures none { IfErr result (λ refusal. AllSlots HasNone subs.new.entries) }
     ensures memory { IfErr result (λ refusal. refusal ≡ Refusal.NoMemory) }
@@ -99,8 +106,7 @@ pub(crate) fn lay_copies_marked(
     ensures len { index_map_len subs.new ≡ index_map_len subs.old }
     ensures room { 16 ≤ vec_capacity held.new }
 {
-    let common = common_of(masks);
-    match lay_marked(subs, marks, frame, places, masks, common, held, stamps) {
+    match lay_marked(subs, marks, frame, places, common, turned, held, stamps) {
         Ok(_) => Ok(()),
         Err(refusal) => {
             forget_all(subs);
@@ -109,18 +115,12 @@ pub(crate) fn lay_copies_marked(
     }
 }
 
-/// The bits that are set in each of the masks: none, where there are no masks.
-fn common_of(masks: &[u64]) -> u64
-    ensures { (places : List ℕ) → length masks.now ≡ length places → IsCommon result masks.now places }
+/// Whether a bit of a number is set.
+fn has_bit(number: u64, bit: u32) -> bool
+    requires bit { bit < 64 }
+    ensures { result ≡ nat_eq (bit_at number bit) 1 }
 {
-    if masks.is_empty() {
-        return 0;
-    }
-    let mut common = u64::MAX;
-    for mask in masks {
-        common &= *mask;
-    }
-    common
+    (number >> bit) & 1 == 1
 }
 
 /// Each marked subscriber lays the copies that its share needs, as far as memory goes. The bits of those that hold all blocks are
@@ -130,24 +130,23 @@ fn lay_marked(
     marks: u64,
     frame: &Arc<DataFrame>,
     places: &[usize],
-    masks: &[u64],
     common: u64,
+    turned: &[u16; MOST_SUBS],
     held: &mut Vec<usize>,
     stamps: &mut Stamps,
 ) -> Result<(), Refusal>
     requires bits { HasBits (index_map_len subs.old) marks }
     requires rising { AreRising 0 (length (arc_value frame.now).config.parts) places.now }
-    requires masks { length masks.now ≡ length places.now }
     requires places { length places.now ≤ 16 }
-    requires common { IsCommon common masks.now places.now }
-    requires tell { MasksTellAll masks.now (arc_value frame.now).config places.now subs.old.entries }
+    requires some { 0 < length places.now }
+    requires tell { SharesTold common turned.now (arc_value frame.now).config places.now marks subs.old.entries }
     requires room { 16 ≤ vec_capacity held.old }
     requires none { AllSlots HasNone subs.old.entries }
     requires fits { AllSlots (Fits (measured (arc_value frame.now) places.now)) subs.old.entries }
     requires passed { WhereBit 0 marks (IsPassed (measured (arc_value frame.now) places.now)) subs.old.entries }
     ensures laid { IfOk result (λ u. WhereBit 1 marks (Awaits (measured (arc_value frame.now) places.now)) subs.new.entries) }
     ensures passed { IfOk result (λ u. WhereBit 0 marks (IsPassed (measured (arc_value frame.now) places.now)) subs.new.entries) }
-    ensures tell { IfOk result (λ u. MasksTellAll masks.now (arc_value frame.now).config places.now subs.new.entries) }
+    ensures tell { IfOk result (λ u. SharesTold common turned.now (arc_value frame.now).config places.now marks subs.new.entries) }
     ensures passed_none { IfOk result (λ u. WhereBit 0 marks HasNone subs.new.entries) }
     ensures memory { IfErr result (λ refusal. refusal ≡ Refusal.NoMemory) }
     ensures needless { AllSlots (Spares (measured (arc_value frame.now) places.now)) subs.old.entries → IsOk result }
@@ -159,7 +158,9 @@ fn lay_marked(
     'marked: while left != 0 {
         let bit = left.trailing_zeros();
         left &= !(1u64 << bit);
-        subs[bit as usize].lay_measured(frame, places, masks, common, bit, held, stamps)?;
+        let whole = has_bit(common, bit);
+        let number = u64::from(turned[bit as usize]);
+        subs[bit as usize].lay_measured(frame, places, whole, number, held, stamps)?;
     }
     Ok(())
 }

@@ -1,12 +1,13 @@
 //! Which subscribers hold each registered PMU.
 
-ghost use Rattle.std.specs.Prelude.{◌≡◌, ◌≢◌, ◌<◌, ◌≤◌, ◌+◌, ◌++◌, ℕ, All, None, true, false, get_or, length, vec_len, vec_capacity, if◌then◌else◌, IfOk, IfErr};
+ghost use Rattle.std.specs.Prelude.{◌≡◌, ◌≢◌, ◌<◌, ◌≤◌, ℕ, nat_eq, All, None, true, false, get_or, length, vec_capacity, if◌then◌else◌, IfOk, IfErr};
 ghost use Rattle.std.specs.Int.{bit_at};
 ghost use Rattle.std.specs.Map.{keys_of};
 ghost use Rattle.indexmap.specs.IndexMap.{index_map_len};
 ghost use Rattle.pg_entitle.specs.Grants.{has_key};
-ghost use Rattle.pg_gateway.specs.Routes.{IsMask, AreMasks, AreRoutes, mask_where, masks_taken};
+ghost use Rattle.pg_gateway.specs.Routes.{IsMask, AreMasks, AreRoutes, masks_taken, IsCommon, IsTurned};
 
+use crate::kernel::MOST_SUBS;
 use crate::slot::SubscriberSlot;
 use indexmap::IndexMap;
 use pg_registry::Registry;
@@ -50,27 +51,18 @@ fn with_bit(mask: u64, place: usize, on: bool) -> u64
     mask
 }
 
-/// A number with the bits of another, or not.
-fn with_mask(marks: u64, mask: u64, on: bool) -> u64
-    ensures old { (j : ℕ) → bit_at result j ≡ 0 → bit_at marks j ≡ 0 }
-    ensures more { on ≡ true → (j : ℕ) → bit_at result j ≡ 0 → bit_at mask j ≡ 0 }
-    ensures none { (j : ℕ) → bit_at marks j ≡ 0 → bit_at mask j ≡ 0 → bit_at result j ≡ 0 }
+/// Sets a block's bit in the numbers of those that hold its PMU.
+fn note_holders(turned: &mut [u16; MOST_SUBS], holders: u64, block: usize)
+    requires block { block < 16 }
+    ensures set { (j : ℕ) → bit_at holders j ≡ 1 → bit_at (get_or turned.new j 0) block ≡ 1 }
+    ensures unset { (j : ℕ) → bit_at holders j ≡ 0 → get_or turned.new j 0 ≡ get_or turned.old j 0 }
+    ensures others { (j i : ℕ) → i ≢ block → bit_at (get_or turned.new j 0) i ≡ bit_at (get_or turned.old j 0) i }
 {
-    if on {
-        return marks | mask;
-    }
-    marks
-}
-
-/// Puts a mask behind the others where a block was not refused.
-fn keep_mask(masks: &mut Vec<u64>, mask: u64, refusal: Option<Refusal>)
-    requires room { vec_len masks.old < vec_capacity masks.old }
-    ensures masks { masks.new.items ≡ masks.old.items ++ mask_where refusal mask }
-    ensures few { vec_len masks.new ≤ vec_len masks.old + 1 }
-    ensures room { vec_capacity masks.new ≡ vec_capacity masks.old }
-{
-    if refusal.is_none() {
-        masks.push_reserved(mask);
+    let mut left = holders;
+    'holders: while left != 0 {
+        let holder = left.trailing_zeros();
+        left &= !(1u64 << holder);
+        turned[holder as usize] |= 1u16 << block;
     }
 }
 
@@ -139,30 +131,62 @@ impl Routes {
         }
     }
 
-    /// The subscribers that hold a PMU of a block that was taken.
-    pub(crate) fn union_of(&self, blocks: &[(usize, Option<Refusal>)]) -> u64
-        requires within { All (λ b. b.0 < length self.now.masks) blocks.now }
-        ensures covers { (j : ℕ) → bit_at result j ≡ 0 → All (λ b. b.1 ≡ None → bit_at (get_or self.now.masks b.0 0) j ≡ 0) blocks.now }
-        ensures none { (j : ℕ) → All (λ b. bit_at (get_or self.now.masks b.0 0) j ≡ 0) blocks.now → bit_at result j ≡ 0 }
-    {
-        let mut marks = 0u64;
-        for block in blocks {
-            marks = with_mask(marks, self.masks[block.0], block.1.is_none());
-        }
-        marks
-    }
-
-    /// The masks of the PMUs whose blocks were taken.
-    pub(crate) fn masks_of(&self, blocks: &[(usize, Option<Refusal>)], masks: &mut Vec<u64>)
+    /// The subscribers that hold a PMU of a block that was taken, and those that hold those of all such blocks. For the others of the
+    /// first it is noted which of the blocks those are, as the bits of their numbers.
+    pub(crate) fn shares_of(
+        &self,
+        blocks: &[(usize, Option<Refusal>)],
+        turned: &mut [u16; MOST_SUBS],
+    ) -> (u64, u64)
         requires within { All (λ b. b.0 < length self.now.masks) blocks.now }
         requires few { length blocks.now ≤ 16 }
-        requires room { 16 ≤ vec_capacity masks.old }
-        ensures masks { masks.new.items ≡ masks_taken self.now.masks blocks.now }
-        ensures room { 16 ≤ vec_capacity masks.new }
+        ensures covers { (j : ℕ) → bit_at result.0 j ≡ 0 → All (λ b. b.1 ≡ None → bit_at (get_or self.now.masks b.0 0) j ≡ 0) blocks.now }
+        ensures none { (j : ℕ) → All (λ b. bit_at (get_or self.now.masks b.0 0) j ≡ 0) blocks.now → bit_at result.0 j ≡ 0 }
+        ensures common { IsCommon result.1 (masks_taken self.now.masks blocks.now) }
+        ensures turned { (j : ℕ) → bit_at result.0 j ≡ 1 → nat_eq (bit_at result.1 j) 1 ≡ false
+            → (i : ℕ) → bit_at (get_or turned.new j 0) i ≡ bit_at (get_or (masks_taken self.now.masks blocks.now) i 0) j }
     {
-        masks.clear();
+        let (marks, common) = self.marks_of(blocks);
+        let some = marks & !common;
+        if some != 0 {
+            self.turn(blocks, some, turned);
+        }
+        (marks, common)
+    }
+
+    /// The subscribers that hold a PMU of a block that was taken, and those that hold those of all such blocks.
+    fn marks_of(&self, blocks: &[(usize, Option<Refusal>)]) -> (u64, u64)
+        requires within { All (λ b. b.0 < length self.now.masks) blocks.now }
+        ensures covers { (j : ℕ) → bit_at result.0 j ≡ 0 → All (λ b. b.1 ≡ None → bit_at (get_or self.now.masks b.0 0) j ≡ 0) blocks.now }
+        ensures none { (j : ℕ) → All (λ b. bit_at (get_or self.now.masks b.0 0) j ≡ 0) blocks.now → bit_at result.0 j ≡ 0 }
+        ensures common { IsCommon result.1 (masks_taken self.now.masks blocks.now) }
+    {
+        let mut marks = 0u64;
+        let mut common = u64::MAX;
         for block in blocks {
-            keep_mask(masks, self.masks[block.0], block.1);
+            if block.1.is_none() {
+                let mask = self.masks[block.0];
+                marks |= mask;
+                common &= mask;
+            }
+        }
+        (marks, common)
+    }
+
+    /// For each of these subscribers the blocks that were taken whose PMUs it holds, as the bits of its number: the one that was
+    /// taken first is the lowest bit.
+    fn turn(&self, blocks: &[(usize, Option<Refusal>)], some: u64, turned: &mut [u16; MOST_SUBS])
+        requires within { All (λ b. b.0 < length self.now.masks) blocks.now }
+        requires few { length blocks.now ≤ 16 }
+        ensures { IsTurned some (masks_taken self.now.masks blocks.now) turned.new }
+    {
+        *turned = [0; MOST_SUBS];
+        let mut taken = 0;
+        for block in blocks {
+            if block.1.is_none() {
+                note_holders(turned, self.masks[block.0] & some, taken);
+                taken += 1;
+            }
         }
     }
 }

@@ -17,10 +17,9 @@ ghost use Rattle.pg_gateway.specs.Sharing.{SubscriberSlot as SlotState, announce
 ghost use Rattle.pg_gateway.specs.State.{added, with_note, noted_as};
 ghost use Rattle.pg_gateway.specs.Shown.{SlotShows, slot_waits};
 ghost use Rattle.pg_gateway.specs.Taking.{Asks, AsksNothing, HasNone, offered, measured, part_passes, IsNoFrame, IsRising, Fits, LaysShare, Awaits, TakesOffer, TakesGrant, counts_of};
-ghost use Rattle.pg_gateway.specs.Routes.{places_marked, IsCommon, MasksTell};
+ghost use Rattle.pg_gateway.specs.Routes.{HasBits, places_at, places_held, share_in, TellsShare};
 
 use crate::asking::code;
-use crate::blocks::keep_place;
 use crate::event::Event;
 use pg_audit::{Audit, Entry, Stats, What};
 use pg_config::{PmuConfig, SourceConfig};
@@ -40,8 +39,6 @@ pub(crate) struct SubscriberSlot {
     audit: Audit,
     // Copies were laid for an event that does not concern it, so that it need not be looked at again.
     spared: bool,
-    // Copies were laid for all blocks of a frame that were taken, so that which of them are granted need not be asked again.
-    whole: bool,
 }
 
 impl Model for SubscriberSlot {
@@ -49,7 +46,7 @@ impl Model for SubscriberSlot {
 
     ghost Value = { SlotValue };
 
-    ghost view = { λ s. record { subscriber = s.subscriber; audit = s.audit; spared = s.spared; whole = s.whole } };
+    ghost view = { λ s. record { subscriber = s.subscriber; audit = s.audit; spared = s.spared } };
 }
 
 impl SubscriberSlot {
@@ -68,7 +65,6 @@ impl SubscriberSlot {
             subscriber: Subscriber::new(alloc, ring, bytes, last)?,
             audit: Audit::new(alloc)?,
             spared: false,
-            whole: false,
         })
     }
 
@@ -77,7 +73,6 @@ impl SubscriberSlot {
         ensures shows { (s : SlotState) → SlotShows self.old s → SlotShows self.new (with_note (what, code) s) }
         ensures subscriber { self.new.subscriber ≡ self.old.subscriber }
         ensures spared { self.new.spared ≡ self.old.spared }
-        ensures whole { self.new.whole ≡ self.old.whole }
     {
         self.audit.note(what, code);
     }
@@ -214,40 +209,33 @@ impl SubscriberSlot {
         Ok(())
     }
 
-    /// Lays the copies of granted PMUs' blocks that its streams need. The masks tell who holds each block, and `common` who holds
-    /// all; its bit is this one. Nothing else changes. The one refusal is `NoMemory`.
+    /// Lays the copies of granted PMUs' blocks that its streams need. It holds the whole of these places, or those whose bits its
+    /// number has. Nothing else changes. The one refusal is `NoMemory`.
     pub(crate) fn lay_measured(
         &mut self,
         frame: &Arc<DataFrame>,
         places: &[usize],
-        masks: &[u64],
-        common: u64,
-        bit: u32,
+        whole: bool,
+        number: u64,
         held: &mut Vec<usize>,
         stamps: &mut Stamps,
     ) -> Result<(), Refusal>
         requires rising { AreRising 0 (length (arc_value frame.now).config.parts) places.now }
-        requires masks { length masks.now ≡ length places.now }
         requires few { length places.now ≤ 16 }
-        requires bit { bit < 64 }
-        requires common { IsCommon common masks.now places.now }
-        requires tell { MasksTell masks.now (arc_value frame.now).config places.now bit self.old }
+        requires some { 0 < length places.now }
+        requires tell { TellsShare whole number (arc_value frame.now).config places.now self.old }
         requires room { 16 ≤ vec_capacity held.old }
         requires none { HasNone self.old }
         requires fit { Fits (measured (arc_value frame.now) places.now) self.old }
         ensures lays { LaysShare (measured (arc_value frame.now) places.now) self.old result self.new }
         ensures room { 16 ≤ vec_capacity held.new }
     {
-        if has_bit(common, bit) {
-            self.subscriber.lay_frame(frame, places, stamps)?;
-            self.whole = true;
+        if !whole && number == 0 {
             return Ok(());
         }
-        if !hold_marked(places, masks, bit, held) {
-            self.spared = true;
-            return Ok(());
-        }
-        self.subscriber.lay_frame(frame, held, stamps)?;
+        let one = hold_marked(places, whole, number, held);
+        let mine = share_of(places, whole, one, held);
+        self.subscriber.lay_frame(frame, mine, stamps)?;
         Ok(())
     }
 
@@ -259,7 +247,6 @@ impl SubscriberSlot {
     {
         self.subscriber.forget();
         self.spared = false;
-        self.whole = false;
     }
 
     /// Takes its share of an event for all but a data frame, if it has one: with `lost` all data frames that it makes are lost. It
@@ -277,7 +264,6 @@ impl SubscriberSlot {
         requires awaits { Awaits (offered event.now places.now) self.old }
         ensures takes { TakesOffer (offered event.now places.now) lost self.old result self.new }
         ensures spared { self.new.spared ≡ false }
-        ensures whole { self.new.whole ≡ false }
         ensures room { 16 ≤ vec_capacity held.new }
     {
         if self.spared {
@@ -300,7 +286,6 @@ impl SubscriberSlot {
         requires awaits { Awaits (revokes key.now) self.old }
         ensures takes { TakesOffer (revokes key.now) lost self.old result self.new }
         ensures spared { self.new.spared ≡ self.old.spared }
-        ensures whole { self.new.whole ≡ self.old.whole }
     {
         if !self.subscriber.holds(*key) {
             return (0, 0);
@@ -322,7 +307,6 @@ impl SubscriberSlot {
         requires awaits { Awaits (announces (announced_at config.now places.now)) self.old }
         ensures takes { TakesOffer (announces (announced_at config.now places.now)) lost self.old result self.new }
         ensures spared { self.new.spared ≡ self.old.spared }
-        ensures whole { self.new.whole ≡ self.old.whole }
         ensures room { 16 ≤ vec_capacity held.new }
     {
         if !hold(&self.subscriber, config, places, held) {
@@ -334,42 +318,35 @@ impl SubscriberSlot {
         )
     }
 
-    /// Takes its share of a data frame's blocks, if it has one, as `take_share` does of other events. The masks tell who holds each
-    /// block; its bit is this one.
+    /// Takes its share of a data frame's blocks, if it has one, as `take_share` does of other events. It holds the whole of these
+    /// places, or those whose bits its number has.
     pub(crate) fn take_measured(
         &mut self,
         frame: &Arc<DataFrame>,
         places: &[usize],
-        masks: &[u64],
-        bit: u32,
+        whole: bool,
+        number: u64,
         held: &mut Vec<usize>,
         lost: bool,
         stamps: &mut Stamps,
     ) -> (u64, u64)
         requires rising { AreRising 0 (length (arc_value frame.now).config.parts) places.now }
-        requires masks { length masks.now ≡ length places.now }
         requires few { length places.now ≤ 16 }
-        requires bit { bit < 64 }
-        requires tell { MasksTell masks.now (arc_value frame.now).config places.now bit self.old }
+        requires some { 0 < length places.now }
+        requires tell { TellsShare whole number (arc_value frame.now).config places.now self.old }
         requires room { 16 ≤ vec_capacity held.old }
         requires awaits { Awaits (measured (arc_value frame.now) places.now) self.old }
         ensures takes { TakesOffer (measured (arc_value frame.now) places.now) lost self.old result self.new }
         ensures spared { self.new.spared ≡ false }
-        ensures whole { self.new.whole ≡ false }
         ensures room { 16 ≤ vec_capacity held.new }
     {
-        if self.spared {
+        if !whole && number == 0 {
             self.spared = false;
             return (0, 0);
         }
-        if self.whole {
-            self.whole = false;
-            return counts(self.subscriber.take_frame(frame, places, lost, stamps));
-        }
-        if !hold_marked(places, masks, bit, held) {
-            return (0, 0);
-        }
-        counts(self.subscriber.take_frame(frame, held, lost, stamps))
+        let one = hold_marked(places, whole, number, held);
+        let mine = share_of(places, whole, one, held);
+        counts(self.subscriber.take_frame(frame, mine, lost, stamps))
     }
 }
 
@@ -419,31 +396,65 @@ fn hold(
     !held.is_empty()
 }
 
-/// Whether a bit of a mask is set.
-fn has_bit(mask: u64, bit: u32) -> bool
-    requires bit { bit < 64 }
-    ensures { result ≡ nat_eq (bit_at mask bit) 1 }
+/// Of these places of a frame's blocks, those of a subscriber whose number has their bits, unless it holds the whole of them: the
+/// one among them, or else they are put into `held`.
+fn hold_marked(places: &[usize], whole: bool, number: u64, held: &mut Vec<usize>) -> Option<usize>
+    requires bits { whole ≡ false → HasBits (length places.now) number }
+    requires some { whole ≡ false → 0 < number }
+    requires places { 0 < length places.now }
+    requires few { length places.now ≤ 16 }
+    requires room { 16 ≤ vec_capacity held.old }
+    ensures some { 0 < length (places_held whole number places.now) }
+    ensures held { share_in whole result places.now held.new.items ≡ places_held whole number places.now }
+    ensures within { IfSome result (λ i. i < length places.now) }
+    ensures room { 16 ≤ vec_capacity held.new }
 {
-    (mask >> bit) & 1 == 1
+    if whole {
+        return None;
+    }
+    let first = number.trailing_zeros();
+    let more = number & !(1u64 << first);
+    if more == 0 {
+        return Some(first as usize);
+    }
+    hold_all(places, number, held);
+    None
 }
 
-/// Of these places of a frame's blocks, each with the mask of who holds it, those of the subscriber whose bit this is. It answers
-/// whether there are any.
-fn hold_marked(places: &[usize], masks: &[u64], bit: u32, held: &mut Vec<usize>) -> bool
-    requires masks { length masks.now ≡ length places.now }
+/// Of these places of a frame's blocks, those whose bits a number has.
+fn hold_all(places: &[usize], number: u64, held: &mut Vec<usize>)
+    requires bits { HasBits (length places.now) number }
     requires few { length places.now ≤ 16 }
-    requires bit { bit < 64 }
     requires room { 16 ≤ vec_capacity held.old }
-    ensures some { result ≡ true → 0 < length held.new.items }
-    ensures none { result ≡ false → length held.new.items ≡ 0 }
-    ensures held { held.new.items ≡ places_marked bit places.now masks.now }
+    ensures held { held.new.items ≡ places_at number 0 places.now }
     ensures room { 16 ≤ vec_capacity held.new }
 {
     held.clear();
-    for i in 0..places.len() {
-        keep_place(held, places[i], has_bit(masks[i], bit));
+    let mut left = number;
+    'held: while left != 0 {
+        let place = left.trailing_zeros();
+        left &= !(1u64 << place);
+        held.push_reserved(places[place as usize]);
     }
-    !held.is_empty()
+}
+
+/// The whole of these places, or the one of them, or those that are held.
+fn share_of<'a>(
+    places: &'a [usize],
+    whole: bool,
+    one: Option<usize>,
+    held: &'a [usize],
+) -> &'a [usize]
+    requires within { IfSome one (λ i. i < length places.now) }
+    ensures { result.now ≡ share_in whole one places.now held.now }
+{
+    if whole {
+        return places;
+    }
+    match one {
+        Some(place) => &places[place..place + 1],
+        None => held,
+    }
 }
 
 /// The configuration that is announced.

@@ -5,3 +5,4 @@ pub mod Joining
 pub mod Joined
 pub mod Reading
 pub mod Ordered
+pub mod Stamping

@@ -5,5 +5,6 @@ pub mod Quality
 pub mod Frames
 pub mod Ordered
 pub mod Reading
--- Only private contracts and proofs use these: places in the list, and how it lies in memory.
+-- Only private contracts and proofs use these: places in the list, how it lies in memory, and a stamp's bytes.
 pub mod Places
+pub mod Stamped

@@ -9,18 +9,25 @@ ghost use Rattle.pg_data.specs.Measurements.{block_of};
 ghost use Rattle.pg_outcfg.specs.Listing.{Listing};
 ghost use Rattle.pg_outcfg.specs.Ordered.{AreBlocks, AreMembers, blocks_in, pieces_in};
 ghost use Rattle.pg_outcfg.specs.Quality.{joined_quality};
+ghost use Rattle.pg_outcfg.specs.Stamped.{stamp_bytes};
 ghost use Rattle.pg_outcfg.specs.Frames.{block_or_filler, data_blocks, data_heading, qualities_of, data_frame_of};
 
 use crate::list::ConfigList;
-use crate::stamps::Stamps;
+use crate::stamps::{Stamp, Stamps};
 use pg_config::PmuConfig;
 use pg_data::{DataFrame, SharedBlock, filler_into};
-use pg_stream::{Definition, stamp_of};
-use pg_wire::{Head, Kind, PmuKey, Refusal, check_head, check_more, end_frame_by, head_bytes};
+use pg_stream::Definition;
+use pg_wire::{PmuKey, Refusal, check_more, end_frame_by};
 use std::alloc::Global;
 
 /// How many bytes a frame has beside its body.
 const AROUND_BODY: u16 = 16;
+
+/// The second byte of a data frame's SYNC: data, by the edition of 2011 (C37.118.2, 6.2).
+const DATA_FRAME: u8 = 0x02;
+
+/// How many bytes a head has.
+const HEAD_BYTES: usize = 14;
 
 /// How many bytes CHK has.
 const CHECK_BYTES: usize = 2;
@@ -56,7 +63,10 @@ pub fn data_frame(
     ensures memory { IfErr result (λ refusal. refusal ≡ Refusal.NoMemory) }
 {
     let spare = Vec::new(alloc);
-    data_frame_near(alloc, definition, slot, listed, parts, &mut 0, spare)
+    let stamps = &mut Stamps::new();
+    data_frame_near(
+        alloc, definition, slot, listed, parts, &mut 0, stamps, spare,
+    )
 }
 
 /// The same, where the frame may well be `size` bytes long: if it is, the members are gone through once. `size` is then the size of
@@ -71,6 +81,7 @@ pub fn data_frame_near(
     listed: &ConfigList,
     parts: &[Option<SharedBlock>],
     size: &mut u16,
+    stamps: &mut Stamps,
     spare: Vec<u8>,
 ) -> Result<Vec<u8>, Refusal>
     requires limits { IsWithinLimits definition.now }
@@ -86,7 +97,7 @@ pub fn data_frame_near(
     loop {
         if AROUND_BODY <= near && near <= MOST_BYTES {
             frame = room_for(alloc, frame, near)?;
-            if compose(&mut frame, definition, slot, listed, parts, near) {
+            if compose(&mut frame, definition, slot, listed, parts, near, stamps) {
                 *size = near;
                 return Ok(frame);
             }
@@ -123,12 +134,17 @@ pub fn data_frame_at_once(
 {
     let size = AROUND_BODY + ordered_len(frame, order);
     let mut out = room_for(alloc, spare, size)?;
-    let stamp = stamps.stamp_of(definition.rate, definition.base, slot);
     let quality = clear_quality(frame.quality);
-    let crc = start_stamped(&mut out, definition, stamp, quality, size);
-    let crc = add_ordered(&mut out, crc, frame, order);
+    let stamp = stamps.stamp_of(definition.rate, definition.base, slot, quality);
+    // There is room for all of it: what is tested here tells the compiler, which then keeps no way to take memory.
+    let Some(crc) = start_stamped(&mut out, definition, stamp, size) else {
+        return Err(Refusal::NoMemory);
+    };
+    let Some(crc) = add_ordered(&mut out, crc, frame, order) else {
+        return Err(Refusal::NoMemory);
+    };
     if out.capacity() - out.len() < CHECK_BYTES {
-        unreachable!();
+        return Err(Refusal::NoMemory);
     }
     end_frame_by(&mut out, crc);
     Ok(out)
@@ -158,14 +174,14 @@ fn ordered_len(frame: &DataFrame, order: &[Option<u8>]) -> u16
     len
 }
 
-/// Adds these blocks of a frame, and returns the check of all that is there then.
-fn add_ordered(out: &mut Vec<u8>, crc: u16, frame: &DataFrame, order: &[Option<u8>]) -> u16
+/// Adds these blocks of a frame, and returns the check of all that is there then; none where there was no room for all of them.
+fn add_ordered(out: &mut Vec<u8>, crc: u16, frame: &DataFrame, order: &[Option<u8>]) -> Option<u16>
     requires check { IsRemainder (dividend out.old.items) crc }
     requires blocks { AreBlocks (length frame.now.config.parts) order.now }
-    requires room { vec_len out.old + length (joined (blocks_in frame.now order.now)) ≤ vec_capacity out.old }
-    ensures bytes { out.new.items ≡ out.old.items ++ joined (blocks_in frame.now order.now) }
-    ensures len { vec_len out.new ≡ vec_len out.old + length (joined (blocks_in frame.now order.now)) }
-    ensures check { IsRemainder (dividend out.new.items) result }
+    ensures fits { vec_len out.old + length (joined (blocks_in frame.now order.now)) ≤ vec_capacity out.old → IsSome result }
+    ensures bytes { IsSome result → out.new.items ≡ out.old.items ++ joined (blocks_in frame.now order.now) }
+    ensures len { IsSome result → vec_len out.new ≡ vec_len out.old + length (joined (blocks_in frame.now order.now)) }
+    ensures check { IfSome result (λ after. IsRemainder (dividend out.new.items) after) }
     ensures room { vec_capacity out.old ≤ vec_capacity out.new }
 {
     let mut crc = crc;
@@ -173,29 +189,29 @@ fn add_ordered(out: &mut Vec<u8>, crc: u16, frame: &DataFrame, order: &[Option<u
         let Some(i) = place else {
             unreachable!();
         };
-        crc = add_block(out, crc, frame, usize::from(*i));
+        crc = add_block(out, crc, frame, usize::from(*i))?;
     }
-    crc
+    Some(crc)
 }
 
-/// Adds a block of a frame, and returns what the check becomes.
-fn add_block(out: &mut Vec<u8>, crc: u16, frame: &DataFrame, i: usize) -> u16
+/// Adds a block of a frame, and returns what the check becomes; none where there was no room for it.
+fn add_block(out: &mut Vec<u8>, crc: u16, frame: &DataFrame, i: usize) -> Option<u16>
     requires check { IsRemainder (dividend out.old.items) crc }
     requires place { i < length frame.now.config.parts }
-    requires room { vec_len out.old + length (block_of frame.now i) ≤ vec_capacity out.old }
-    ensures bytes { out.new.items ≡ out.old.items ++ block_of frame.now i }
-    ensures len { vec_len out.new ≡ vec_len out.old + length (block_of frame.now i) }
-    ensures check { IsRemainder (dividend out.new.items) result }
+    ensures fits { vec_len out.old + length (block_of frame.now i) ≤ vec_capacity out.old → IsSome result }
+    ensures bytes { IsSome result → out.new.items ≡ out.old.items ++ block_of frame.now i }
+    ensures len { IsSome result → vec_len out.new ≡ vec_len out.old + length (block_of frame.now i) }
+    ensures check { IfSome result (λ after. IsRemainder (dividend out.new.items) after) }
     ensures room { vec_capacity out.old ≤ vec_capacity out.new }
 {
     let after = frame.check_past(i, crc);
     let bytes = frame.block(i);
     if out.capacity() - out.len() < bytes.len() {
-        unreachable!();
+        return None;
     }
     // With the room tested, the block is added without a way to take memory.
     let _ = out.extend_from_slice(bytes);
-    after
+    Some(after)
 }
 
 /// This memory, if it has room for so many bytes, or else memory that has.
@@ -217,6 +233,7 @@ fn compose(
     listed: &ConfigList,
     parts: &[Option<SharedBlock>],
     size: u16,
+    stamps: &mut Stamps,
 ) -> bool
     requires limits { IsWithinLimits definition.now }
     requires time { slot / definition.now.rate < 2 ^ 32 }
@@ -228,7 +245,11 @@ fn compose(
     ensures len { IsTrue result → vec_len frame.new ≡ size }
 {
     let members = definition.members.as_slice();
-    let crc = start_data(frame, definition, slot, join_qualities(parts), size);
+    let quality = join_qualities(parts);
+    let stamp = stamps.stamp_of(definition.rate, definition.base, slot, quality);
+    let Some(crc) = start_stamped(frame, definition, stamp, size) else {
+        return false;
+    };
     let Some(crc) = add_blocks(frame, crc, members, listed, parts) else {
         return false;
     };
@@ -239,62 +260,33 @@ fn compose(
     true
 }
 
-/// Starts the data frame of a slot: its first 14 bytes are there, and nothing of what was. Returns the check of them.
-fn start_data(
-    frame: &mut Vec<u8>,
-    definition: &Definition,
-    slot: u64,
-    quality: u8,
-    size: u16,
-) -> u16
-    requires limits { IsWithinLimits definition.now }
-    requires time { slot / definition.now.rate < 2 ^ 32 }
-    requires room { 14 ≤ vec_capacity frame.old }
-    ensures bytes { frame.new.items ≡ start_of (data_heading definition.now slot quality) size }
-    ensures len { vec_len frame.new ≡ 14 }
-    ensures check { IsRemainder (dividend frame.new.items) result }
-    ensures room { vec_capacity frame.old ≤ vec_capacity frame.new }
-{
-    let stamp = stamp_of(definition.rate, definition.base, slot);
-    start_stamped(frame, definition, stamp, quality, size)
-}
-
-/// The same of a slot's stamp.
+/// Starts the data frame of a slot whose stamp this is: its first 14 bytes are there, and nothing of what was. Returns the check of them;
+/// none where there was no room for them.
 #[inline(always)]
 fn start_stamped(
     frame: &mut Vec<u8>,
     definition: &Definition,
-    stamp: (u32, u32),
-    quality: u8,
+    stamp: &Stamp,
     size: u16,
-) -> u16
-    requires limits { IsWithinLimits definition.now }
-    requires inside { stamp.1 < definition.now.base }
-    requires room { 14 ≤ vec_capacity frame.old }
-    ensures bytes { (slot : ℕ) → stamp ≡ stamp_at definition.now.rate definition.now.base slot
+) -> Option<u16>
+    ensures fits { 14 ≤ vec_capacity frame.old → IsSome result }
+    ensures bytes { IsSome result → (slot quality : ℕ) → stamp.now ≡ stamp_bytes (stamp_at definition.now.rate definition.now.base slot) quality
         → frame.new.items ≡ start_of (data_heading definition.now slot quality) size }
-    ensures len { vec_len frame.new ≡ 14 }
-    ensures check { IsRemainder (dividend frame.new.items) result }
+    ensures len { IsSome result → vec_len frame.new ≡ 14 }
+    ensures check { IfSome result (λ crc. IsRemainder (dividend frame.new.items) crc) }
     ensures room { vec_capacity frame.old ≤ vec_capacity frame.new }
 {
-    let (soc, frac) = stamp;
-    let head = Head {
-        kind: Kind::Measured,
-        version: 2,
-        size,
-        id: definition.stream.get(),
-        soc,
-        quality,
-        frac,
-    };
-    let bytes = head_bytes(&head);
+    let [size_high, size_low] = size.to_be_bytes();
+    let [id_high, id_low] = definition.stream.get().to_be_bytes();
+    let front = [0xAA, DATA_FRAME, size_high, size_low, id_high, id_low];
     frame.clear();
-    if frame.capacity() < bytes.len() {
-        unreachable!();
+    if frame.capacity() < HEAD_BYTES {
+        return None;
     }
     // With the room tested, the head is added without a way to take memory.
-    let _ = frame.extend_from_slice(&bytes);
-    check_head(&bytes)
+    let _ = frame.extend_from_slice(&front);
+    let _ = frame.extend_from_slice(stamp.bytes());
+    Some(stamp.check_behind(&front))
 }
 
 /// The joined time quality of the blocks that are there (own rule): each leap second flag that one has, and the greatest

@@ -1,12 +1,80 @@
 //! The slot and the stamp that were found last.
-ghost use Rattle.std.specs.Prelude.{◌≡◌, ◌≢◌, ◌/◌, ◌^◌, ◌<◌, ◌≤◌, IfOk, Ok};
+ghost use Rattle.std.specs.Prelude.{◌≡◌, ◌≢◌, ◌/◌, ◌^◌, ◌<◌, ◌≤◌, ◌++◌, length, IfOk, Ok};
+ghost use Rattle.pg_wire.specs.Check.{dividend, dividend_from, IsRemainder};
 ghost use Rattle.pg_stream.specs.Slots.{slot_at, stamp_at};
+ghost use Rattle.pg_outcfg.specs.Stamped.{stamp_bytes};
 
 use pg_stream::{slot_of, stamp_of};
-use pg_wire::Refusal;
+use pg_wire::{Refusal, check_alone, check_head};
+use std::marker::Model;
+
+/// The stamp in a frame's head: SOC and FRACSEC, its last eight bytes (C37.118.2, 6.2), with what these add to a check.
+#[derive(Drop)]
+pub(crate) struct Stamp {
+    bytes: [u8; 8],
+    alone: u16,
+}
+
+impl Model for Stamp {
+    ghost use Rattle.std.specs.Prelude.{ℕ, List};
+    ghost use Rattle.pg_wire.specs.Check.{dividend_from, IsRemainder};
+
+    ghost Value = { List ℕ };
+
+    ghost view = { λ s. s.bytes };
+
+    ghost invariant = { λ s. IsRemainder (dividend_from 0 s.bytes) s.alone };
+}
+
+impl Stamp {
+    /// Of this second, this numerator of its fraction, and this time quality.
+    pub(crate) fn new(soc: u32, frac: u32, quality: u8) -> Stamp
+        requires frac { frac < 2 ^ 24 }
+        ensures bytes { result ≡ stamp_bytes (soc, frac) quality }
+    {
+        let [soc_0, soc_1, soc_2, soc_3] = soc.to_be_bytes();
+        let [frac_0, frac_1, frac_2, frac_3] = (u32::from(quality) * 0x0100_0000
+            + frac).to_be_bytes();
+        let bytes = [soc_0, soc_1, soc_2, soc_3, frac_0, frac_1, frac_2, frac_3];
+        Stamp {
+            bytes,
+            alone: check_alone(&bytes),
+        }
+    }
+
+    /// Its bytes.
+    #[inline(always)]
+    pub(crate) fn bytes(&self) -> &[u8; 8]
+        ensures { result.now ≡ self.now }
+    {
+        &self.bytes
+    }
+
+    /// The check of a head that it ends, by what it adds.
+    #[inline(always)]
+    pub(crate) fn check_behind(&self, front: &[u8; 6]) -> u16
+        ensures { IsRemainder (dividend (front.now ++ self.now)) result }
+    {
+        check_of(front, &self.bytes, self.alone)
+    }
+}
+
+/// The check of a head by its front and its stamp, where `alone` is what the stamp adds.
+#[inline(always)]
+fn check_of(front: &[u8; 6], stamp: &[u8], alone: u16) -> u16
+    requires eight { length stamp.now ≡ 8 }
+    requires alone { IsRemainder (dividend_from 0 stamp.now) alone }
+    ensures { IsRemainder (dividend (front.now ++ stamp.now)) result }
+{
+    // Only the contract speaks of its bytes.
+    let _ = stamp;
+    let [a, b, c, d, e, f] = *front;
+    check_head(&[a, b, c, d, e, f, 0, 0, 0, 0, 0, 0, 0, 0]) ^ alone
+}
 
 /// The slot of a time and the stamp of a slot, as they were found last. Streams of one rate and one resolution ask for the same ones, one
-/// behind another, and then nothing is divided. What it tells is the same whatever was asked before.
+/// behind another, and then nothing is divided, and the stamp's bytes are not summed again. What it tells is the same whatever was asked
+/// before.
 #[derive(Drop)]
 pub struct Stamps {
     // A rate of 0: nothing was found yet.
@@ -18,10 +86,10 @@ pub struct Stamps {
     stamp_rate: u8,
     stamp_base: u32,
     stamp_slot: u64,
-    second: u32,
-    numerator: u32,
+    quality: u8,
+    stamp: Stamp,
     ghost slot_found: { rate ≢ 0 → (slot_at rate base soc frac ≡ Ok slot) × (slot / rate < 2 ^ 32) },
-    ghost stamp_found: { stamp_rate ≢ 0 → (stamp_at stamp_rate stamp_base stamp_slot ≡ (second, numerator)) × (numerator < stamp_base) },
+    ghost stamp_found: { stamp_rate ≢ 0 → stamp ≡ stamp_bytes (stamp_at stamp_rate stamp_base stamp_slot) quality },
 }
 
 impl Stamps {
@@ -36,8 +104,8 @@ impl Stamps {
             stamp_rate: 0,
             stamp_base: 0,
             stamp_slot: 0,
-            second: 0,
-            numerator: 0,
+            quality: 0,
+            stamp: Stamp::new(0, 0, 0),
         }
     }
 
@@ -60,24 +128,37 @@ impl Stamps {
         Ok(slot)
     }
 
-    /// The same as `stamp_of` of pg_stream: the stamp that a slot's frame carries.
+    /// The stamp that a slot's frame of this time quality carries.
     #[inline(always)]
-    pub fn stamp_of(&mut self, rate: u8, base: u32, slot: u64) -> (u32, u32)
+    pub(crate) fn stamp_of(&mut self, rate: u8, base: u32, slot: u64, quality: u8) -> &Stamp
         requires rate { (1 ≤ rate) × (rate ≤ 120) }
         requires base { (rate ≤ base) × (base < 2 ^ 24) }
         requires time { slot / rate < 2 ^ 32 }
-        ensures inside { result.1 < base }
-        ensures exact { result ≡ stamp_at rate base slot }
+        ensures bytes { result.now ≡ stamp_bytes (stamp_at rate base slot) quality }
     {
-        if self.stamp_slot == slot && self.stamp_rate == rate && self.stamp_base == base {
-            return (self.second, self.numerator);
+        let is_found = self.stamp_slot == slot
+            && self.stamp_rate == rate
+            && self.stamp_base == base
+            && self.quality == quality;
+        if !is_found {
+            self.find(rate, base, slot, quality);
         }
-        let (second, numerator) = stamp_of(rate, base, slot);
+        &self.stamp
+    }
+
+    /// Finds it, where another was found last.
+    #[inline(never)]
+    fn find(&mut self, rate: u8, base: u32, slot: u64, quality: u8)
+        requires rate { (1 ≤ rate) × (rate ≤ 120) }
+        requires base { (rate ≤ base) × (base < 2 ^ 24) }
+        requires time { slot / rate < 2 ^ 32 }
+        ensures found { self.new.stamp ≡ stamp_bytes (stamp_at rate base slot) quality }
+    {
+        let (soc, frac) = stamp_of(rate, base, slot);
         self.stamp_rate = rate;
         self.stamp_base = base;
         self.stamp_slot = slot;
-        self.second = second;
-        self.numerator = numerator;
-        (second, numerator)
+        self.quality = quality;
+        self.stamp = Stamp::new(soc, frac, quality);
     }
 }

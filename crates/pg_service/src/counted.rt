@@ -43,6 +43,40 @@ impl<W: Write> Write for Counted<W> {
     }
 }
 
+/// A reader that answers `WouldBlock` behind a read that filled less than it could, without a call of the system (own rule): that was all
+/// that had come, and what comes later is told by an event of its own. Where the peer sends no more it is read on, to its end. The
+/// bytes are those of the one inside.
+#[derive(Drop)]
+pub struct StopsShort<R> {
+    inner: R,
+    is_ending: bool,
+    has_stopped: bool,
+}
+
+impl<R> StopsShort<R> {
+    /// A reader of which nothing was read yet, and whose peer sends no more if `is_ending` is set.
+    pub fn new(inner: R, is_ending: bool) -> StopsShort<R> {
+        StopsShort {
+            inner,
+            is_ending,
+            has_stopped: false,
+        }
+    }
+}
+
+impl<R: Read> Read for StopsShort<R> {
+    ghost remaining = { λ s. R.remaining s.inner };
+
+    fn read(&mut self, buf: &mut [u8]) -> io::Result<usize> {
+        if self.has_stopped {
+            return Err(io::Error::from(ErrorKind::WouldBlock));
+        }
+        let size = self.inner.read(buf)?;
+        self.has_stopped = size < buf.len() && !self.is_ending;
+        Ok(size)
+    }
+}
+
 /// A reader that has nothing to give now: each read answers `WouldBlock`, without a call of the system (own rule).
 #[derive(Drop)]
 pub struct Never;

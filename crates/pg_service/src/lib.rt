@@ -32,7 +32,7 @@ mod words;
 
 pub use asked::Asked;
 pub use board::{Board, PortReport, Reach, Reports, SourceReport};
-pub use counted::{Counted, Never};
+pub use counted::{Counted, Never, StopsShort};
 pub use digest::Digest;
 pub use door::{Door, DoorRules, Knock};
 pub use edits::post_edits;

@@ -4,6 +4,7 @@ ghost use Rattle.std.specs.Prelude.{◌≡◌, IfSome, Some, option_map, slice_g
 
 use crate::agenda::Agenda;
 use crate::board::{Board, Reach, SourceReport};
+use crate::counted::StopsShort;
 use crate::finder::Lookup;
 use crate::journal::{Detail, Entry, Journal, Notice, Whom};
 use crate::mail::{Mailbox, PortOrder, SourceOrder};
@@ -102,6 +103,8 @@ struct Source {
     address: Option<Address>,
     stream: Option<TcpStream>,
     is_ready: bool,
+    // Whether its connection has failed or it sends no more: then it is read until it has ended.
+    is_ending: bool,
     // Whether it has announced a configuration since it was called.
     has_announced: bool,
     // What its link had counted when the log was told of it last.
@@ -231,6 +234,7 @@ impl<'a, R: Wait + Net + Clock, N: Named> SourceWorker<'a, R, N> {
             address: Some(address),
             stream: None,
             is_ready: false,
+            is_ending: false,
             has_announced: false,
             told: PmuStats::new(),
             far: 0,
@@ -267,6 +271,22 @@ impl<'a, R: Wait + Net + Clock, N: Named> SourceWorker<'a, R, N> {
             // There is room for each source once.
             if !source.is_ready && self.agenda.add(place) {
                 source.is_ready = true;
+            }
+        }
+    }
+
+    /// Serves those in this turn whose sockets the last wait named.
+    fn mark_named(&mut self) {
+        for at in 0..self.waiting.named().len() {
+            if let Some(place) = self.waiting.named().get(at).copied() {
+                self.mark(place);
+            }
+        }
+        for at in 0..self.waiting.ended().len() {
+            if let Some(place) = self.waiting.ended().get(at).copied() {
+                if let Some(source) = self.sources.get_mut(place) {
+                    source.is_ending = true;
+                }
             }
         }
     }
@@ -537,7 +557,7 @@ impl Source {
             return None;
         };
         let stream = self.stream.as_ref()?;
-        let mut budget = Budget::new(stream, READS);
+        let mut budget = Budget::new(StopsShort::new(stream, self.is_ending), READS);
         let mut writer = stream;
         let (turn, seen) = self.line.serve(&mut budget, &mut writer, gate, now, clock);
         if let Turn::Ended(_) = turn {
@@ -629,6 +649,7 @@ impl Source {
             return self.entry(Notice::SocketFault, Detail::Nothing);
         }
         self.stream = Some(stream);
+        self.is_ending = false;
         self.line.called(now);
         self.entry(Notice::Called, Detail::At(address))
     }
@@ -693,11 +714,7 @@ impl<R: Wait + Net + Clock, N: Named> Work for SourceWorker<'_, R, N> {
         if self.waiting.is_woken() {
             self.obey_all();
         }
-        for at in 0..self.waiting.named().len() {
-            if let Some(place) = self.waiting.named().get(at).copied() {
-                self.mark(place);
-            }
-        }
+        self.mark_named();
         if self.agenda.is_due() {
             self.do_due();
         }

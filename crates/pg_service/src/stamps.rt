@@ -84,21 +84,56 @@ impl Stamps {
     pub fn pass(&mut self, bytes: &[u8], clock: u64, ages: &mut Histogram) {
         let mut rest = bytes;
         for _ in 0..bytes.len() {
+            if self.left == 0 && self.held == 0 {
+                rest = self.pass_whole(rest, clock, ages);
+            }
             if rest.is_empty() {
                 return;
             }
-            if self.left > 0 {
-                let size = self.left.min(rest.len());
-                self.left = self.left.saturating_sub(size);
-                rest = rest.get(size..).unwrap_or(b"");
-            } else {
-                let size = self.hold(rest);
-                rest = rest.get(size..).unwrap_or(b"");
-                if self.held >= self.wanted() {
-                    self.meet(clock, ages);
-                }
-            }
+            let size = self.pass_some(rest, clock, ages);
+            rest = rest.get(size..).unwrap_or(b"");
         }
+    }
+
+    /// The data frames go out that begin these bytes and lie whole: their fields are read where they lie. It gives the bytes behind them.
+    #[inline(always)]
+    fn pass_whole<'b>(&mut self, bytes: &'b [u8], clock: u64, ages: &mut Histogram) -> &'b [u8] {
+        let mut rest = bytes;
+        let mut frames = 0u64;
+        for _ in 0..bytes.len() {
+            let [_, kind, s0, s1, n0, n1, t0, t1, t2, t3, f0, f1, f2, f3, ..] = rest else {
+                break;
+            };
+            let size = usize::from(u16::from_be_bytes([*s0, *s1]));
+            let Some(behind) = rest.get(size..) else {
+                break;
+            };
+            if kind_of(*kind) != DATA || size < HEAD {
+                break;
+            }
+            let stream = u16::from_be_bytes([*n0, *n1]);
+            let soc = u32::from_be_bytes([*t0, *t1, *t2, *t3]);
+            let fracsec = u32::from_be_bytes([*f0, *f1, *f2, *f3]);
+            self.observe(stream, soc, fracsec, clock, ages);
+            frames = frames.saturating_add(1);
+            rest = behind;
+        }
+        self.frames = self.frames.saturating_add(frames);
+        rest
+    }
+
+    /// The first of these bytes go out: what is left of a frame, or what is wanted of its head. It tells how many that were.
+    fn pass_some(&mut self, bytes: &[u8], clock: u64, ages: &mut Histogram) -> usize {
+        if self.left > 0 {
+            let size = self.left.min(bytes.len());
+            self.left = self.left.saturating_sub(size);
+            return size;
+        }
+        let size = self.hold(bytes);
+        if self.held >= self.wanted() {
+            self.meet(clock, ages);
+        }
+        size
     }
 
     /// How many bytes of the frame have to be held.
@@ -112,7 +147,7 @@ impl Stamps {
 
     /// The type of the frame.
     fn kind(&self) -> u8 {
-        self.head[1] / 16 % 8
+        kind_of(self.head[1])
     }
 
     /// The four bytes at this place, as one number.
@@ -146,10 +181,9 @@ impl Stamps {
     fn meet(&mut self, clock: u64, ages: &mut Histogram) {
         match self.kind() {
             DATA => {
+                let (stream, soc) = (self.half_at(STREAM_AT), self.word_at(SOC_AT));
+                self.observe(stream, soc, self.word_at(FRACSEC_AT), clock, ages);
                 self.frames = self.frames.saturating_add(1);
-                if let Some(age) = self.age(clock) {
-                    ages.observe(age);
-                }
             }
             CFG_TWO => self.learn(),
             _ => {}
@@ -158,12 +192,15 @@ impl Stamps {
         self.held = 0;
     }
 
-    /// How old the data frame is whose head is whole.
-    fn age(&self, clock: u64) -> Option<u64> {
-        let stream = self.half_at(STREAM_AT);
-        let base = self.bases.iter().find(|it| it.stream == stream)?;
-        let fraction = self.word_at(FRACSEC_AT) & TICKS;
-        age_of(self.word_at(SOC_AT), fraction, base.resolution, clock)
+    /// A data frame of this stream goes out, which has this stamp: its age is counted where it is known.
+    #[inline(always)]
+    fn observe(&self, stream: u16, soc: u32, fracsec: u32, clock: u64, ages: &mut Histogram) {
+        let Some(base) = self.bases.iter().find(|it| it.stream == stream) else {
+            return;
+        };
+        if let Some(age) = age_of(soc, fracsec & TICKS, base.resolution, clock) {
+            ages.observe(age);
+        }
     }
 
     /// Keeps TIME_BASE of a stream.
@@ -180,6 +217,11 @@ impl Stamps {
             self.oldest = self.oldest.saturating_add(1) % STREAMS;
         }
     }
+}
+
+/// The type of a frame, by the second byte of its SYNC.
+fn kind_of(sync: u8) -> u8 {
+    sync / 16 % 8
 }
 
 /// The age in microseconds of a stamp, 0 where it is not past; `None` where FRACSEC is none of this base.

@@ -25,6 +25,8 @@ pub struct Waiting {
     poll: Poll,
     events: Events<Global>,
     named: Vec<usize>,
+    // Those of them that have failed, or whose peers send no more.
+    ended: Vec<usize>,
     is_woken: bool,
 }
 
@@ -39,6 +41,7 @@ impl Waiting {
             poll: Poll::new(rt)?,
             events: Events::with_capacity(alloc, EVENTS)?,
             named: Vec::with_capacity(alloc, EVENTS)?,
+            ended: Vec::with_capacity(alloc, EVENTS)?,
             is_woken: false,
         })
     }
@@ -52,6 +55,7 @@ impl Waiting {
     /// wait, that is noted, and nothing is ready for a while.
     pub fn wait<R: Clock>(&mut self, rt: &R, journal: &Journal, most: Duration) {
         self.named.clear();
+        self.ended.clear();
         self.is_woken = false;
         match self.poll.poll(&mut self.events, Some(most)) {
             Ok(()) => {}
@@ -68,6 +72,9 @@ impl Waiting {
                 // There is room for as many as one wait tells of.
                 Token(place) => {
                     let _ = self.named.push(place);
+                    if event.is_read_closed() || event.is_error() {
+                        let _ = self.ended.push(place);
+                    }
                 }
             }
         }
@@ -81,6 +88,11 @@ impl Waiting {
     /// The sockets that the last wait named.
     pub fn named(&self) -> &[usize] {
         &self.named
+    }
+
+    /// Those of them that have failed, or whose peers send no more. What was sent before may still be read.
+    pub fn ended(&self) -> &[usize] {
+        &self.ended
     }
 }
 

@@ -62,6 +62,7 @@ impl Seen {
 }
 
 /// The IDCODEs of the PMUs of a configuration in their order, 0 behind the last.
+#[inline(never)]
 fn pmus_of(config: &SourceConfig) -> [u16; MOST_PMUS] {
     let mut pmus = [0; MOST_PMUS];
     for (place, part) in pmus.iter_mut().zip(config.parts.iter()) {
@@ -158,6 +159,7 @@ impl<G: Gate> Watched<G> {
     }
 
     /// Counts an event, and tells whether it is to be refused.
+    #[inline(always)]
     fn refuses(&mut self, event: &Event) -> bool
         ensures gate { self.new.gate ≡ self.old.gate }
         ensures same { self.new.guarding ≡ self.old.guarding }
@@ -197,6 +199,9 @@ impl<G: Gate> Gate for Watched<G> {
 
     ghost joins = { λ v w x. G.joins v.gate w.gate x.gate };
 
+    /// Posts at the gate inside. It is inlined where it is called, as the gates inside are, so that a data frame's reply, which has room
+    /// for all counters, is neither filled nor moved: its tag is known there, and of its fields the two numbers alone are used.
+    #[inline(always)]
     fn post(&mut self, event: Event) -> Reply {
         if self.refuses(&event) {
             return Reply::Refused(Refusal::FarClock);
@@ -222,6 +227,7 @@ impl<G: Gate> Gate for Watched<G> {
 }
 
 /// The command that an event is, if it is one to start or to stop a stream.
+#[inline(always)]
 fn switch_in(event: &Event) -> Option<Command> {
     match event {
         Event::Command(_, command) => match Word::of(command.word) {

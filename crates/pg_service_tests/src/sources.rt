@@ -5,9 +5,9 @@ use pg_fakes::{FakeGate, FakeReader, FakeWriter};
 use pg_gateway::Event;
 use pg_ingest::End;
 use pg_limits::{Budget, ClockGuard};
-use pg_service::{Due, SourceLine, Turn, Watched};
+use pg_service::{Due, SourceLine, StopsShort, Turn, Watched};
 use std::alloc::Global;
-use std::io::ErrorKind;
+use std::io::{ErrorKind, Read};
 use std::process::Abort;
 use std::test::*;
 use std::time::{Duration, Instant};
@@ -197,4 +197,18 @@ fn made_is_told(rt: HostRuntime) {
     let (_, seen) = line.serve(&mut budget, &mut out, &mut gate, now, 0);
     // Both streams are off.
     assert!(rt; seen.events == 2 && seen.made == 0);
+}
+
+/// Behind a read that was filled another one is made, and behind a short one none, unless the peer sends no more.
+#[test]
+fn a_short_read_is_the_last_one(rt: HostRuntime) {
+    let mut buf = [0u8; 4];
+    let mut goes_on = StopsShort::new(&b"123456"[..], false);
+    same(&rt, goes_on.read(&mut buf).ok(), Some(4));
+    same(&rt, goes_on.read(&mut buf).ok(), Some(2));
+    let blocked = goes_on.read(&mut buf).err();
+    assert!(rt; blocked.is_some_and(|error| error.kind() == ErrorKind::WouldBlock));
+    let mut ends = StopsShort::new(&b"12"[..], true);
+    same(&rt, ends.read(&mut buf).ok(), Some(2));
+    same(&rt, ends.read(&mut buf).ok(), Some(0));
 }

@@ -55,6 +55,32 @@ fn frames_count_however_they_are_cut(rt: HostRuntime) {
     same(&rt, ages, wanted);
 }
 
+/// Frames that lie whole in one write, one behind another, count as those do that are cut.
+#[test]
+fn whole_frames_count_as_cut_ones(rt: HostRuntime) {
+    let mut bytes = [0u8; 74];
+    let parts = config(9)
+        .into_iter()
+        .chain(data(9))
+        .chain(data(9))
+        .chain(data(9));
+    for (place, byte) in bytes.iter_mut().zip(parts) {
+        *place = byte;
+    }
+    let mut wanted = Histogram::new();
+    for _ in 0..3 {
+        wanted.observe(1_000);
+    }
+    for cut in 0..bytes.len() {
+        let mut stamps = Stamps::new();
+        let mut ages = Histogram::new();
+        stamps.pass(&bytes[..cut], CLOCK + 251_000, &mut ages);
+        stamps.pass(&bytes[cut..], CLOCK + 251_000, &mut ages);
+        same(&rt, ages, wanted);
+        same(&rt, stamps.frames(), 3);
+    }
+}
+
 /// A stamp that lies ahead has the age 0; a connection that begins anew begins with a frame; streams have time bases of their own.
 #[test]
 fn ahead_anew_and_another_stream(rt: HostRuntime) {

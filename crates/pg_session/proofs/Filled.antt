@@ -1,5 +1,5 @@
 -- Blocks of a data frame that leave no slot of a stream open behind them.
-use Rattle.std.proofs.Common.{length-append, ◌≡◌, ◌||◌, not, inl, inr, get_or, ℕ, zero, suc, ◌+◌, ◌<◌, ◌≤◌, ◌&&◌, ◌==◌, nat_lt, List, [], ◌∷◌, length, map, drop, replicate, slice_set, slice_index_or, Bool, true, false, if◌then◌else◌, IsTrue, Option, Some, None, IfSome, IfOk, is_some, slice_get, option_map, Result, Ok, Err, refl, sym, ap, subst, ◌∙◌, arith}
+use Rattle.std.proofs.Common.{length-append, ◌≡◌, ◌⊎◌, ◌||◌, not, inl, inr, get_or, ℕ, zero, suc, ◌+◌, ◌<◌, ◌≤◌, ◌&&◌, ◌==◌, nat_lt, List, [], ◌∷◌, length, map, drop, replicate, slice_set, slice_index_or, Bool, true, false, if◌then◌else◌, IsTrue, Option, Some, None, IfSome, IfOk, is_some, slice_get, option_map, Result, Ok, Err, refl, sym, ap, subst, ◌∙◌, arith}
 use Rattle.std.proofs.lemmas.Grind.{common_steps}
 use Rattle.std.proofs.lemmas.List.{drop_all, length-map, length-set, length-replicate}
 use Rattle.pg_wire.specs.declared.ids.PmuKey.{PmuKey}
@@ -18,7 +18,7 @@ use Rattle.pg_session.specs.Events.{Sample, measure, samples_at}
 use Rattle.pg_session.specs.Streams.{StreamOf, placed, PlacedBlock, Arrivals, Turn, arrive_all, arrival_turn, place_of, with_place, base_of, effective_in, framed, slot_frame}
 use Rattle.pg_session.specs.Kept.{by_slots}
 use Rattle.pg_session.specs.Fields.{AreEffective, NeedsNoCopy, NeedNoCopies}
-use Rattle.pg_session.specs.Filling.{filled, all_came, are_all, can_leave, fills, all_fill, IsLaidFor}
+use Rattle.pg_session.specs.Filling.{filled, all_came, are_all, can_leave, fills, all_fill, IsSpread, IsLaidFor}
 use Rattle.pg_session.specs.Shown.{SubscriberValue}
 use Rattle.pg_session.specs.Wanted.{wanted_of, all_wanted}
 use Rattle.pg_stream.specs.Slots.{slot_at}
@@ -160,7 +160,7 @@ came_some [] h = absurd (omega (arith, h))
 came_some (None ∷ parts) h = refl
 came_some (Some p ∷ parts) h = came_some parts (omega (arith, h))
 
-came_none : (n : ℕ) → count_came (replicate n None) ≡ 0
+pub came_none : (n : ℕ) → count_came (replicate n None) ≡ 0
 came_none zero = refl
 came_none (suc n) = came_none n
 
@@ -396,10 +396,16 @@ ok_for P Q (Ok v) h a q = h a q
 ok_for P Q (Err e) h a q = tt
 
 -- where no copies lie, none are asked for
-pub laid_empty : (v : SubscriberValue) (soc quality frac : ℕ) (samples : List Sample) → v.blocks ≡ [] → IsLaidFor v (measure soc quality frac samples)
+pub laid_empty : (v : SubscriberValue) (soc quality frac : ℕ) (samples : List Sample) → v.blocks ≡ []
+    → (IsSpread v quality samples → ⊥) → IsLaidFor v (measure soc quality frac samples)
     → NeedNoCopies soc quality frac samples v.own.streams
-laid_empty v soc quality frac samples none (inl ready) = needs_empty v.own.streams soc quality frac samples (sym ready.blocks ∙ none)
-laid_empty v soc quality frac samples none (inr filled) = needs_filled v.own.streams soc quality frac samples filled.1
+laid_empty v soc quality frac samples none several (inl ready) = needs_empty v.own.streams soc quality frac samples (sym ready.blocks ∙ none)
+laid_empty v soc quality frac samples none several (inr serves) = by serves.1
+  where
+    by : ((v.blocks ≡ []) × (all_fill v.own.streams soc quality frac samples ≡ true)) ⊎ IsSpread v quality samples
+        → NeedNoCopies soc quality frac samples v.own.streams
+    by (inl empty) = needs_filled v.own.streams soc quality frac samples empty.1
+    by (inr spread) = absurd (several spread)
 
 -- of a stream that is on, with no open slot, and all of whose members' blocks came, it is the slot that tells
 pub fills_where : (s : StreamOf (Aligned Piece)) (soc quality frac : ℕ) (samples : List Sample) → s.slots.is_on ≡ true → length s.slots.slots ≡ 0

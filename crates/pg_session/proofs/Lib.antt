@@ -23,3 +23,4 @@ pub mod Running
 pub mod Stamping
 pub mod Counting
 pub mod Filled
+pub mod OneBlock

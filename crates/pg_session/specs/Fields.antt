@@ -1,5 +1,5 @@
 -- What private contracts and proofs say of a stream, of a subscriber's fields, and of what is under way. No public clause names any of it.
-use Rattle.std.specs.Prelude.{◌≡◌, ◌⊎◌, ◌/◌, ◌^◌, ◌<◌, ◌≤◌, ℕ, true, IsTrue, List, [], ◌∷◌, length, is_some, None, MatchOption, slice_index_or, Bool, false}
+use Rattle.std.specs.Prelude.{◌≡◌, ◌⊎◌, ◌/◌, ◌^◌, ◌<◌, ◌≤◌, ◌+◌, ℕ, true, if◌then◌else◌, replicate, IsTrue, List, [], ◌∷◌, length, is_some, None, MatchOption, slice_index_or, Bool, false}
 use Rattle.pg_wire.specs.declared.ids.PmuKey.{PmuKey}
 use Rattle.pg_wire.specs.declared.refusal.Refusal.{Refusal}
 use Rattle.pg_wire.specs.declared.refusal.Refusal.TheVariants.{NoMemory}
@@ -19,7 +19,7 @@ use Rattle.pg_session.specs.Kept.{by_slots, by_gaps}
 use Rattle.pg_session.specs.Sending.{Sending}
 use Rattle.pg_session.specs.Shown.{Own, SubscriberValue}
 use Rattle.pg_session.specs.Wanted.{wanted_of}
-use Rattle.pg_session.specs.Filling.{fills}
+use Rattle.pg_session.specs.Filling.{fills, may_keep}
 
 -- the second of each slot can be told by a SOC
 abbrev pub AreTimed : ℕ → List (OpenSlot Piece) → Type 0
@@ -74,6 +74,20 @@ AreFitted listed (s ∷ streams) = (s.slots.effective ≡ effective_in listed s.
 
 abbrev pub stream_after : Turn (Aligned Piece) → StreamOf (Aligned Piece)
 stream_after turn = turn.stream
+
+-- how many copies of a frame's only block a stream takes, and how many all of them take
+abbrev pub kept_of : StreamOf (Aligned Piece) → ℕ → List Sample → ℕ
+kept_of s quality samples = if may_keep s then length (wanted_of s quality samples) else 0
+
+abbrev pub all_kept : List (StreamOf (Aligned Piece)) → ℕ → List Sample → ℕ
+all_kept [] quality samples = 0
+all_kept (s ∷ streams) quality samples = kept_of s quality samples + all_kept streams quality samples
+
+-- What lies for a frame's only block: copies of it, enough for all streams.
+pub record Serving (v : SubscriberValue) (quality : ℕ) (samples : List Sample) (piece : Piece) : Type 0 where
+  pub copies : v.blocks ≡ replicate (length v.blocks) piece
+  pub enough : all_kept v.own.streams quality samples ≤ length v.blocks
+  pub none : v.configs ≡ []
 
 -- A command was done: no refusal of it holds.
 pub record Obeys (old : Own) (number word : ℕ) (new : Own) : Type 0 where

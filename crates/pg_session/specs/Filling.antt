@@ -1,5 +1,5 @@
 -- Blocks of a data frame that leave no slot of a stream open behind them.
-use Rattle.std.specs.Prelude.{◌≡◌, ◌⊎◌, ◌&&◌, ◌||◌, ◌==◌, ℕ, Bool, true, false, not, is_some, if◌then◌else◌, List, [], ◌∷◌, length, replicate, slice_set, slice_index_or, Option, Some, None, Result, Ok, Err}
+use Rattle.std.specs.Prelude.{◌≡◌, ◌⊎◌, ◌+◌, nat_lt, ◌&&◌, ◌||◌, ◌==◌, ℕ, Bool, true, false, not, is_some, if◌then◌else◌, List, [], ◌∷◌, length, replicate, slice_set, slice_index_or, Option, Some, None, Result, Ok, Err}
 use Rattle.pg_wire.specs.declared.refusal.Refusal.{Refusal}
 use Rattle.pg_data.specs.Pieces.{Piece}
 use Rattle.pg_stream.specs.Slots.{slot_at}
@@ -7,8 +7,7 @@ use Rattle.pg_align.specs.Histories.{is_above}
 use Rattle.pg_align.specs.Slots.{Aligned}
 use Rattle.pg_session.specs.Events.{Sample, Happening, grant, revoke, announce, measure, define, remove, tick, connect, hangup, command, drain}
 use Rattle.pg_session.specs.Streams.{StreamOf, PlacedBlock, placed, base_of}
-use Rattle.pg_session.specs.Shown.{Own, SubscriberValue}
-use Rattle.pg_session.specs.Steps.{HasNoCopies}
+use Rattle.pg_session.specs.Shown.{SubscriberValue}
 use Rattle.pg_session.specs.Ready.{IsReady}
 
 -- the parts of a slot with these blocks put into their places, one after another; none where two are for one place
@@ -47,21 +46,36 @@ abbrev pub all_fill : List (StreamOf (Aligned Piece)) → ℕ → ℕ → ℕ �
 all_fill [] soc quality frac samples = true
 all_fill (s ∷ streams) soc quality frac samples = fills s soc quality frac samples && all_fill streams soc quality frac samples
 
--- no slot of any stream of the subscriber
-abbrev pub Fills : Own → Happening → Type 0
-Fills own (measure soc quality frac samples) = all_fill own.streams soc quality frac samples ≡ true
-Fills own (announce list) = ⊥
-Fills own (grant key config) = ⊥
-Fills own (revoke key) = ⊥
-Fills own (define definition) = ⊥
-Fills own (remove number) = ⊥
-Fills own (tick soc) = ⊥
-Fills own connect = ⊥
-Fills own hangup = ⊥
-Fills own (command number word) = ⊥
-Fills own (drain n) = ⊥
+-- A frame's only block may stay with the stream: it is on, and has several members or an open slot. Else the block leaves at once, if it
+-- is the member's.
+abbrev pub may_keep : StreamOf (Aligned Piece) → Bool
+may_keep s = s.slots.is_on && (nat_lt 1 (length s.definition.members) || nat_lt 0 (length s.slots.slots))
 
--- A block that comes to stay is kept by a copy. So just the copies that the event asks for lie ready; or none do, and it is a frame whose
--- blocks leave no slot open behind them.
+-- how many streams may keep it
+abbrev pub count_keeping : List (StreamOf (Aligned Piece)) → ℕ
+count_keeping [] = 0
+count_keeping (s ∷ streams) = (if may_keep s then 1 else 0) + count_keeping streams
+
+-- Copies of a frame's only block lie ready, one for each stream that may keep it.
+abbrev pub IsSpread : SubscriberValue → ℕ → List Sample → Type 0
+IsSpread v quality [] = ⊥
+IsSpread v quality (s ∷ []) = v.blocks ≡ replicate (count_keeping v.own.streams) (record { quality = quality; block = s.block })
+IsSpread v quality (s ∷ t ∷ samples) = ⊥
+
+-- No copies lie ready, and the event is a frame whose blocks leave no slot open behind them; or those of its only block do.
+abbrev pub Serves : SubscriberValue → Happening → Type 0
+Serves v (measure soc quality frac samples) = ((v.blocks ≡ []) × (all_fill v.own.streams soc quality frac samples ≡ true)) ⊎ IsSpread v quality samples
+Serves v (announce list) = ⊥
+Serves v (grant key config) = ⊥
+Serves v (revoke key) = ⊥
+Serves v (define definition) = ⊥
+Serves v (remove number) = ⊥
+Serves v (tick soc) = ⊥
+Serves v connect = ⊥
+Serves v hangup = ⊥
+Serves v (command number word) = ⊥
+Serves v (drain n) = ⊥
+
+-- A block that comes to stay is kept by a copy. So just the copies that the event asks for lie ready; or those that serve as well.
 abbrev pub IsLaidFor : SubscriberValue → Happening → Type 0
-IsLaidFor v e = IsReady v e ⊎ (HasNoCopies v × Fills v.own e)
+IsLaidFor v e = IsReady v e ⊎ ((v.configs ≡ []) × Serves v e)

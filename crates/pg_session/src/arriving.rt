@@ -74,7 +74,14 @@ pub(crate) fn has_placed(
 }
 
 /// A member's block arrives in a slot; one that is late or comes twice is counted.
-fn arrive_one(align: &mut Align, slot: u64, member: usize, block: SharedBlock, output: &mut Output)
+#[inline(always)]
+pub(crate) fn arrive_one(
+    align: &mut Align,
+    slot: u64,
+    member: usize,
+    block: SharedBlock,
+    output: &mut Output,
+)
     requires on { IsTrue align.old.is_on }
     requires effective { IsTrue (slice_index_or align.old.effective member false) }
     requires room { others_than slot align.old.slots ≤ align.old.window }

@@ -1,12 +1,13 @@
 //! The copies of `Arc`s that an event needs. They are laid before it changes anything, as each of them can be refused.
 
-ghost use Rattle.std.specs.Prelude.{◌≡◌, ◌+◌, ◌*◌, ◌<◌, ◌≤◌, ◌++◌, [], ◌∷◌, List, length, map, All, None, OnOk, IfErr, IsOk};
+ghost use Rattle.std.specs.Prelude.{◌≡◌, ◌+◌, ◌*◌, ◌<◌, ◌≤◌, ◌++◌, [], ◌∷◌, List, length, map, All, None, OnOk, IfErr, IsOk, replicate};
 ghost use Rattle.std.specs.Arc.{arc_value};
 ghost use Rattle.pg_data.specs.Pieces.{piece_of};
 ghost use Rattle.pg_stream.specs.Limits.{IsWithinLimits};
 ghost use Rattle.pg_session.specs.Events.{announced_at, config_of, samples_at};
 ghost use Rattle.pg_session.specs.Streams.{PlacedBlock, place_of, with_place, placed};
 ghost use Rattle.pg_session.specs.Ready.{ArePlaces, AreRising};
+ghost use Rattle.pg_session.specs.Filling.{count_keeping};
 ghost use Rattle.pg_session.specs.Wanted.{piece_of_placed, wanted_of, all_wanted};
 
 use crate::stream::{Stream, place_next};
@@ -81,6 +82,25 @@ fn lay_block(
     if place_next(definition, key, next).is_none() {
         return Ok(());
     }
+    lay_copy(frame, place, blocks)?;
+    Ok(())
+}
+
+/// Lays a copy of a block behind those that lie there. The one refusal is `NoMemory`.
+#[inline(always)]
+pub(crate) fn lay_copy(
+    frame: &Arc<DataFrame>,
+    place: usize,
+    blocks: &mut HeapCircularBuffer<SharedBlock>,
+) -> Result<(), Refusal>
+    requires place { place < length (arc_value frame.now).config.parts }
+    requires room { length blocks.old.items < blocks.old.capacity }
+    ensures laid { OnOk result (blocks.new.items ≡ blocks.old.items ++ piece_of (arc_value frame.now) place ∷ []) }
+    ensures long { OnOk result (length blocks.new.items ≡ length blocks.old.items + 1) }
+    ensures unchanged { IfErr result (λ refusal. blocks.new.items ≡ blocks.old.items) }
+    ensures capacity { blocks.new.capacity ≡ blocks.old.capacity }
+    ensures memory { IfErr result (λ refusal. refusal ≡ Refusal.NoMemory) }
+{
     let copy = Arc::try_clone(frame)?;
     let Ok(()) = blocks.try_push_back(SharedBlock::new(copy, place)) else {
         unreachable!();
@@ -137,6 +157,27 @@ pub(crate) fn copy_blocks(
     let _count = frame.count();
     for s in streams {
         s.lay_copies(frame, places, blocks)?;
+    }
+    Ok(())
+}
+
+/// Lays a copy of a frame's only block for each stream where it may stay. The one refusal is `NoMemory`; some copies may then lie there.
+#[inline(always)]
+pub(crate) fn copy_for_each(
+    frame: &Arc<DataFrame>,
+    place: usize,
+    streams: &[Stream],
+    blocks: &mut HeapCircularBuffer<SharedBlock>,
+) -> Result<(), Refusal>
+    requires place { place < length (arc_value frame.now).config.parts }
+    requires streams { length streams.now ≤ 8 }
+    requires empty { blocks.old.items ≡ [] }
+    requires room { blocks.old.capacity ≡ 128 }
+    ensures laid { OnOk result (blocks.new.items ≡ replicate (count_keeping streams.now) (piece_of (arc_value frame.now) place)) }
+    ensures capacity { blocks.new.capacity ≡ blocks.old.capacity }
+{
+    for s in streams {
+        s.lay_one(frame, place, blocks)?;
     }
     Ok(())
 }

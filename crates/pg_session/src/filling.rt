@@ -78,7 +78,12 @@ pub(crate) fn place_all(
 
 /// The same of a stream of one member and a frame of one block.
 #[inline(always)]
-fn place_one(member: &PmuKey, frame: &DataFrame, place: usize, order: &mut [Option<u8>]) -> Brought
+pub(crate) fn place_one(
+    member: &PmuKey,
+    frame: &DataFrame,
+    place: usize,
+    order: &mut [Option<u8>],
+) -> Brought
     requires place { place < length frame.now.config.parts }
     requires none { order.old ≡ None ∷ [] }
     ensures nothing { result ≡ Brought.Nothing → placed (member.now ∷ []) frame.now.quality (samples_at frame.now (place ∷ [])) ≡ [] }
@@ -98,6 +103,7 @@ fn place_one(member: &PmuKey, frame: &DataFrame, place: usize, order: &mut [Opti
 
 /// Makes the frame of a slot for which one frame brought the blocks of all members, and sends it. Where a frame of the event was lost
 /// this one is not composed.
+#[inline(always)]
 pub(crate) fn send_filled(
     alloc: Global,
     definition: &Definition,

@@ -10,7 +10,7 @@ ghost use Rattle.pg_session.specs.Fields.{AreTimed};
 use crate::output::Output;
 use pg_align::Align;
 use pg_data::SharedBlock;
-use pg_outcfg::{ConfigList, data_frame_near};
+use pg_outcfg::{ConfigList, Stamps, data_frame_near};
 use pg_stream::Definition;
 use std::alloc::Global;
 
@@ -23,6 +23,7 @@ fn send_slot(
     slot: u64,
     parts: &[Option<SharedBlock>],
     size: &mut u16,
+    stamps: &mut Stamps,
     output: &mut Output,
 )
     requires limits { IsWithinLimits definition.now }
@@ -36,7 +37,7 @@ fn send_slot(
         output.lose();
     } else {
         let spare = output.take_spare(alloc);
-        output.send(data_frame_near(alloc, definition, slot, listed, parts, size, spare));
+        output.send(data_frame_near(alloc, definition, slot, listed, parts, size, stamps, spare));
     }
 }
 
@@ -48,6 +49,7 @@ pub(crate) fn leave_all(
     listed: &ConfigList,
     align: &mut Align,
     size: &mut u16,
+    stamps: &mut Stamps,
     output: &mut Output,
 )
     requires limits { IsWithinLimits definition.now }
@@ -60,7 +62,7 @@ pub(crate) fn leave_all(
     ensures few { output.new.made + length align.new.slots ≤ output.old.made + length align.old.slots }
 {
     if align.is_leaving() {
-        leave_each(alloc, definition, listed, align, size, output);
+        leave_each(alloc, definition, listed, align, size, stamps, output);
     }
 }
 
@@ -72,6 +74,7 @@ fn leave_each(
     listed: &ConfigList,
     align: &mut Align,
     size: &mut u16,
+    stamps: &mut Stamps,
     output: &mut Output,
 )
     requires limits { IsWithinLimits definition.now }
@@ -85,7 +88,7 @@ fn leave_each(
 {
     while let Some(left) = align.leave_next() {
         send_slot(
-            alloc, definition, listed, left.slot, left.parts, size, output,
+            alloc, definition, listed, left.slot, left.parts, size, stamps, output,
         );
     }
 }
@@ -97,6 +100,7 @@ pub(crate) fn flush_all(
     listed: &ConfigList,
     align: &mut Align,
     size: &mut u16,
+    stamps: &mut Stamps,
     output: &mut Output,
 )
     requires limits { IsWithinLimits definition.now }
@@ -110,7 +114,7 @@ pub(crate) fn flush_all(
 {
     while let Some(left) = align.flush_next() {
         send_slot(
-            alloc, definition, listed, left.slot, left.parts, size, output,
+            alloc, definition, listed, left.slot, left.parts, size, stamps, output,
         );
     }
 }

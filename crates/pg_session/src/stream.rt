@@ -1,33 +1,34 @@
 //! One stream of a subscriber.
 
-ghost use Rattle.std.specs.Prelude.{◌≡◌, ◌+◌, ◌<◌, ◌≤◌, ◌^◌, ◌++◌, ◌∷◌, [], ℕ, List, length, map, drop, not, All, IfOk, IfErr, IfSome, OnOk, IsOk, IsTrue, IsSome, Ok, is_some, option_map, ◌/◌, if◌then◌else◌, true, false};
+ghost use Rattle.std.specs.Prelude.{◌≡◌, ◌+◌, ◌<◌, ◌≤◌, ◌^◌, ◌++◌, ◌∷◌, [], ℕ, List, length, map, drop, replicate, not, All, IfOk, IfErr, IfSome, OnOk, IsOk, IsTrue, IsSome, Ok, is_some, option_map, ◌/◌, if◌then◌else◌, true, false};
 ghost use Rattle.std.specs.Arc.{arc_value};
 ghost use Rattle.circular_buffer.specs.Buffer.{Buffer};
-ghost use Rattle.pg_data.specs.Pieces.{Piece};
+ghost use Rattle.pg_data.specs.Pieces.{Piece, piece_of};
 ghost use Rattle.pg_stream.specs.Limits.{IsWithinLimits};
-ghost use Rattle.pg_align.specs.Slots.{none_open, with_shape, with_start, with_none};
+ghost use Rattle.pg_align.specs.Slots.{none_open, with_shape, with_start, with_none, with_last, head_with};
 ghost use Rattle.pg_outcfg.specs.Listing.{config_at};
+ghost use Rattle.pg_outcfg.specs.Ordered.{AreBlocks, AreMembers, pieces_in};
 ghost use Rattle.pg_outcfg.specs.Frames.{changed, header_frame, cfg1_frame, cfg2_frame};
 ghost use Rattle.pg_session.specs.Events.{samples_at};
 ghost use Rattle.pg_session.specs.Shape.{same_list, same_shape};
 ghost use Rattle.pg_session.specs.Changing.{IsOfParts, list_after};
-ghost use Rattle.pg_session.specs.Streams.{StreamOf, place_of, effective_in, reshape_turn, tick_turn, measure_turn};
+ghost use Rattle.pg_session.specs.Streams.{StreamOf, place_of, placed, effective_in, slot_frame, reshape_turn, tick_turn, measure_turn};
 ghost use Rattle.pg_session.specs.Private.{stopped, started};
 ghost use Rattle.pg_session.specs.Sending.{Sending, Sends};
 ghost use Rattle.pg_session.specs.Kept.{by_slots, by_gaps};
 ghost use Rattle.pg_session.specs.Ready.{GoesOn};
-ghost use Rattle.pg_session.specs.Fields.{IsStream, AreListed, NeedsNoCopy, turn_stats, with_stats};
-ghost use Rattle.pg_session.specs.Filling.{can_leave, fills};
+ghost use Rattle.pg_session.specs.Fields.{IsStream, AreListed, NeedsNoCopy, kept_of, turn_stats, with_stats};
+ghost use Rattle.pg_session.specs.Filling.{can_leave, fills, may_keep};
 ghost use Rattle.pg_stream.specs.Slots.{slot_at};
 ghost use Rattle.pg_data.specs.Measurements.{resolution};
 ghost use Rattle.pg_session.specs.Wanted.{wanted_of};
 ghost use Rattle.pg_session.specs.Standing.{stream_standing};
 
 use crate::accepting::after_members;
-use crate::arriving::{arrive_all_in, count_placed, has_placed, pass_all};
+use crate::arriving::{arrive_all_in, arrive_one, count_placed, has_placed, pass_all};
 use crate::change::{Change, config_of};
-use crate::copying::copy_members;
-use crate::filling::{Brought, place_all, send_filled};
+use crate::copying::{copy_members, lay_copy};
+use crate::filling::{Brought, place_all, place_one, send_filled};
 use crate::leaving::{flush_all, leave_all};
 use crate::output::Output;
 use crate::standing::{StreamStanding, count_effective};
@@ -125,6 +126,22 @@ pub(crate) fn place_next(definition: &Definition, key: &PmuKey, next: &mut usize
     if let Some(place) = place {
         *next = place.wrapping_add(1);
     }
+    place
+}
+
+/// The same where the guess for the next frame is kept: behind the last member it is the first.
+#[inline(always)]
+fn place_near_guess(definition: &Definition, key: &PmuKey, guess: &mut usize) -> Option<usize>
+    requires limits { IsWithinLimits definition.now }
+    ensures { result ≡ place_of definition.now.members key.now }
+{
+    let mut next = *guess;
+    let place = place_next(definition, key, &mut next);
+    *guess = if next < definition.members.as_slice().len() {
+        next
+    } else {
+        0
+    };
     place
 }
 
@@ -271,6 +288,7 @@ impl Stream {
                 listed,
                 &mut self.align,
                 &mut self.size,
+                &mut Stamps::new(),
                 output,
             );
             self.size = 0;
@@ -298,6 +316,7 @@ impl Stream {
                 listed,
                 &mut self.align,
                 &mut self.size,
+                &mut Stamps::new(),
                 output,
             );
         }
@@ -355,6 +374,7 @@ impl Stream {
                     listed,
                     &mut self.align,
                     &mut self.size,
+                    stamps,
                     output,
                 );
             }
@@ -440,6 +460,193 @@ impl Stream {
         let Some(slot) = self.slot_for(frame, stamps) else {
             unreachable!();
         };
+        self.leave_filled(alloc, listed, slot, frame, order, stamps, output);
+    }
+
+    /// Whether a frame's only block may stay with it: it is on, and has several members or an open slot. Else that block leaves at once, if
+    /// it is the member's.
+    #[inline(always)]
+    fn may_keep(&self) -> bool
+        ensures { result ≡ may_keep self.now }
+    {
+        self.align.is_on()
+            && (self.definition.members.as_slice().len() > 1 || self.align.open_slots() > 0)
+    }
+
+    /// Lays a copy of a frame's only block, where that may stay. The one refusal is `NoMemory`.
+    #[inline(always)]
+    pub fn lay_one(
+        &self,
+        frame: &Arc<DataFrame>,
+        place: usize,
+        blocks: &mut HeapCircularBuffer<SharedBlock>,
+    ) -> Result<(), Refusal>
+        requires place { place < length (arc_value frame.now).config.parts }
+        requires room { length blocks.old.items < blocks.old.capacity }
+        ensures laid { OnOk result (blocks.new.items ≡ blocks.old.items ++ replicate (if may_keep self.now then 1 else 0) (piece_of (arc_value frame.now) place)) }
+        ensures few { OnOk result (length blocks.new.items ≤ length blocks.old.items + 1) }
+        ensures capacity { blocks.new.capacity ≡ blocks.old.capacity }
+    {
+        if !self.may_keep() {
+            return Ok(());
+        }
+        lay_copy(frame, place, blocks)?;
+        Ok(())
+    }
+
+    /// The same as `measure`, for a frame's only block, of which copies lie there. It takes one where the block stays.
+    #[inline(always)]
+    pub fn measure_one(
+        &mut self,
+        alloc: Global,
+        listed: &ConfigList,
+        frame: &DataFrame,
+        place: usize,
+        blocks: &mut HeapCircularBuffer<SharedBlock>,
+        stamps: &mut Stamps,
+        output: &mut Output,
+    )
+        requires place { place < length frame.now.config.parts }
+        requires listed { AreListed listed.now (samples_at frame.now (place ∷ [])) }
+        requires effective { self.old.slots.effective ≡ effective_in listed.now self.old.definition.members }
+        requires copies { blocks.old.items ≡ replicate (length blocks.old.items) (piece_of frame.now place) }
+        requires enough { kept_of self.old frame.now.quality (samples_at frame.now (place ∷ [])) ≤ length blocks.old.items }
+        requires kept { output.old.kept ≤ output.old.made }
+        requires bounded { output.old.made < 2 ^ 31 }
+        ensures stream { self.new ≡ (measure_turn by_slots listed.now frame.now.soc frame.now.quality frame.now.frac (samples_at frame.now (place ∷ [])) self.old).stream }
+        ensures sends { Sends (measure_turn by_slots listed.now frame.now.soc frame.now.quality frame.now.frac (samples_at frame.now (place ∷ [])) self.old).frames
+            (with_stats output.old (turn_stats (measure_turn by_slots listed.now frame.now.soc frame.now.quality frame.now.frac (samples_at frame.now (place ∷ [])) self.old) output.old.output.stats))
+            output.new }
+        ensures copies { blocks.new.items ≡ replicate (length blocks.new.items) (piece_of frame.now place) }
+        ensures left { length blocks.old.items ≤ length blocks.new.items + kept_of self.old frame.now.quality (samples_at frame.now (place ∷ [])) }
+        ensures capacity { blocks.new.capacity ≡ blocks.old.capacity }
+        ensures bounded { output.new.made ≤ output.old.made + 80 }
+    {
+        if !self.align.is_on() {
+            return;
+        }
+        if self.may_keep() {
+            self.keep_one(alloc, listed, frame, place, blocks, stamps, output);
+        } else {
+            self.pass_one(alloc, listed, frame, place, stamps, output);
+        }
+    }
+
+    /// The same, where it is on and the block may stay.
+    #[inline(always)]
+    fn keep_one(
+        &mut self,
+        alloc: Global,
+        listed: &ConfigList,
+        frame: &DataFrame,
+        place: usize,
+        blocks: &mut HeapCircularBuffer<SharedBlock>,
+        stamps: &mut Stamps,
+        output: &mut Output,
+    )
+        requires on { self.old.slots.is_on ≡ true }
+        requires place { place < length frame.now.config.parts }
+        requires listed { AreListed listed.now (samples_at frame.now (place ∷ [])) }
+        requires effective { self.old.slots.effective ≡ effective_in listed.now self.old.definition.members }
+        requires copies { blocks.old.items ≡ replicate (length blocks.old.items) (piece_of frame.now place) }
+        requires enough { length (placed self.old.definition.members frame.now.quality (samples_at frame.now (place ∷ []))) ≤ length blocks.old.items }
+        requires kept { output.old.kept ≤ output.old.made }
+        requires bounded { output.old.made < 2 ^ 31 }
+        ensures stream { self.new ≡ (measure_turn by_slots listed.now frame.now.soc frame.now.quality frame.now.frac (samples_at frame.now (place ∷ [])) self.old).stream }
+        ensures sends { Sends (measure_turn by_slots listed.now frame.now.soc frame.now.quality frame.now.frac (samples_at frame.now (place ∷ [])) self.old).frames
+            (with_stats output.old (turn_stats (measure_turn by_slots listed.now frame.now.soc frame.now.quality frame.now.frac (samples_at frame.now (place ∷ [])) self.old) output.old.output.stats))
+            output.new }
+        ensures copies { blocks.new.items ≡ replicate (length blocks.new.items) (piece_of frame.now place) }
+        ensures left { length blocks.old.items ≤ length blocks.new.items + length (placed self.old.definition.members frame.now.quality (samples_at frame.now (place ∷ []))) }
+        ensures capacity { blocks.new.capacity ≡ blocks.old.capacity }
+        ensures bounded { output.new.made ≤ output.old.made + 80 }
+    {
+        let _count = frame.count();
+        let Some(member) = place_near_guess(&self.definition, &frame.key(place), &mut self.guess)
+        else {
+            return;
+        };
+        match stamps.slot_of(self.definition.rate, frame.base(), frame.soc, frame.frac) {
+            Ok(slot) => {
+                let Some(block) = blocks.pop_back() else {
+                    unreachable!();
+                };
+                arrive_one(&mut self.align, slot, member, block, output);
+                leave_all(
+                    alloc,
+                    &self.definition,
+                    listed,
+                    &mut self.align,
+                    &mut self.size,
+                    stamps,
+                    output,
+                );
+            }
+            Err(_) => output.count_past(),
+        }
+    }
+
+    /// The same, where it is on, has one member and no open slot: the block leaves at once, or is counted.
+    #[inline(always)]
+    fn pass_one(
+        &mut self,
+        alloc: Global,
+        listed: &ConfigList,
+        frame: &DataFrame,
+        place: usize,
+        stamps: &mut Stamps,
+        output: &mut Output,
+    )
+        requires on { self.old.slots.is_on ≡ true }
+        requires keeps { may_keep self.old ≡ false }
+        requires place { place < length frame.now.config.parts }
+        requires listed { AreListed listed.now (samples_at frame.now (place ∷ [])) }
+        requires effective { self.old.slots.effective ≡ effective_in listed.now self.old.definition.members }
+        requires kept { output.old.kept ≤ output.old.made }
+        requires bounded { output.old.made < 2 ^ 31 }
+        ensures stream { self.new ≡ (measure_turn by_slots listed.now frame.now.soc frame.now.quality frame.now.frac (samples_at frame.now (place ∷ [])) self.old).stream }
+        ensures sends { Sends (measure_turn by_slots listed.now frame.now.soc frame.now.quality frame.now.frac (samples_at frame.now (place ∷ [])) self.old).frames
+            (with_stats output.old (turn_stats (measure_turn by_slots listed.now frame.now.soc frame.now.quality frame.now.frac (samples_at frame.now (place ∷ [])) self.old) output.old.output.stats))
+            output.new }
+        ensures bounded { output.new.made ≤ output.old.made + 80 }
+    {
+        let _count = frame.count();
+        let members = self.definition.members.as_slice();
+        let mut order = [None];
+        let Brought::All = place_one(&members[0], frame, place, &mut order) else {
+            return;
+        };
+        match stamps.slot_of(self.definition.rate, frame.base(), frame.soc, frame.frac) {
+            Ok(slot) if self.align.is_after_last(slot) => {
+                self.leave_filled(alloc, listed, slot, frame, &order, stamps, output);
+            }
+            Ok(_) => output.count_late(),
+            Err(_) => output.count_past(),
+        }
+    }
+
+    /// A slot leaves for which a frame brought the blocks of all members, where none is open.
+    #[inline(always)]
+    fn leave_filled(
+        &mut self,
+        alloc: Global,
+        listed: &ConfigList,
+        slot: u64,
+        frame: &DataFrame,
+        order: &[Option<u8>],
+        stamps: &mut Stamps,
+        output: &mut Output,
+    )
+        requires none_open { self.old.slots.slots ≡ [] }
+        requires time { slot / self.old.definition.rate < 2 ^ 32 }
+        requires members { length order.now ≡ length self.old.definition.members }
+        requires blocks { AreBlocks (length frame.now.config.parts) order.now }
+        requires listed { AreMembers listed.now self.old.definition.members }
+        requires few { output.old.kept ≤ output.old.made }
+        requires bounded { output.old.made < 2 ^ 32 }
+        ensures stream { self.new ≡ record self.old { slots = with_last self.old.slots slot } }
+        ensures sends { Sends (slot_frame self.old.definition listed.now (head_with slot (pieces_in frame.now order.now)) ∷ []) output.old output.new }
+    {
         self.align.leave_at_once(slot);
         send_filled(
             alloc,

@@ -1,6 +1,7 @@
 //! What an event is to all streams of a subscriber, in the order of their definition.
 
-ghost use Rattle.std.specs.Prelude.{◌≡◌, ◌+◌, ◌*◌, ◌<◌, ◌≤◌, ◌^◌, ◌++◌, [], ◌∷◌, List, length, map, drop, not, All, ◌==◌, filter, option_map, slice_get, vec_len, vec_capacity};
+ghost use Rattle.std.specs.Prelude.{◌≡◌, ◌+◌, ◌*◌, ◌<◌, ◌≤◌, ◌^◌, ◌++◌, [], ◌∷◌, List, length, map, drop, replicate, not, All, ◌==◌, filter, option_map, slice_get, vec_len, vec_capacity};
+ghost use Rattle.pg_data.specs.Pieces.{piece_of};
 ghost use Rattle.pg_session.specs.Events.{samples_at};
 ghost use Rattle.pg_session.specs.Shape.{same_list};
 ghost use Rattle.pg_session.specs.Changing.{IsOfParts, list_after};
@@ -9,7 +10,7 @@ ghost use Rattle.pg_session.specs.Private.{stopped, stream_at, at_stream, switch
 ghost use Rattle.pg_session.specs.Sending.{Sending};
 ghost use Rattle.pg_session.specs.Taking.{Taken};
 ghost use Rattle.pg_session.specs.Kept.{by_slots, by_gaps};
-ghost use Rattle.pg_session.specs.Fields.{AreListed, AreFitted, NeedNoCopies, stream_after};
+ghost use Rattle.pg_session.specs.Fields.{AreListed, AreFitted, all_kept, NeedNoCopies, stream_after};
 ghost use Rattle.pg_session.specs.Filling.{all_fill};
 ghost use Rattle.pg_session.specs.Wanted.{all_wanted};
 ghost use Rattle.pg_session.specs.Standing.{stream_standing};
@@ -120,6 +121,49 @@ pub(crate) fn measure_all_filled(
 {
     for s in streams.iter_mut() {
         s.measure_filled(alloc, listed, frame, places, stamps, output);
+    }
+}
+
+/// The same for a frame's only block, of which copies lie there, enough for all streams. Those that none keeps are given up.
+#[inline(always)]
+pub(crate) fn measure_all_one(
+    alloc: Global,
+    listed: &ConfigList,
+    frame: &DataFrame,
+    place: usize,
+    streams: &mut [Stream],
+    blocks: &mut HeapCircularBuffer<SharedBlock>,
+    stamps: &mut Stamps,
+    output: &mut Output,
+)
+    requires place { place < length frame.now.config.parts }
+    requires listed { AreListed listed.now (samples_at frame.now (place ∷ [])) }
+    requires fitted { AreFitted listed.now streams.old }
+    requires copies { blocks.old.items ≡ replicate (length blocks.old.items) (piece_of frame.now place) }
+    requires enough { all_kept streams.old frame.now.quality (samples_at frame.now (place ∷ [])) ≤ length blocks.old.items }
+    requires streams { length streams.old ≤ 8 }
+    requires few { output.old.kept ≤ output.old.made }
+    requires bounded { output.old.made ≤ 1000 }
+    ensures streams { streams.new ≡ map (λ s. stream_after (measure_turn by_slots listed.now frame.now.soc frame.now.quality frame.now.frac (samples_at frame.now (place ∷ [])) s)) streams.old }
+    ensures taken { Taken (map (measure_turn by_slots listed.now frame.now.soc frame.now.quality frame.now.frac (samples_at frame.now (place ∷ []))) streams.old) output.old output.new }
+    ensures blocks { blocks.new.items ≡ [] }
+    ensures capacity { blocks.new.capacity ≡ blocks.old.capacity }
+    ensures bounded { output.new.made ≤ output.old.made + 640 }
+{
+    for s in streams.iter_mut() {
+        s.measure_one(alloc, listed, frame, place, blocks, stamps, output);
+    }
+    give_up(blocks);
+}
+
+/// Gives up the copies that lie there. Mostly none do.
+#[inline(always)]
+fn give_up(blocks: &mut HeapCircularBuffer<SharedBlock>)
+    ensures blocks { blocks.new.items ≡ [] }
+    ensures capacity { blocks.new.capacity ≡ blocks.old.capacity }
+{
+    if !blocks.is_empty() {
+        blocks.clear();
     }
 }
 

@@ -1,6 +1,6 @@
 //! One subscriber: a private gateway of its own.
 
-ghost use Rattle.std.specs.Prelude.{◌≡◌, ◌+◌, ◌<◌, ◌≤◌, [], ◌∷◌, ℕ, List, Option, Some, length, map, vec_len, All, IfOk, IfErr, IsOk, IsTrue, true, false};
+ghost use Rattle.std.specs.Prelude.{◌≡◌, ◌+◌, ◌<◌, ◌≤◌, [], ◌∷◌, ℕ, List, Option, Some, length, map, vec_len, All, IfOk, IfErr, IsOk, IsTrue, true, false, replicate};
 ghost use Rattle.std.specs.Arc.{arc_value};
 ghost use Rattle.std.specs.Bool.{Decides};
 ghost use Rattle.pg_entitle.specs.Grants.{has_key};
@@ -11,13 +11,14 @@ ghost use Rattle.pg_session.specs.Ready.{Accepts, AreHeld, AreOwn, ArePlaces, Is
 ghost use Rattle.pg_session.specs.Shown.{Model, SubscriberValue, ShowsPrivate, Takes, begin};
 ghost use Rattle.pg_session.specs.Standing.{standing_of, own_standing};
 ghost use Rattle.pg_session.specs.Steps.{Steps, MakesFew, HasNoCopies};
-ghost use Rattle.pg_session.specs.Fields.{NeedNoCopies, Obeys, MayRefuse};
-ghost use Rattle.pg_session.specs.Filling.{IsLaidFor};
+ghost use Rattle.pg_session.specs.Fields.{NeedNoCopies, Serving, Obeys, MayRefuse};
+ghost use Rattle.pg_session.specs.Filling.{IsLaidFor, count_keeping};
+ghost use Rattle.pg_data.specs.Pieces.{piece_of};
 ghost use Rattle.pg_session.specs.Wanted.{all_wanted, granted_wanted};
 
 use crate::accepting::{are_copies, are_held, are_own, are_places, are_wanted, is_copy};
 use crate::change::Change;
-use crate::copying::{copy_blocks, copy_parts, lay_config};
+use crate::copying::{copy_blocks, copy_for_each, copy_parts, lay_config};
 use crate::event::{PrivateEvent, PrivateReply};
 use crate::listing::{list_all, list_one};
 use crate::output::Output;
@@ -25,8 +26,8 @@ use crate::reply::{is_question, send_reply, word_at};
 use crate::standing::Standing;
 use crate::stream::Stream;
 use crate::streams::{
-    are_filled, measure_all, measure_all_filled, remove_streams, reshape_all, stop_all, stream_of,
-    stream_standing_at, switch_streams, tick_all,
+    are_filled, measure_all, measure_all_filled, measure_all_one, remove_streams, reshape_all,
+    stop_all, stream_of, stream_standing_at, switch_streams, tick_all,
 };
 use circular_buffer::HeapCircularBuffer;
 use pg_audit::Stats;
@@ -363,13 +364,50 @@ impl Subscriber {
     }
 
     /// Lays the copies that a data frame needs, before anything changes, as `copies` does; but none where its blocks leave no slot of a
-    /// stream open behind them. Those that lay ready before are given up.
+    /// stream open behind them, and of an only block one for each stream where it may stay. Those that lay ready before are given up.
     ///
     /// # Errors
     ///
     /// `NoMemory`, and then no copy lies ready.
     #[inline(always)]
     pub fn lay_frame(
+        &mut self,
+        frame: &Arc<DataFrame>,
+        places: &[usize],
+        stamps: &mut Stamps,
+    ) -> Result<(), Refusal>
+        requires places { ArePlaces (length (arc_value frame.now).config.parts) places.now }
+        requires held { AreHeld self.old.own.grants self.old.own.listed (samples_at (arc_value frame.now) places.now) }
+        ensures laid { IfOk result (λ u. IsLaidFor self.new (measure (arc_value frame.now).soc (arc_value frame.now).quality (arc_value frame.now).frac (samples_at (arc_value frame.now) places.now))) }
+        ensures none { IfErr result (λ refusal. HasNoCopies self.new) }
+        ensures memory { IfErr result (λ refusal. refusal ≡ Refusal.NoMemory) }
+        ensures needless { NeedsNone self.old (measure (arc_value frame.now).soc (arc_value frame.now).quality (arc_value frame.now).frac (samples_at (arc_value frame.now) places.now)) → IsOk result }
+        ensures own { self.new.own ≡ self.old.own }
+    {
+        if places.len() != 1 {
+            return self.lay_just(frame, places, stamps);
+        }
+        if self.lay_one(frame, places[0]) {
+            return Ok(());
+        }
+        self.lay_just(frame, places, stamps)
+    }
+
+    /// Lays a copy of a frame's only block for each stream where it may stay. The answer is whether there was memory.
+    #[inline(always)]
+    fn lay_one(&mut self, frame: &Arc<DataFrame>, place: usize) -> bool
+        requires place { place < length (arc_value frame.now).config.parts }
+        ensures blocks { IsTrue result → self.new.blocks ≡ replicate (count_keeping self.new.own.streams) (piece_of (arc_value frame.now) place) }
+        ensures configs { self.new.configs ≡ [] }
+        ensures own { self.new.own ≡ self.old.own }
+    {
+        self.forget();
+        copy_for_each(frame, place, &self.streams, &mut self.blocks).is_ok()
+    }
+
+    /// Lays just the copies that a data frame asks for, or none, where its blocks leave no slot of a stream open behind them.
+    #[inline(never)]
+    fn lay_just(
         &mut self,
         frame: &Arc<DataFrame>,
         places: &[usize],
@@ -411,10 +449,44 @@ impl Subscriber {
         ensures plain { IsPlain result }
         ensures none { HasNoCopies self.new }
     {
+        if places.len() == 1 {
+            return self.measure_one(frame, places[0], lost, stamps);
+        }
         if self.blocks.is_empty() {
             return self.measure_filled(frame, places, lost, stamps);
         }
         self.measure(frame, places, lost, stamps)
+    }
+
+    /// A granted PMU's block came alone. Copies of it lie ready, enough for all streams.
+    #[inline(always)]
+    fn measure_one(
+        &mut self,
+        frame: &DataFrame,
+        place: usize,
+        lost: bool,
+        stamps: &mut Stamps,
+    ) -> PrivateReply
+        requires place { place < length frame.now.config.parts }
+        requires held { AreHeld self.old.own.grants self.old.own.listed (samples_at frame.now (place ∷ [])) }
+        requires serving { Serving self.old frame.now.quality (samples_at frame.now (place ∷ [])) (piece_of frame.now place) }
+        ensures steps { Steps self.old (measure frame.now.soc frame.now.quality frame.now.frac (samples_at frame.now (place ∷ []))) lost (told result) self.new }
+        ensures none { HasNoCopies self.new }
+        ensures few { MakesFew (told result) }
+        ensures plain { IsPlain result }
+    {
+        self.output.begin(lost);
+        measure_all_one(
+            self.alloc,
+            &self.listed,
+            frame,
+            place,
+            &mut self.streams,
+            &mut self.blocks,
+            stamps,
+            &mut self.output,
+        );
+        self.output.done()
     }
 
     /// Blocks of granted PMUs came that leave no slot of a stream open behind them, or are no member's. No copies lie ready.

@@ -175,6 +175,7 @@ fn frame_3001(
 {
     same(rt, parts.len(), definition.members.as_slice().len());
     let frame = data_frame(alloc, definition, 3001, list, parts).expect(rt, "memory");
+    let mut stamps = Stamps::new();
     // Whatever size is guessed, and whatever was in the memory, it is the same frame, and its size is the next guess.
     for guess in [
         0,
@@ -187,7 +188,16 @@ fn frame_3001(
     ] {
         let mut size = guess;
         let spare = Vec::from_slice(alloc, &[0xFF; 40]).expect(rt, "memory");
-        let near = data_frame_near(alloc, definition, 3001, list, parts, &mut size, spare);
+        let near = data_frame_near(
+            alloc,
+            definition,
+            3001,
+            list,
+            parts,
+            &mut size,
+            &mut stamps,
+            spare,
+        );
         same(rt, near.expect(rt, "memory").as_slice(), frame.as_slice());
         same(rt, usize::from(size), frame.len());
     }
@@ -380,6 +390,40 @@ fn all_of_one_frame(rt: HostRuntime) {
             wanted.as_slice(),
         );
     }
+}
+
+// A stamp that was found is taken for no other time quality, and for no other slot.
+#[test]
+fn stamp_of_its_own(rt: HostRuntime) {
+    let alloc = rt.alloc();
+    let (seven, eleven) = (
+        key(9, 7).expect(&rt, "reserved"),
+        key(9, 11).expect(&rt, "reserved"),
+    );
+    let definition = stream(alloc, 101, &[seven, eleven]).expect(&rt, "memory");
+    let config = source_9(&rt, alloc).expect(&rt, "memory");
+    let body = [
+        0, 0, 0x10, 0, 0x20, 0, 0, 0, 0, 0, 0, 0, 0x30, 0, 0x40, 0, 0, 0, 0, 0,
+    ];
+    let order = [Some(0), Some(1)];
+    same(&rt, order.len(), definition.members.as_slice().len());
+    let mut stamps = Stamps::new();
+    for (quality, slot) in [(0x24, 3001), (0, 3002), (0x24, 3002)] {
+        let other = measured(&rt, alloc, &config, quality, &body).expect(&rt, "memory");
+        same(&rt, other.count(), 2);
+        let spare = Vec::new(alloc);
+        let came = data_frame_at_once(alloc, &definition, slot, &other, &order, &mut stamps, spare);
+        same(&rt, came.expect(&rt, "memory")[10], quality);
+    }
+    let frame = measured(&rt, alloc, &config, 0, &body).expect(&rt, "memory");
+    same(&rt, frame.count(), 2);
+    let spare = Vec::new(alloc);
+    let came = data_frame_at_once(alloc, &definition, 3001, &frame, &order, &mut stamps, spare);
+    same(
+        &rt,
+        came.expect(&rt, "memory").as_slice(),
+        b"\xAA\x02\x00\x24\x00\x65\x00\x00\x00\x64\x00\x00\x82\x35\x00\x00\x10\x00\x20\x00\x00\x00\x00\x00\x00\x00\x30\x00\x40\x00\x00\x00\x00\x00\x5D\x65".as_slice(),
+    );
 }
 
 // CFG-1 lists all PMUs by rising key, CFG-2 the members in the definition's order.

@@ -42,6 +42,7 @@ fn take<M: Machine, R: Wait>(rt: &R, top: &Top<M>, waiting: &AtomicUsize, place:
 }
 
 // The value answers the event where it lies, in the slot that the seat has taken.
+#[inline(always)]
 fn step_held<M: Machine>(top: &Top<M>, place: &mut Place<M>, event: M::Event) -> M::Reply
     requires table { place.old.table_id ≡ top.now.table_id }
     requires taken { (x : M) × (place.old.me.1 ≡ (0, Some x) ∷ []) × M.shows x place.old.me.0.seen }
@@ -58,6 +59,7 @@ fn step_held<M: Machine>(top: &Top<M>, place: &mut Place<M>, event: M::Event) ->
 }
 
 // Sets the word, by which the value is at home, tells of the call, and wakes one that waits.
+#[inline(always)]
 fn give_back<M: Machine, J: Telling<M::Event, M::Reply>>(
     top: &Top<M>,
     waiting: &AtomicUsize,
@@ -133,6 +135,7 @@ impl<M: Machine> Turnstile<M> {
     /// is one more of the seat's own. The seat's own places before it stand in what the seat had seen, so that the calls
     /// in between are those of others: the history has of the seat's own calls exactly those that it made, each once, in
     /// their order.
+    #[inline(always)]
     pub fn call<R: Wait>(&self, rt: &R, seat: Seat<M>, event: M::Event) -> (Seat<M>, M::Reply)
         requires table { seat.table ≡ self.now }
         ensures seat { result.0.table ≡ seat.table }

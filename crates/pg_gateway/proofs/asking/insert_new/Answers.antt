@@ -17,4 +17,4 @@ returns-in-Ok-clause-added c = λ slots h.
 pub returns-in-Ok-clause-none : goal.returns-in-Ok-clause-none
 returns-in-Ok-clause-none c =
     rw (c.in-Ok.ensures.entries, insert_entry-new nat_eq c.args.subs.now c.args.sub c.note.new.self c.requires.new)
-    (slots-push HasNone c.args.sub c.note.new.self _ c.requires.none (subst HasNoCopies (sym c.note.ensures.subscriber) c.in_ok-slot.ensures.none.0, c.note.ensures.spared ∙ c.in_ok-slot.ensures.none.1, c.note.ensures.whole ∙ c.in_ok-slot.ensures.none.2))
+    (slots-push HasNone c.args.sub c.note.new.self _ c.requires.none (subst HasNoCopies (sym c.note.ensures.subscriber) c.in_ok-slot.ensures.none.0, c.note.ensures.spared ∙ c.in_ok-slot.ensures.none.1))

@@ -21,4 +21,4 @@ pub returns-in-Some-clause-none : goal.returns-in-Some-clause-none
 returns-in-Some-clause-none c =
     let wrote = c.get_mut.follows.holds c.note.new.self in
     let had = slots-lookup HasNone (nat_eq c.args.sub) c.args.subs.now.entries c.in-Some.slot.now c.requires.none (sym c.in-Some.ensures.value) in
-    rw wrote.0 (slots-set_value HasNone (nat_eq c.args.sub) c.args.subs.now.entries c.note.new.self c.requires.none (subst HasNoCopies (sym c.note.ensures.subscriber) had.0, c.note.ensures.spared ∙ had.1, c.note.ensures.whole ∙ had.2))
+    rw wrote.0 (slots-set_value HasNone (nat_eq c.args.sub) c.args.subs.now.entries c.note.new.self c.requires.none (subst HasNoCopies (sym c.note.ensures.subscriber) had.0, c.note.ensures.spared ∙ had.1))

@@ -29,7 +29,7 @@ loop-i-preserved c =
       ];
       room = c.take_share-more.ensures.room;
       awaits = slots-after (Awaits (offered c.args.event.now c.args.places.now)) c.loop-i.subs.entries c.loop-i.i c.take_share-more.new.self inv.awaits;
-      none = slots-before HasNone c.loop-i.subs.entries c.loop-i.i c.take_share-more.new.self inv.none (c.take_share-more.ensures.takes.none, c.take_share-more.ensures.spared, c.take_share-more.ensures.whole);
+      none = slots-before HasNone c.loop-i.subs.entries c.loop-i.i c.take_share-more.new.self inv.none (c.take_share-more.ensures.takes.none, c.take_share-more.ensures.spared);
       count = λ ps h. (step ps h).0;
       shows = λ ps h. (step ps h).1;
     }

@@ -35,7 +35,7 @@ loop-i-preserved c =
       fits = slots-after (Fits (offered c.args.event.now c.args.places.now)) c.loop-i.subs.entries c.loop-i.i c.lay.new.self inv.fits;
       none = slots-after HasNone c.loop-i.subs.entries c.loop-i.i c.lay.new.self inv.none;
       spares = λ spares. slots-after (Spares (offered c.args.event.now c.args.places.now)) c.loop-i.subs.entries c.loop-i.i c.lay.new.self (inv.spares spares);
-      laid = slots-before (Awaits (offered c.args.event.now c.args.places.now)) c.loop-i.subs.entries c.loop-i.i c.lay.new.self inv.laid (awaits_laid (offered c.args.event.now c.args.places.now) c.index_mut.result.now c.lay.new.self c.lay.ensures.lays.own fit c.in_ok-lay.ensures.lays.laid c.in_ok-lay.ensures.lays.spared c.in_ok-lay.ensures.lays.whole);
+      laid = slots-before (Awaits (offered c.args.event.now c.args.places.now)) c.loop-i.subs.entries c.loop-i.i c.lay.new.self inv.laid (awaits_laid (offered c.args.event.now c.args.places.now) c.index_mut.result.now c.lay.new.self c.lay.ensures.lays.own fit c.in_ok-lay.ensures.lays.laid c.in_ok-lay.ensures.lays.spared);
       shows = λ ps h. Related-kept SlotShows c.loop-i.subs.entries ps c.loop-i.i c.index_mut.result.now c.lay.new.self (inv.shows ps h) c.index_mut.ensures.value
           (λ s shown. shows_kept c.index_mut.result.now c.lay.new.self s c.lay.ensures.lays.own c.lay.ensures.lays.audit shown);
     }

@@ -15,11 +15,9 @@ index_mut-requires c =
     let i = bit_within _ c.args.marks (trailing_zeros w64 c.marked.left) c.requires.bits (c.marked.invariant.marked _ t.1) in
     omega (arith, i, len)
 
-pub take_measured-more-requires-clause-bit : goal.take_measured-more-requires-clause-bit
-take_measured-more-requires-clause-bit c = (turn c.marked.left (omega arith) (search rules)).0
-
 pub take_measured-more-requires-clause-tell : goal.take_measured-more-requires-clause-tell
-take_measured-more-requires-clause-tell c = c.marked.invariant.tell _ c.index_mut.result.now c.index_mut.ensures.value (turn c.marked.left (omega arith) (search rules)).1
+take_measured-more-requires-clause-tell c =
+    rw (c.has_bit-whole.ensures, c.from-number.ensures) (c.marked.invariant.tell _ c.index_mut.result.now c.index_mut.ensures.value (turn c.marked.left (omega arith) (search rules)).1)
 
 pub take_measured-more-requires-clause-awaits : goal.take_measured-more-requires-clause-awaits
 take_measured-more-requires-clause-awaits c =
@@ -52,8 +50,8 @@ marked-preserved-then-more_kept-more c =
       marked = kept_marks left c.args.marks i t.4 t.5 inv.marked;
       awaits = still_marked (Awaits o) xs i new left (without left i) t.4 t.5 inv.awaits;
       passed = still_unmarked (IsPassed o) xs i new c.args.marks marked inv.passed;
-      none = now_cleared HasNone xs i new left (without left i) t.5 (takes.none, c.take_measured-more.ensures.spared, c.take_measured-more.ensures.whole) inv.none;
-      tell = told_left c.args.masks.now (arc_value c.args.frame.now).config c.args.places.now xs i new left (without left i) t.4 t.5 inv.tell;
+      none = now_cleared HasNone xs i new left (without left i) t.5 (takes.none, c.take_measured-more.ensures.spared) inv.none;
+      tell = told_left c.args.common c.args.turned.now (arc_value c.args.frame.now).config c.args.places.now xs i new left (without left i) t.4 t.5 inv.tell;
       walked = walked_turn o c.args.marks left c.marked.made c.marked.kept c.args.subs.now.entries xs inv.len inv.kept inv.passed inv.walked
           i c.take_measured-more.result.0 c.take_measured-more.result.1 c.marked.lost c.index_mut.result.now new
           (omega (arith, lt, inv.len)) t.1 t.2 t.4 t.5 inv.all c.index_mut.ensures.value takes.shares takes.few takes.kept;
@@ -79,8 +77,8 @@ marked-preserved c =
       marked = kept_marks left c.args.marks i t.4 t.5 inv.marked;
       awaits = still_marked (Awaits o) xs i new left (without left i) t.4 t.5 inv.awaits;
       passed = still_unmarked (IsPassed o) xs i new c.args.marks marked inv.passed;
-      none = now_cleared HasNone xs i new left (without left i) t.5 (takes.none, c.take_measured-more.ensures.spared, c.take_measured-more.ensures.whole) inv.none;
-      tell = told_left c.args.masks.now (arc_value c.args.frame.now).config c.args.places.now xs i new left (without left i) t.4 t.5 inv.tell;
+      none = now_cleared HasNone xs i new left (without left i) t.5 (takes.none, c.take_measured-more.ensures.spared) inv.none;
+      tell = told_left c.args.common c.args.turned.now (arc_value c.args.frame.now).config c.args.places.now xs i new left (without left i) t.4 t.5 inv.tell;
       walked = walked_turn o c.args.marks left c.marked.made c.marked.kept c.args.subs.now.entries xs inv.len inv.kept inv.passed inv.walked
           i c.take_measured-more.result.0 c.take_measured-more.result.1 c.marked.lost c.index_mut.result.now new
           (omega (arith, lt, inv.len)) t.1 t.2 t.4 t.5 inv.all c.index_mut.ensures.value takes.shares takes.few takes.kept;

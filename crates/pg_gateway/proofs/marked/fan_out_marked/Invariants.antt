@@ -3,9 +3,8 @@ use Rattle.std.specs.Arc.{arc_value}
 use Rattle.std.specs.Int.{bit_at}
 use Rattle.indexmap.specs.IndexMap.{index_map_len}
 use Rattle.pg_gateway.specs.Taking.{measured, Awaits, HasNone}
-use Rattle.pg_gateway.specs.Routes.{WhereBit, IsPassed}
+use Rattle.pg_gateway.specs.Routes.{WhereBit, IsPassed, SharesTold}
 use Rattle.pg_gateway.proofs.RouteLaws.{Walked}
-use Rattle.pg_gateway.proofs.MaskLaws.{MasksTellLeft}
 use Rattle.pg_gateway.proofs.marked.fan_out_marked.Given as goal
 
 abbrev pub invariant-marked : goal.invariant-marked
@@ -18,7 +17,7 @@ invariant-marked l = record {
   awaits : WhereBit 1 l.left (Awaits (measured (arc_value l.frame) l.places)) l.subs.entries;
   passed : WhereBit 0 l.marks (IsPassed (measured (arc_value l.frame) l.places)) l.subs.entries;
   none : WhereBit 0 l.left HasNone l.subs.entries;
-  tell : MasksTellLeft l.masks (arc_value l.frame).config l.places l.left l.subs.entries;
+  tell : SharesTold l.common l.turned (arc_value l.frame).config l.places l.left l.subs.entries;
   walked : Walked (measured (arc_value l.frame) l.places) l.marks l.left l.made l.kept l.fn.subs.entries l.subs.entries;
 }
 

@@ -41,11 +41,9 @@ index_mut-requires c =
 pub lay_measured-requires-clause-none : goal.lay_measured-requires-clause-none
 lay_measured-requires-clause-none c = c.marked.invariant.none _ c.index_mut.result.now c.index_mut.ensures.value (turn c.marked.left (omega arith) (search rules)).1
 
-pub lay_measured-requires-clause-bit : goal.lay_measured-requires-clause-bit
-lay_measured-requires-clause-bit c = (turn c.marked.left (omega arith) (search rules)).0
-
 pub lay_measured-requires-clause-tell : goal.lay_measured-requires-clause-tell
-lay_measured-requires-clause-tell c = c.marked.invariant.tell _ c.index_mut.result.now c.index_mut.ensures.value
+lay_measured-requires-clause-tell c =
+    rw (c.has_bit-whole.ensures, c.from-number.ensures) (c.marked.invariant.tell _ c.index_mut.result.now c.index_mut.ensures.value (c.marked.invariant.marked _ (turn c.marked.left (omega arith) (search rules)).1))
 
 pub lay_measured-requires-clause-fit : goal.lay_measured-requires-clause-fit
 lay_measured-requires-clause-fit c = c.marked.invariant.fits _ c.index_mut.result.now c.index_mut.ensures.value (turn c.marked.left (omega arith) (search rules)).1
@@ -84,10 +82,10 @@ marked-preserved c =
       fits = still_marked (Fits o) xs i new left (without left i) t.4 t.5 inv.fits;
       none = still_marked HasNone xs i new left (without left i) t.4 t.5 inv.none;
       spares = λ spares. still_marked (Spares o) xs i new left (without left i) t.4 t.5 (inv.spares spares);
-      laid = now_cleared (Awaits o) xs i new left (without left i) t.5 (awaits_laid o old new c.lay_measured.ensures.lays.own fit c.in_ok-lay_measured.ensures.lays.laid c.in_ok-lay_measured.ensures.lays.spared c.in_ok-lay_measured.ensures.lays.whole) inv.laid;
+      laid = now_cleared (Awaits o) xs i new left (without left i) t.5 (awaits_laid o old new c.lay_measured.ensures.lays.own fit c.in_ok-lay_measured.ensures.lays.laid c.in_ok-lay_measured.ensures.lays.spared) inv.laid;
       passed = still_unmarked (IsPassed o) xs i new c.args.marks marked inv.passed;
       passed_none = still_unmarked HasNone xs i new c.args.marks marked inv.passed_none;
-      tell = told_kept c.args.masks.now (arc_value c.args.frame.now).config c.args.places.now xs i old new c.index_mut.ensures.value c.lay_measured.ensures.lays.own inv.tell;
+      tell = told_kept c.args.common c.args.turned.now (arc_value c.args.frame.now).config c.args.places.now c.args.marks xs i old new c.index_mut.ensures.value c.lay_measured.ensures.lays.own inv.tell;
       shows = λ ps h. Related-kept SlotShows xs ps i old new (inv.shows ps h) c.index_mut.ensures.value
           (λ s shown. shows_kept old new s c.lay_measured.ensures.lays.own c.lay_measured.ensures.lays.audit shown);
     }

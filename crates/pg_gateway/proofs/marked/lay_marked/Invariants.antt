@@ -7,7 +7,7 @@ use Rattle.pg_gateway.specs.Sharing.{SubscriberSlots}
 use Rattle.pg_gateway.specs.Shown.{SlotShows}
 use Rattle.pg_gateway.specs.Taking.{measured, Awaits, HasNone, Fits}
 use Rattle.pg_gateway.specs.Frugal.{AllSlots, Spares}
-use Rattle.pg_gateway.specs.Routes.{WhereBit, IsPassed, MasksTellAll}
+use Rattle.pg_gateway.specs.Routes.{WhereBit, IsPassed, SharesTold}
 use Rattle.pg_gateway.proofs.marked.lay_marked.Given as goal
 
 abbrev pub invariant-marked : goal.invariant-marked
@@ -21,7 +21,7 @@ invariant-marked l = record {
   laid : WhereBit 0 l.left (Awaits (measured (arc_value l.frame) l.places)) l.subs.entries;
   passed : WhereBit 0 l.marks (IsPassed (measured (arc_value l.frame) l.places)) l.subs.entries;
   passed_none : WhereBit 0 l.marks HasNone l.subs.entries;
-  tell : MasksTellAll l.masks (arc_value l.frame).config l.places l.subs.entries;
+  tell : SharesTold l.common l.turned (arc_value l.frame).config l.places l.marks l.subs.entries;
   shows : (slots : SubscriberSlots) → Related SlotShows l.fn.subs.entries slots → Related SlotShows l.subs.entries slots;
 }
 

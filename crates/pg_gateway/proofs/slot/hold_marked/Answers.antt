@@ -1,12 +1,21 @@
-use Rattle.std.proofs.Common.{arith, sym}
-use Rattle.pg_gateway.proofs.MaskLaws.{marked_next}
+use Rattle.std.proofs.Common.{rules, arith, sym, ap, ◌∙◌, length}
+use Rattle.pg_gateway.specs.Routes.{places_held, share_in}
+use Rattle.pg_gateway.proofs.MaskLaws.{one_at, some_held}
 use Rattle.pg_gateway.proofs.slot.hold_marked.Goals as goal
 
-pub loop-i-preserved : goal.loop-i-preserved
-loop-i-preserved c =
-    let inv = c.loop-i.invariant in
-    record {
-      held = rw (c.keep_place.ensures.places, inv.held, c.has_bit.ensures) (sym (marked_next c.args.bit c.args.places.now c.args.masks.now c.loop-i.i c.loop-i-test.true c.requires.masks));
-      few = omega (arith, inv.few, c.keep_place.ensures.few);
-      room = omega (arith, inv.room, c.keep_place.ensures.room);
-    }
+pub returns-then-more-eq0-clause-held : goal.returns-then-more-eq0-clause-held
+returns-then-more-eq0-clause-held c =
+    rw c.if-whole.false (one_at c.args.number c.args.places.now (c.requires.some c.if-whole.false) (search rules) (c.requires.bits c.if-whole.false) (omega (arith, c.if-more-eq0.true))).1
+
+pub returns-then-more-eq0-clause-within : goal.returns-then-more-eq0-clause-within
+returns-then-more-eq0-clause-within c =
+    (one_at c.args.number c.args.places.now (c.requires.some c.if-whole.false) (search rules) (c.requires.bits c.if-whole.false) (omega (arith, c.if-more-eq0.true))).0
+
+pub returns-then-whole-clause-some : goal.returns-then-whole-clause-some
+returns-then-whole-clause-some c = some_held c.args.whole c.args.number c.args.places.now c.requires.places c.requires.some (search rules) c.requires.bits
+
+pub returns-then-more-eq0-clause-some : goal.returns-then-more-eq0-clause-some
+returns-then-more-eq0-clause-some c = some_held c.args.whole c.args.number c.args.places.now c.requires.places c.requires.some (search rules) c.requires.bits
+
+pub returns-clause-some : goal.returns-clause-some
+returns-clause-some c = some_held c.args.whole c.args.number c.args.places.now c.requires.places c.requires.some (search rules) c.requires.bits

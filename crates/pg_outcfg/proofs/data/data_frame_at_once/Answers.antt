@@ -1,4 +1,4 @@
-use Rattle.std.proofs.Common.{◌≡◌, ◌+◌, ◌-◌, ◌∙◌, ◌++◌, sym, ap, length, replicate, arith}
+use Rattle.std.proofs.Common.{◌≡◌, ◌+◌, ◌-◌, ◌∙◌, ◌++◌, refl, sym, ap, length, replicate, arith}
 use Rattle.pg_wire.specs.Heads.{start_of}
 use Rattle.pg_wire.specs.Stream.{joined}
 use Rattle.pg_config.proofs.Copying.{framed}
@@ -23,8 +23,8 @@ returns-clause-frame c listed are =
     let clear : c.clear_quality-quality.result ≡ quality =
     c.clear_quality-quality.ensures others ∙ ap (λ v. joined_quality (replicate (others + 1) v.quality)) c.frame.view_is
     ∙ sym (ap joined_quality (qualities-ordered m places others order c.requires.blocks some)) in
-    framed (data_heading d c.args.slot quality) size body c.start_stamped-crc.new.frame.items c.add_ordered-crc.new.out.items c.end_frame_by.new.frame.items
-    (c.start_stamped-crc.ensures.bytes c.args.slot c.stamp_of-stamp.ensures.exact ∙ ap (λ q. start_of (data_heading d c.args.slot q) size) clear)
+    framed (data_heading d c.args.slot quality) size body c.start_stamped.new.frame.items c.add_ordered.new.out.items c.end_frame_by.new.frame.items
+    (c.in-Some.ensures.bytes refl c.args.slot c.clear_quality-quality.result c.stamp_of-stamp.ensures.bytes ∙ ap (λ q. start_of (data_heading d c.args.slot q) size) clear)
     (omega (arith, c.ordered_len-size.ensures.value, ap length same))
-    (c.add_ordered-crc.ensures.bytes ∙ ap (λ l. c.start_stamped-crc.new.frame.items ++ l) (sym same))
+    (c.in-Some-add_ordered.ensures.bytes refl ∙ ap (λ l. c.start_stamped.new.frame.items ++ l) (sym same))
     c.end_frame_by.ensures.bytes

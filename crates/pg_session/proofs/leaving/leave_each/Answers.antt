@@ -2,8 +2,12 @@ use Rattle.std.proofs.Common.{◌≡◌, length, Some, sym, ap, ◌∙◌, arith
 use Rattle.pg_align.specs.Slots.{all_leaving, after_leaving, leaving_of, head_with}
 use Rattle.pg_align.proofs.Leaving.{all_leaving-first}
 use Rattle.pg_session.specs.Streams.{slot_frame}
-use Rattle.pg_session.proofs.Departing.{left-one, leaving-one}
+use Rattle.pg_session.proofs.Departing.{left-none, left-one, leaving-one}
 use Rattle.pg_session.proofs.leaving.leave_each.Goals as goal
+
+pub loop-left-init : goal.loop-left-init
+loop-left-init c =
+    (left-none (slot_frame c.args.definition.now c.args.listed.now) (all_leaving c.args.align.now) c.args.output.now, c.requires.places, c.requires.timed, c.requires.few, omega arith)
 
 pub loop-left-preserved : goal.loop-left-preserved
 loop-left-preserved c =

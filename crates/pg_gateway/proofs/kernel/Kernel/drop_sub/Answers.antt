@@ -18,7 +18,7 @@ pub invariant_of-self : goal.invariant_of-self
 invariant_of-self c =
     let len = c.shift_remove.ensures.len in
     let few = c.self.invariant.0 in
-    (omega arith, rw c.shift_remove.ensures.entries (slots-removed HasNone (nat_eq c.args.sub) c.self.inside.subs.entries c.self.invariant.1), c.self.invariant.2, c.self.invariant.3, c.self.invariant.4, c.self.invariant.5, c.self.invariant.6)
+    (omega arith, rw c.shift_remove.ensures.entries (slots-removed HasNone (nat_eq c.args.sub) c.self.inside.subs.entries c.self.invariant.1), c.self.invariant.2, c.self.invariant.3, c.self.invariant.4, c.self.invariant.5)
 
 pub returns-clause-goes : goal.returns-clause-goes
 returns-clause-goes c = λ S h.

@@ -6,9 +6,9 @@ use Rattle.pg_gateway.specs.Sharing.{measures}
 use Rattle.pg_gateway.specs.Judging.{samples_in, taken_of}
 use Rattle.pg_gateway.specs.Placing.{placed_counted, placed_refusal, placed_memory}
 use Rattle.pg_gateway.specs.Taking.{Awaits, Fits, FansOut, measured}
-use Rattle.pg_gateway.specs.Routes.{WhereBit, IsPassed, masks_taken, MasksTellAll}
+use Rattle.pg_gateway.specs.Routes.{WhereBit, IsPassed, masks_taken, SharesTold}
 use Rattle.pg_gateway.proofs.RouteKept.{masks_length, keys_within, marks_within, measured_passes}
-use Rattle.pg_gateway.proofs.MaskLaws.{measured_told}
+use Rattle.pg_gateway.proofs.MaskLaws.{measured_told, shares_told}
 use Rattle.pg_gateway.specs.Frugal.{AllSlots, Spares}
 use Rattle.pg_gateway.specs.Shown.{GatewayValue}
 use Rattle.pg_gateway.proofs.Places.{samples-some}
@@ -24,27 +24,17 @@ pub count_memory-requires : goal.count_memory-requires
 count_memory-requires c = record { within = rw c.deref-in-Err.ensures.value (placed_within _ _ _ c.judge_shared-some.ensures.blocks) }
 
 pub count_blocks-requires-2 : goal.count_blocks-requires-2
-count_blocks-requires-2 c = record { within = rw c.deref-6.ensures.value (placed_within _ _ _ c.judge_shared-some.ensures.blocks) }
+count_blocks-requires-2 c = record { within = rw c.deref-4.ensures.value (placed_within _ _ _ c.judge_shared-some.ensures.blocks) }
 
-pub union_of-marks-requires : goal.union_of-marks-requires
-union_of-marks-requires c =
-    record {
-      within = rw c.deref-2.ensures.value (rw (masks_length c.self.inside.subs.entries (keys_of c.self.inside.registry) c.refresh.new.self.masks c.refresh.ensures.masks) (keys_within c.self.inside.registry _ (placed_within _ _ _ c.judge_shared-some.ensures.blocks)));
-    }
+pub shares_of-marks-requires-clause-within : goal.shares_of-marks-requires-clause-within
+shares_of-marks-requires-clause-within c =
+    rw c.deref-2.ensures.value (rw (masks_length c.self.inside.subs.entries (keys_of c.self.inside.registry) c.refresh.new.self.masks c.refresh.ensures.masks) (keys_within c.self.inside.registry _ (placed_within _ _ _ c.judge_shared-some.ensures.blocks)))
 
-pub masks_of-requires-clause-within : goal.masks_of-requires-clause-within
-masks_of-requires-clause-within c =
-    rw c.deref-3.ensures.value (rw (masks_length c.self.inside.subs.entries (keys_of c.self.inside.registry) c.refresh.new.self.masks c.refresh.ensures.masks) (keys_within c.self.inside.registry _ (placed_within _ _ _ c.judge_shared-some.ensures.blocks)))
+pub shares_of-marks-requires-clause-few : goal.shares_of-marks-requires-clause-few
+shares_of-marks-requires-clause-few c = rw c.deref-2.ensures.value (omega (arith, c.judge_shared-some.ensures.few, c.judge_shared-some.new.blocks.ok))
 
-pub masks_of-requires-clause-few : goal.masks_of-requires-clause-few
-masks_of-requires-clause-few c = rw c.deref-3.ensures.value (omega (arith, c.judge_shared-some.ensures.few, c.judge_shared-some.new.blocks.ok))
-
-pub lay_copies_marked-requires-clause-masks : goal.lay_copies_marked-requires-clause-masks
-lay_copies_marked-requires-clause-masks c =
-    let m = arc_value c.args.frame.now in
-    let tell = measured_told m c.self.inside.registry c.self.inside.last_tick c.self.inside.subs.entries c.refresh.new.self.masks c.judge_shared-some.new.taken.items c.judge_shared-some.new.blocks.items
-    c.refresh.ensures.masks c.judge_shared-some.ensures.rising c.judge_shared-some.ensures.taken c.judge_shared-some.ensures.blocks in
-    ap length (c.deref-5.ensures.value ∙ c.masks_of.ensures.masks ∙ ap (masks_taken c.refresh.new.self.masks) c.deref-3.ensures.value) ∙ tell.0 ∙ ap length (sym c.deref-4.ensures.value)
+pub lay_copies_marked-requires-clause-some : goal.lay_copies_marked-requires-clause-some
+lay_copies_marked-requires-clause-some c = rw c.deref-3.ensures.value (c.judge_shared-some.ensures.some c.if-not-some.false)
 
 pub lay_copies_marked-requires-clause-tell : goal.lay_copies_marked-requires-clause-tell
 lay_copies_marked-requires-clause-tell c =
@@ -55,12 +45,14 @@ lay_copies_marked-requires-clause-tell c =
     let masks = c.refresh.new.self.masks in
     let tell = measured_told m c.self.inside.registry c.self.inside.last_tick xs masks taken blocks
     c.refresh.ensures.masks c.judge_shared-some.ensures.rising c.judge_shared-some.ensures.taken c.judge_shared-some.ensures.blocks in
-    subst (λ places. MasksTellAll c.deref-5.result.now m.config places xs) (sym c.deref-4.ensures.value)
-    (subst (λ ns. MasksTellAll ns m.config taken xs) (sym (c.deref-5.ensures.value ∙ c.masks_of.ensures.masks ∙ ap (masks_taken masks) c.deref-3.ensures.value)) tell.1)
+    let common = rw c.deref-2.ensures.value at c.shares_of-marks.ensures.common in
+    let turned = rw c.deref-2.ensures.value at c.shares_of-marks.ensures.turned in
+    subst (λ places. SharesTold c.shares_of-marks.result.1 c.shares_of-marks.new.turned m.config places c.shares_of-marks.result.0 xs) (sym c.deref-3.ensures.value)
+    (shares_told m xs (masks_taken masks blocks) taken c.shares_of-marks.result.0 c.shares_of-marks.result.1 c.shares_of-marks.new.turned tell.0 tell.1 common turned)
 
 pub lay_copies_marked-requires-clause-bits : goal.lay_copies_marked-requires-clause-bits
 lay_copies_marked-requires-clause-bits c =
-    marks_within c.self.inside.subs.entries (keys_of c.self.inside.registry) c.refresh.new.self.masks c.deref-2.result.now c.union_of-marks.result c.refresh.ensures.masks c.union_of-marks.ensures.none
+    marks_within c.self.inside.subs.entries (keys_of c.self.inside.registry) c.refresh.new.self.masks c.deref-2.result.now c.shares_of-marks.result.0 c.refresh.ensures.masks c.shares_of-marks.ensures.none
 
 pub lay_copies_marked-requires-clause-passed : goal.lay_copies_marked-requires-clause-passed
 lay_copies_marked-requires-clause-passed c =
@@ -68,34 +60,28 @@ lay_copies_marked-requires-clause-passed c =
     let xs = c.self.inside.subs.entries in
     let pmus = c.self.inside.registry in
     let last = c.self.inside.last_tick in
-    subst (λ places. WhereBit 0 c.union_of-marks.result (IsPassed (measured m places)) xs) (sym c.deref-4.ensures.value)
-    (measured_passes m pmus last xs c.refresh.new.self.masks c.judge_shared-some.new.taken.items c.judge_shared-some.new.blocks.items c.union_of-marks.result
+    subst (λ places. WhereBit 0 c.shares_of-marks.result.0 (IsPassed (measured m places)) xs) (sym c.deref-3.ensures.value)
+    (measured_passes m pmus last xs c.refresh.new.self.masks c.judge_shared-some.new.taken.items c.judge_shared-some.new.blocks.items c.shares_of-marks.result.0
     c.refresh.ensures.masks c.judge_shared-some.ensures.taken c.judge_shared-some.ensures.blocks
-    (rw (← c.deref-2.ensures.value) c.union_of-marks.ensures.covers))
+    (rw (← c.deref-2.ensures.value) c.shares_of-marks.ensures.covers))
 
-pub fan_out_marked-made-requires-clause-masks : goal.fan_out_marked-made-requires-clause-masks
-fan_out_marked-made-requires-clause-masks c =
-    let m = arc_value c.args.frame.now in
-    let tell = measured_told m c.self.inside.registry c.self.inside.last_tick c.self.inside.subs.entries c.refresh.new.self.masks c.judge_shared-some.new.taken.items c.judge_shared-some.new.blocks.items
-    c.refresh.ensures.masks c.judge_shared-some.ensures.rising c.judge_shared-some.ensures.taken c.judge_shared-some.ensures.blocks in
-    ap length (c.deref-8.ensures.value ∙ c.masks_of.ensures.masks ∙ ap (masks_taken c.refresh.new.self.masks) c.deref-3.ensures.value) ∙ tell.0 ∙ ap length (sym c.deref-7.ensures.value)
+pub fan_out_marked-made-requires-clause-some : goal.fan_out_marked-made-requires-clause-some
+fan_out_marked-made-requires-clause-some c = rw c.deref-5.ensures.value (c.judge_shared-some.ensures.some c.if-not-some.false)
 
 pub fan_out_marked-made-requires-clause-tell : goal.fan_out_marked-made-requires-clause-tell
 fan_out_marked-made-requires-clause-tell c =
-    let m = arc_value c.args.frame.now in
-    let xs = c.lay_copies_marked.new.subs.entries in
-    subst (λ places. MasksTellAll c.deref-8.result.now m.config places xs) (c.deref-4.ensures.value ∙ sym c.deref-7.ensures.value)
-    (subst (λ ns. MasksTellAll ns m.config c.deref-4.result.now xs) (c.deref-5.ensures.value ∙ sym c.deref-8.ensures.value) c.in-Ok.ensures.tell)
+    subst (λ places. SharesTold c.shares_of-marks.result.1 c.shares_of-marks.new.turned (arc_value c.args.frame.now).config places c.shares_of-marks.result.0 c.lay_copies_marked.new.subs.entries)
+    (c.deref-3.ensures.value ∙ sym c.deref-5.ensures.value) c.in-Ok.ensures.tell
 
 pub fan_out_marked-made-requires-clause-bits : goal.fan_out_marked-made-requires-clause-bits
 fan_out_marked-made-requires-clause-bits c =
     rw c.lay_copies_marked.ensures.len
-    (marks_within c.self.inside.subs.entries (keys_of c.self.inside.registry) c.refresh.new.self.masks c.deref-2.result.now c.union_of-marks.result c.refresh.ensures.masks c.union_of-marks.ensures.none)
+    (marks_within c.self.inside.subs.entries (keys_of c.self.inside.registry) c.refresh.new.self.masks c.deref-2.result.now c.shares_of-marks.result.0 c.refresh.ensures.masks c.shares_of-marks.ensures.none)
 
 pub fan_out_marked-made-requires-clause-awaits : goal.fan_out_marked-made-requires-clause-awaits
 fan_out_marked-made-requires-clause-awaits c =
-    subst (λ places. WhereBit 1 c.union_of-marks.result (Awaits (measured (arc_value c.args.frame.now) places)) c.lay_copies_marked.new.subs.entries)
-    (c.deref-4.ensures.value ∙ sym c.deref-7.ensures.value) c.in-Ok.ensures.laid
+    subst (λ places. WhereBit 1 c.shares_of-marks.result.0 (Awaits (measured (arc_value c.args.frame.now) places)) c.lay_copies_marked.new.subs.entries)
+    (c.deref-3.ensures.value ∙ sym c.deref-5.ensures.value) c.in-Ok.ensures.laid
 
 pub lay_copies_marked-requires-clause-fits : goal.lay_copies_marked-requires-clause-fits
 lay_copies_marked-requires-clause-fits c =
@@ -105,7 +91,7 @@ lay_copies_marked-requires-clause-fits c =
     let shown = rw (← c.self.view_is) at reached.shows in
     let taken = taken_shown m S _ c.judge_shared-some.new.taken.items shown c.judge_shared-some.ensures.taken in
     subst (λ o. AllSlots (Fits o) c.self.inside.subs.entries)
-    (sym (ap (λ l. measures m.soc m.quality m.frac l) (ap (samples_at m) c.deref-4.ensures.value ∙ taken)))
+    (sym (ap (λ l. measures m.soc m.quality m.frac l) (ap (samples_at m) c.deref-3.ensures.value ∙ taken)))
     (all_fit_measured S.pmus S.last_tick m.soc m.quality m.frac (samples_in m) c.self.inside.subs.entries S.subs shown.subs reached.consistent.agree)
 
 pub returns-then-not-some-clause-goes : goal.returns-then-not-some-clause-goes
@@ -134,8 +120,8 @@ pub returns-in-Err-clause-frugal : goal.returns-in-Err-clause-frugal
 returns-in-Err-clause-frugal c = λ S h none spares e.
     let m = arc_value c.args.frame.now in
     let xs = c.self.inside.subs.entries in
-    let offer : measured m c.deref-4.result.now ≡ measures m.soc m.quality m.frac (taken_of c.self.inside.registry c.self.inside.last_tick m) =
-    ap (λ l. measures m.soc m.quality m.frac l) (ap (samples_at m) c.deref-4.ensures.value ∙ c.judge_shared-some.ensures.taken) in
+    let offer : measured m c.deref-3.result.now ≡ measures m.soc m.quality m.frac (taken_of c.self.inside.registry c.self.inside.last_tick m) =
+    ap (λ l. measures m.soc m.quality m.frac l) (ap (samples_at m) c.deref-3.ensures.value ∙ c.judge_shared-some.ensures.taken) in
     let inside : AllSlots (Spares (measures m.soc m.quality m.frac (taken_of c.self.inside.registry c.self.inside.last_tick m))) xs =
     subst (λ (v : GatewayValue). AllSlots (Spares (measures m.soc m.quality m.frac (taken_of v.pmus v.last_tick m))) v.subs) (sym c.self.view_is) spares in
     let never : false ≡ true = c.in-Err.ensures.needless (subst (λ o. AllSlots (Spares o) xs) (sym offer) inside) in
@@ -150,7 +136,7 @@ returns-clause-goes c = λ S h.
     let taken = taken_shown m S _ c.judge_shared-some.new.taken.items shown c.judge_shared-some.ensures.taken in
     let there = samples-some m 0 c.judge_shared-some.new.taken.items c.judge_shared-some.ensures.rising (c.judge_shared-some.ensures.some c.if-not-some.false) in
     let some = sym taken ∙ there.2 in
-    let counted = c.count_blocks-2.ensures ∙ ap (placed_counted c.self.inside.registry) c.deref-6.ensures.value ∙ ap (λ pmus. placed_counted pmus items) shown.pmus ∙ counted_placed S.pmus items _ placed in
-    let offer = ap (λ l. measures m.soc m.quality m.frac l) (ap (samples_at m) c.deref-7.ensures.value ∙ taken) in
+    let counted = c.count_blocks-2.ensures ∙ ap (placed_counted c.self.inside.registry) c.deref-4.ensures.value ∙ ap (λ pmus. placed_counted pmus items) shown.pmus ∙ counted_placed S.pmus items _ placed in
+    let offer = ap (λ l. measures m.soc m.quality m.frac l) (ap (samples_at m) c.deref-5.ensures.value ∙ taken) in
     let fans = subst (λ o. FansOut o c.fan_out_marked-made.result.0 c.fan_out_marked-made.result.1 S.subs c.fan_out_marked-made.new.subs.entries) offer (c.fan_out_marked-made.ensures.fans_out S.subs (c.lay_copies_marked.ensures.shows S.subs shown.subs)) in
     measured_goes m S _ c.count_blocks-2.new.registry c.fan_out_marked-made.new.subs.entries c.fan_out_marked-made.result.0 c.fan_out_marked-made.result.1 there.0 there.1 shown some fans c.fan_out_marked-made.ensures.kept counted

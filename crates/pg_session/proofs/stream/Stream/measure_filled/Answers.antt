@@ -17,6 +17,7 @@ use Rattle.pg_session.proofs.Sending.{sends-none}
 use Rattle.pg_session.proofs.Simulating.{stream_of}
 use Rattle.pg_session.proofs.Measuring.{effective-placed, nothing-turns, measure_is, base_shared}
 use Rattle.pg_session.proofs.Filled.{clears_of, fills_turn, filled_members, blocks_came}
+use Rattle.pg_session.proofs.OneBlock.{left_turn}
 use Rattle.pg_session.specs.declared.filling.Brought.{Brought}
 use Rattle.pg_session.specs.declared.filling.Brought.TheVariants as brought
 use Rattle.pg_session.proofs.stream.Stream.measure_filled.Goals as goal
@@ -80,8 +81,8 @@ unreachable-requires c =
     let no : false ≡ true = sym (ap is_some c.in_default-slot_for.is) ∙ c.slot_for.ensures.value ∙ leaves in
     cc no
 
-pub send_filled-requires-clause-listed : goal.send_filled-requires-clause-listed
-send_filled-requires-clause-listed c =
+pub leave_filled-requires-clause-listed : goal.leave_filled-requires-clause-listed
+leave_filled-requires-clause-listed c =
     let m = c.args.frame.now in
     let members = c.self.inside.definition.members in
     let samples = samples_at m c.args.places.now in
@@ -93,14 +94,8 @@ send_filled-requires-clause-listed c =
 -- the turn of a stream whose slot the frame fills
 filled_turn : (c : goal.After-order-3-1)
     → measure_turn by_slots c.args.listed.now c.args.frame.now.soc c.args.frame.now.quality c.args.frame.now.frac (samples_at c.args.frame.now c.args.places.now)
-    (stream_of c.self.inside.definition c.self.inside.align c.self.inside.changes)
-    ≡ record {
-      stream = stream_of c.self.inside.definition (with_last c.self.inside.align c.in-Some.slot) c.self.inside.changes;
-      frames = slot_frame c.self.inside.definition c.args.listed.now (head_with c.in-Some.slot (pieces_in c.args.frame.now c.place_all.new.order)) ∷ [];
-      late = 0;
-      twice = 0;
-      past = 0;
-    }
+    c.args.self.now
+    ≡ left_turn c.args.listed.now c.args.self.now c.in-Some.slot (pieces_in c.args.frame.now c.place_all.new.order)
 filled_turn c =
     let m = c.args.frame.now in
     let places = c.args.places.now in
@@ -119,27 +114,20 @@ filled_turn c =
     sym (ap (can_leave c.self.inside.align.last) at) ∙ sym c.slot_for.ensures.value ∙ ap is_some c.in-Some.is in
     let turn = measure_is listed m places s (length blocks) (resolution m.config) (Ok c.in-Some.slot) c.count-count.ensures.keeps c.requires.places on
     refl came.0 refl (sym at) in
-    turn ∙ fills_turn listed s c.in-Some.slot blocks (pieces_in m order) above clears.none_open c.self.invariant.places came.0 came.1
-    (blocks_came m _ order (c.place_all.ensures.blocks c.in-All.is))
+    let here = turn ∙ fills_turn listed s c.in-Some.slot blocks (pieces_in m order) above clears.none_open c.self.invariant.places came.0 came.1
+    (blocks_came m _ order (c.place_all.ensures.blocks c.in-All.is)) in
+    subst (λ (v : StreamOf (Aligned Piece)). measure_turn by_slots listed m.soc m.quality m.frac samples v ≡ left_turn listed v c.in-Some.slot (pieces_in m order)) c.self.view_is here
 
 pub returns-clause-stream : goal.returns-clause-stream
 returns-clause-stream c =
-    let m = c.args.frame.now in
-    let def = c.self.inside.definition in
-    let samples = samples_at m c.args.places.now in
-    let made : stream_of def c.leave_at_once.new.self c.self.inside.changes ≡ stream_of def (with_last c.self.inside.align c.in-Some.slot) c.self.inside.changes =
-    ap (λ (a : Aligned Piece). stream_of def a c.self.inside.changes) c.leave_at_once.ensures.shown in
-    subst (λ (v : StreamOf (Aligned Piece)). stream_of def c.leave_at_once.new.self c.self.inside.changes
-    ≡ (measure_turn by_slots c.args.listed.now m.soc m.quality m.frac samples v).stream) c.self.view_is
-    (made ∙ sym (ap (λ (t : Turn (Aligned Piece)). t.stream) (filled_turn c)))
+    let made = subst (λ (v : StreamOf (Aligned Piece)). c.leave_filled.new.self ≡ record v { slots = with_last v.slots c.in-Some.slot }) c.self.view_is c.leave_filled.ensures.stream in
+    made ∙ sym (ap (λ (t : Turn (Aligned Piece)). t.stream) (filled_turn c))
 
 pub returns-clause-sends : goal.returns-clause-sends
 returns-clause-sends c =
-    let m = c.args.frame.now in
-    let samples = samples_at m c.args.places.now in
     let listed = c.args.listed.now in
     let out = c.args.output.now in
-    let new = c.send_filled.new.output in
-    subst (λ (v : StreamOf (Aligned Piece)). Sends (measure_turn by_slots listed m.soc m.quality m.frac samples v).frames
-    (with_stats out (turn_stats (measure_turn by_slots listed m.soc m.quality m.frac samples v) out.output.stats)) new) c.self.view_is
-    (subst (λ (t : Turn (Aligned Piece)). Sends t.frames (with_stats out (turn_stats t out.output.stats)) new) (sym (filled_turn c)) c.send_filled.ensures.sends)
+    let new = c.leave_filled.new.output in
+    let frames = subst (λ (v : StreamOf (Aligned Piece)). Sends (slot_frame v.definition listed (head_with c.in-Some.slot (pieces_in c.args.frame.now c.place_all.new.order)) ∷ []) out new)
+    c.self.view_is c.leave_filled.ensures.sends in
+    subst (λ (t : Turn (Aligned Piece)). Sends t.frames (with_stats out (turn_stats t out.output.stats)) new) (sym (filled_turn c)) frames

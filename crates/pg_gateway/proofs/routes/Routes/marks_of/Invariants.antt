@@ -1,9 +1,11 @@
 use Rattle.std.proofs.Common.{◌≡◌, ℕ, All, None, get_or, take}
 use Rattle.std.specs.Int.{bit_at}
-use Rattle.pg_gateway.proofs.routes.Routes.union_of.Given as goal
+use Rattle.pg_gateway.specs.Routes.{IsCommon, masks_taken}
+use Rattle.pg_gateway.proofs.routes.Routes.marks_of.Given as goal
 
 abbrev pub invariant-loop-block : goal.invariant-loop-block
 invariant-loop-block l = record {
   covers : (j : ℕ) → bit_at l.marks j ≡ 0 → All (λ b. b.1 ≡ None → bit_at (get_or l.self.masks b.0 0) j ≡ 0) (take l.block-index l.blocks);
   none : (j : ℕ) → All (λ b. bit_at (get_or l.self.masks b.0 0) j ≡ 0) l.blocks → bit_at l.marks j ≡ 0;
+  common : IsCommon l.common (masks_taken l.self.masks (take l.block-index l.blocks));
 }
