@@ -6,8 +6,10 @@
 
 PROGRAM is `pdcgw` as `rt run` left it in crates/pdcgw/out. Each figure is the difference of two runs, of few and of many instants, divided
 by the input frames between them, so that start, setup and end do not count. Frames come in bursts, each when all subscribers have the last one: of 64
-instants where there is one source; of eight, and of 32, where streams wait for several, as one source's frames then come before the next one's. System
-calls are told for each frame that comes in or goes out. A figure past its bound ends the script with status 1.
+instants, and where streams wait for several sources, so that one source's frames come before the next one's, of 32 and of eight too. System
+calls are told for each frame that comes in or goes out. A figure past its bound ends the script with status 1. In a burst of eight instants
+each socket has eight frames, and is read or written once at least, so that no program with a call for each socket makes fewer than 0.125 calls
+a frame: its calls are told without a bound.
 """
 import os
 import re
@@ -153,7 +155,7 @@ def replay_without_text(program, options, instants):
         return total_of(out), total_of(out) - text
 
 
-def load(name, program, sources, subscribers, options, burst):
+def load(name, program, sources, subscribers, options, burst, has_bound=True):
     few, many = 128, 384
     frames_in = (many - few) * len(sources)
     frames_out = (many - few) * sum(len(streams) for _, _, streams in subscribers)
@@ -165,7 +167,8 @@ def load(name, program, sources, subscribers, options, burst):
              - calls_of_service(program, sources, subscribers, few, burst)) / (frames_in + frames_out)
     service.tell(f"{name}: instructions an input frame; of a replay without its text", f"{service_cost:,.0f}; {replay_cost:,.0f}",
                  "at most 1.2 times", service_cost <= 1.2 * replay_cost)
-    service.tell(f"{name}: system calls a frame that comes in or goes out", f"{calls:.3f}", "below 0.1", calls < 0.1)
+    service.tell(f"{name}: system calls a frame that comes in or goes out", f"{calls:.3f}", "below 0.1" if has_bound else "none",
+                 calls < 0.1 or not has_bound)
 
 
 def main():
@@ -175,11 +178,14 @@ def main():
     one = {100: [100]}
     load("P1 S1", program, one, [(1, 256, [(1000, RATE, [(100, 100)])])], ["--sources", "1"], 64)
     load("P1 S64", program, one, [(1 + at, 256, [(1000 + at, RATE, [(100, 100)])]) for at in range(64)], ["--sources", "1", "--subscribers", "64"], 64)
+    each = {100 + at: [100 + at] for at in range(64)}
+    load("P64 S64", program, each, [(1 + at, 256, [(1000 + at, RATE, [(100 + at, 100 + at)])]) for at in range(64)],
+         ["--sources", "64", "--subscribers", "64"], 64)
     many = {100 + at: [100 + at] for at in range(16)}
     members = [(it, it) for it in many]
-    for burst in (8, 32):
+    for burst in (64, 32, 8):
         load(f"P16 S16, streams of 16, {burst} instants at once", program, many, [(1 + at, 256, [(1000 + at, RATE, members)]) for at in range(16)],
-             ["--sources", "16", "--subscribers", "16", "--members", "16"], burst)
+             ["--sources", "16", "--subscribers", "16", "--members", "16"], burst, burst > 8)
     sys.exit(1 if service.failures else 0)
 
 

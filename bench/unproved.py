@@ -4,9 +4,9 @@
     python3 bench/unproved.py OUT            the program pdcgw, in some three minutes
     python3 bench/unproved.py OUT --replay   a program that replays standard input alone, in one: for run-replay.sh, as PROGRAM
 
-It takes the module that `rt try` compiles, takes out the checks and fills that only a trial has, writes the inlining hints of the
-sources into it, which a trial leaves out, and compiles it at -O3. Instructions a frame were 2 to 5 % fewer than the proved
-program's, with --replay 3 to 8 %, as LLVM inlines more into a small program: compare like with like.
+It takes the module that `rt try` compiles, takes out the checks, fills and tests that only a trial has, writes the inlining hints of the
+sources into it, which a trial leaves out, and compiles it at -O3. Instructions a frame were 1 to 5 % fewer than the proved
+program's (7 % with frames of 16 blocks), with --replay some 1 % fewer still, as LLVM inlines more into a small program: compare like with like.
 What it builds has no checks and no proof: it is for figures alone. It stands on what this version of the toolchain calls things, and says so
 where it finds them otherwise.
 """
@@ -107,15 +107,28 @@ def hinted(text, hints):
     return re.sub(r'^(define [^@\n]*@)"([^"\n]+)"(\([^\n]*?\)) #', one, text, flags=re.M)
 
 
+def without_tests(text):
+    """Without the branches of `if` and `prove!` to what is proved unreachable, as a proved program has none. (In the arm of a `match` it has a trap.)"""
+    made = []
+    for function in re.split(r"(?m)^(?=define )", text):
+        dead = set(re.findall(r'(?m)^([\w.]+):[^\n]*\n  call void @"core::assertions::unreachable"\(\)\n', function))
+
+        def one(branch):
+            left = [it for it in branch.groups() if it not in dead]
+            return f"  br label %{left[0]}\n" if len(left) == 1 else branch[0]
+
+        made.append(re.sub(r"  br i1 [^,]+, label %([\w.]+), label %([\w.]+)\n", one, function) if dead else function)
+    return "".join(made)
+
+
 def without_checks(text):
     """Without the tests of a trial, the filling of fresh variables, and the sanitizer."""
     if "rattle-llvm-checks::" not in text or "i8 -86" not in text:
         sys.exit("the module of a trial has other checks than this script knows")
     text = re.sub(r"  call void @llvm\.memset\.p0\.i64\(ptr [^,]+, i8 -86, i64 \d+, i1 false\)\n", "", text)
-    text = re.sub(r'  call void @"rattle-llvm-checks::[^"]*"\([^\n]*\)\n', "", text)
-    text = text.replace("  call void @llvm.trap()\n", "")
+    text = re.sub(r'  call void @"rattle-(?:llvm-checks::[^"]*|try::site-\d+)"\([^\n]*\)\n', "", text)
     text = text.replace("sanitize_address", "").replace('"frame-pointer"="all"', "").replace('"target-cpu"="x86-64"', f'"target-cpu"="{LEVEL}"')
-    return re.sub(r"(attributes #\d+ = )\{\s*\}", r"\1{ nounwind }", text)
+    return re.sub(r"(attributes #\d+ = )\{\s*\}", r"\1{ nounwind }", without_tests(text))
 
 
 def clang(kit, *words):
@@ -138,6 +151,7 @@ def build(kit, folder, out, room):
     with open(f"{room}/module.ll", "w") as f:
         f.write(without_checks(hinted(text, hints_in(kit, os.path.dirname(folder)))))
     clang(kit, f"--sysroot={kit}/toolchain", f"-march={LEVEL}", *told, "-ffunction-sections", "-fdata-sections", "-fPIE", "-O3",
+          "-Xclang", "-fmerge-functions", "-mllvm", "-mergefunc-use-aliases",
           "-c", "-x", "ir", f"{room}/module.ll", "-o", f"{room}/module.o")
     subprocess.run([f"{kit}/bin/rattle-link", "--target", TARGET, "--toolchain", f"{kit}/toolchain", "-o", out, f"{room}/module.o",
                     f"{kit}/c/libos_c.a", f"{kit}/c/liblibc_c.a"], check=True, stderr=subprocess.DEVNULL)

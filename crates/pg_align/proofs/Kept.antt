@@ -5,7 +5,7 @@ use Rattle.std.proofs.lemmas.Grind.{common_steps}
 use Rattle.std.specs.Prelude.{nat_lt, ◌==◌, slice_get}
 use Rattle.pg_data.specs.Pieces.{Piece}
 use Rattle.pg_align.specs.Histories.{is_above}
-use Rattle.pg_align.specs.Fields.{AreAbove, AreBeforeLent, slot_of, slots_of}
+use Rattle.pg_align.specs.Fields.{AreAbove, AreBeforeLent, slots_of}
 use Rattle.pg_align.specs.declared.slot.Slot.{Slot}
 use Rattle.pg_align.specs.Slots.{with_part, OpenSlot, HavePlaces, AreFree, AreAfter, AreRising, one_tick_less}
 

@@ -143,7 +143,6 @@ pub(crate) fn free_all(slots: &mut Vec<Slot>, spare: &mut Vec<Slot>)
 
 /// The place of the first slot whose number is not below this one, looked for from the newest end: most arrivals are for
 /// the newest slot or one near it.
-#[inline(never)]
 fn first_from(slots: &[Slot], number: u64) -> usize
     requires rising { AreRising (slots_of slots.now) }
     ensures place { result ≡ count_below number (slots_of slots.now) }
@@ -174,11 +173,37 @@ fn place_of(slots: &[Slot], number: u64) -> Result<usize, usize>
     if slots[newest].number == number {
         return Ok(newest);
     }
+    place_among(slots, number)
+}
+
+/// The same, mostly called where it is not the newest one. Open slots mostly follow one another without a gap, so it is looked for first
+/// where it stands then.
+#[inline(never)]
+fn place_among(slots: &[Slot], number: u64) -> Result<usize, usize>
+    requires rising { AreRising (slots_of slots.now) }
+    ensures stands { IfOk result (λ at. StandsAt number (slots_of slots.now) at) }
+    ensures inside { IfOk result (λ at. at < length slots.now) }
+    ensures away { IfErr result (λ at. (at ≡ count_below number (slots_of slots.now))
+        × (others_than number (slots_of slots.now) ≡ length slots.now)) }
+    ensures within { IfErr result (λ at. at ≤ length slots.now) }
+{
+    let guess = place_without_gap(slots, number);
+    if guess < slots.len() && slots[guess].number == number {
+        return Ok(guess);
+    }
     let at = first_from(slots, number);
     if at < slots.len() && slots[at].number == number {
         Ok(at)
     } else {
         Err(at)
+    }
+}
+
+/// Where a slot stands if there is no gap between the open ones before it.
+fn place_without_gap(slots: &[Slot], number: u64) -> usize {
+    match slots.first() {
+        None => 0,
+        Some(least) => usize::try_from(number.saturating_sub(least.number)).unwrap_or(0),
     }
 }
 

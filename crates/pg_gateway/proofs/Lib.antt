@@ -29,3 +29,4 @@ pub mod AlikeLaws
 pub mod RouteLaws
 pub mod RouteKept
 pub mod MaskLaws
+pub mod OnlyLaws

@@ -1,10 +1,11 @@
 -- The masks of a frame's blocks tell who holds them.
-use Rattle.std.proofs.Common.{◌≡◌, ◌≢◌, ℕ, zero, suc, ◌+◌, ◌*◌, ◌^◌, ◌%◌, ◌<◌, ◌≤◌, ◌&&◌, add-one, get_or, set, replicate, min, true≢false, Bool, true, false, not, if◌then◌else◌, is_some, List, [], ◌∷◌, ◌++◌, length, take, map, filter, Option, Some, None, refl, sym, ap, subst, ◌∙◌, arith, inl, inr, w16, w64}
+use Rattle.std.proofs.Common.{◌≡◌, ◌≢◌, ℕ, zero, suc, ◌+◌, ◌-◌, ◌*◌, ◌^◌, ◌%◌, ◌<◌, ◌≤◌, ◌&&◌, add-one, get_or, set, replicate, min, true≢false, Bool, true, false, not, if◌then◌else◌, is_some, List, [], ◌∷◌, ◌++◌, length, take, map, filter, Option, Some, None, refl, sym, ap, subst, ◌∙◌, arith, inl, inr, w16, w64}
 use Rattle.std.specs.Prelude.{slice_get, nat_eq, All}
 use Rattle.std.specs.Int.{bit_at, bit_not, trailing_zeros}
 use Rattle.std.specs.Int.Bits.{bit_and, bit_or}
 use Rattle.std.proofs.lemmas.Nat.Bits.{bit_at_and, bit_at_or, bit_at_not, bit_at_set_same, bit_at_set_other, bit_at_above, bit_at-lt, bit_at-zero}
 use Rattle.std.specs.Map.{keys_of, values_of}
+use Rattle.std.proofs.lemmas.Nat.{and_comm, and_mask}
 use Rattle.std.proofs.lemmas.Bool.{cases_eq, cases_lt}
 use Rattle.std.proofs.lemmas.List.{append_assoc, append-nil, get_or_past, get_or-set_same, get_or-set_other, get_or-take, length-take-le, get_or_default}
 use Rattle.std.proofs.lemmas.List.Quantifiers.{position-Some}
@@ -25,7 +26,7 @@ use Rattle.pg_gateway.specs.Judging.{samples_in, sample_refusal, is_taken, judge
 use Rattle.pg_gateway.specs.Placing.{ArePlaced}
 use Rattle.pg_gateway.specs.Shown.{SlotValue}
 use Rattle.pg_gateway.specs.Taking.{part_passes}
-use Rattle.pg_gateway.specs.Routes.{IsMask, AreMasks, HasBits, IsCommon, IsTurned, bit_of, mask_where, masks_taken, places_at, places_held, TellsShare, SharesTold}
+use Rattle.pg_gateway.specs.Routes.{IsMask, AreMasks, HasBits, IsAlone, IsOnlyBit, IsCommon, IsTurned, bit_of, mask_where, masks_taken, places_at, places_held, TellsShare, SharesTold}
 use Rattle.pg_gateway.proofs.Places.{part_there, rising-filter}
 use Rattle.pg_gateway.proofs.RouteLaws.{turn, without, bit_within, one_zero, value_set_same, value_set_other}
 use Rattle.pg_gateway.proofs.RouteKept.{mask_at}
@@ -133,11 +134,19 @@ pub end_at : (n left : ℕ) (held ps : List ℕ) → left ≡ 0 → held ++ plac
 end_at n left held ps none all =
     sym (append-nil held) ∙ ap (λ l. held ++ l) (sym (none_at left 0 ps (λ j. ap (λ m. bit_at m j) none ∙ bit_at-zero j))) ∙ all
 
-pub one_at : (n : ℕ) (ps : List ℕ) → 0 < n → n < 2 ^ 64 → HasBits (length ps) n → without n (trailing_zeros w64 n) ≡ 0
-    → (trailing_zeros w64 n < length ps) × (get_or ps (trailing_zeros w64 n) 0 ∷ [] ≡ places_at n 0 ps)
-one_at n ps some small bits alone =
-    let first = first_at n ps some small bits in
-    (first.0, ap (λ l. get_or ps (trailing_zeros w64 n) 0 ∷ l) (sym (none_at (without n (trailing_zeros w64 n)) 0 ps (λ j. ap (λ m. bit_at m j) alone ∙ bit_at-zero j))) ∙ sym first.1)
+-- of an only bit there is one place
+pub one_at : (n i : ℕ) (ps : List ℕ) → IsOnlyBit n i → HasBits (length ps) n → (i < length ps) × (places_at n 0 ps ≡ get_or ps i 0 ∷ [])
+one_at n i ps only bits =
+    let within = bit_within (length ps) n i bits only.0 in
+    let same : (j : ℕ) → 0 + j ≡ j = λ j. omega arith in (
+      within,
+      lowest_at 0 n 0 i ps within (ap (bit_at n) (same i) ∙ only.0) (λ j lt. ap (bit_at n) (same j) ∙ only.1 j (below j lt)) (bit_at-zero (0 + i))
+          (λ j other. bit_at-zero j ∙ sym (only.1 j (λ is. other (is ∙ sym (same i)))))
+          ∙ ap (λ l. get_or ps i 0 ∷ l) (none_at 0 0 ps (λ j. bit_at-zero j)),
+    )
+  where
+    below : (j : ℕ) → j < i → j ≡ i → ⊥
+    below j lt same = omega arith
 
 -- A number whose bits are those of a subscriber in the masks has the places that are marked.
 turned_at : (j n k : ℕ) (ps ns : List ℕ) → length ns ≡ length ps → ((i : ℕ) → bit_at n (k + i) ≡ bit_at (get_or ns i 0) j) → places_at n k ps ≡ places_marked j ps ns
@@ -191,6 +200,20 @@ common_next common n ns all = λ j set i lt.
       | inl same ↦ subst (λ k. nat_eq (bit_at (get_or (ns ++ n ∷ []) k 0) j) 1 ≡ true) (sym same) (subst (λ m. nat_eq (bit_at m j) 1 ≡ true) (sym (mask_last ns n)) both.1)
       | inr other ↦ subst (λ m. nat_eq (bit_at m j) 1 ≡ true) (sym (mask_before ns n i other)) (all j both.0 i (omega (arith, lt, other, more_masks ns n)))
     ]
+
+pub alone_next : (marks common n : ℕ) (ns : List ℕ) → n < 2 ^ 64 → IsAlone marks common ns → IsAlone (bit_or marks n) (bit_and common n) (ns ++ n ∷ [])
+alone_next marks common n [] small alone =
+    rw (alone.0, alone.1) (sym (and_comm (2 ^ 64 - 1) n ∙ and_mask n 64 ∙ same))
+  where
+    same : n % 2 ^ 64 ≡ n
+    same = omega (arith, small)
+alone_next marks common n (m ∷ []) small alone = tt
+alone_next marks common n (m ∷ k ∷ ns) small alone = tt
+
+pub alone_end : (marks common : ℕ) (ns : List ℕ) → IsAlone marks common ns → length ns ≡ 1 → marks ≡ common
+alone_end marks common [] alone one = absurd (omega (arith, one))
+alone_end marks common (n ∷ []) alone one = alone
+alone_end marks common (n ∷ m ∷ ns) alone one = absurd (omega (arith, one))
 
 -- one more mask is turned: its bit is set in the numbers of its holders among some subscribers
 pub turned_next : (some n : ℕ) (ns old new : List ℕ) → IsTurned some ns old
@@ -478,11 +501,9 @@ pub held_told : (whole : Bool) (n : ℕ) (source : Source) (places : List ℕ) (
     → TellsShare whole n source places old → items ≡ filter (λ i. part_passes (has_key inner.subscriber.own.grants) source (slice_get source.parts i)) places
 held_told whole n source places old inner items is held tell = held ∙ (subst (λ (v : SlotValue). TellsShare whole n source places v) (sym is) tell).held
 
-pub some_held : (whole : Bool) (n : ℕ) (places : List ℕ) → 0 < length places → (whole ≡ false → 0 < n) → n < 2 ^ 64 → (whole ≡ false → HasBits (length places) n)
-    → 0 < length (places_held whole n places)
-some_held true n places some number small bits = some
-some_held false n places some number small bits =
-    let first = first_at n places (number refl) small (bits refl) in
+pub some_held : (n : ℕ) (places : List ℕ) → 0 < n → n < 2 ^ 64 → HasBits (length places) n → 0 < length (places_at n 0 places)
+some_held n places some small bits =
+    let first = first_at n places some small bits in
     subst (λ l. 0 < length l) (sym first.1) (omega arith)
 
 pub none_held : (n : ℕ) (places : List ℕ) → n ≡ 0 → length (places_at n 0 places) ≡ 0

@@ -1,6 +1,6 @@
 -- One subscriber takes its share of an event for all.
-use Rattle.std.proofs.Common.{◌≡◌, ℕ, ◌<◌, ◌≤◌, ◌⊎◌, Bool, true, true≢false, if◌then◌else◌, List, [], ◌∷◌, ◌++◌, length, filter, Option, Some, None, refl, sym, ap, subst, ◌∙◌, arith, inl, inr}
-use Rattle.std.specs.Prelude.{slice_get, false, Ok, Err}
+use Rattle.std.proofs.Common.{◌≡◌, ℕ, ◌<◌, ◌≤◌, ◌⊎◌, Bool, true, true≢false, List, [], ◌∷◌, ◌++◌, length, filter, Option, Some, None, refl, sym, ap, subst, ◌∙◌, arith, inl, inr}
+use Rattle.std.specs.Prelude.{slice_get, false, Result, Ok, Err, IfOk, IfErr, IsOk}
 use Rattle.pg_wire.specs.declared.refusal.Refusal.{Refusal}
 use Rattle.pg_wire.specs.declared.refusal.Refusal.TheVariants.{NoMemory}
 use Rattle.pg_wire.specs.declared.ids.PmuKey.{PmuKey}
@@ -180,6 +180,12 @@ lays_refused o old inner x r after is some memory needless own = record {
   own = own ∙ ap (λ (v : SlotValue). v.subscriber.own) is;
   audit = ap (λ (v : SlotValue). v.audit) is;
 }
+
+pub lays_share : (o : Offer) (old inner : SlotValue) (x : Happening) (result : Result Unit Refusal) (after : SubscriberValue) → inner ≡ old → HasNone old
+    → share o old.subscriber.own.grants ≡ Some x → IfOk result (λ u. IsLaidFor after x) → IfErr result (λ r. r ≡ NoMemory) → (NeedsNone inner.subscriber x → IsOk result)
+    → after.own ≡ inner.subscriber.own → LaysShare o old result (record inner { subscriber = after })
+lays_share o old inner x (Ok tt) after is none some laid memory needless own = lays_some o old inner x after is none some laid own
+lays_share o old inner x (Err r) after is none some laid memory needless own = lays_refused o old inner x r after is some memory needless own
 
 -- An event for all is taken by one that has no share, and by one that has.
 pub offer_none : (o : Offer) (lost : Bool) (v : SlotValue) → share o v.subscriber.own.grants ≡ None → Awaits o v → TakesOffer o lost v (0, 0) v

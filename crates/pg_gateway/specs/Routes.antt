@@ -1,5 +1,5 @@
 -- Which subscribers hold a PMU, as the bits of a number: subscriber j's is bit j.
-use Rattle.std.specs.Prelude.{◌≡◌, ◌<◌, ◌≤◌, ℕ, suc, nat_eq, Bool, true, false, if◌then◌else◌, List, [], ◌∷◌, ◌++◌, length, filter, get_or, slice_get, Option, Some, None}
+use Rattle.std.specs.Prelude.{◌≡◌, ◌≢◌, ◌^◌, ◌-◌, ◌<◌, ◌≤◌, ℕ, suc, nat_eq, Bool, true, false, if◌then◌else◌, List, [], ◌∷◌, ◌++◌, length, filter, get_or, slice_get, Option, Some, None}
 use Rattle.std.specs.Int.{bit_at}
 use Rattle.std.specs.Map.{keys_of, values_of}
 use Rattle.pg_wire.specs.declared.ids.PmuKey.{PmuKey}
@@ -61,11 +61,13 @@ abbrev pub places_held : Bool → ℕ → List ℕ → List ℕ
 places_held true n places = places
 places_held false n places = places_at n 0 places
 
--- the whole of these places, or the one of them, or those that are held
-abbrev pub share_in : Bool → Option ℕ → List ℕ → List ℕ → List ℕ
-share_in true one places held = places
-share_in false None places held = held
-share_in false (Some i) places held = get_or places i 0 ∷ []
+-- no other bit of the number is set
+abbrev pub IsOnlyBit : ℕ → ℕ → Type 0
+IsOnlyBit n i = (bit_at n i ≡ 1) × ((j : ℕ) → j ≢ i → bit_at n j ≡ 0)
+
+-- the PMU at a place is granted to the subscriber
+abbrev pub HoldsPart : Source → ℕ → SlotValue → Type 0
+HoldsPart source place v = part_passes (has_key v.subscriber.own.grants) source (slice_get source.parts place) ≡ true
 
 -- By the whole or the number, the places of a source's PMUs that a subscriber holds are those that it is granted.
 pub record TellsShare (whole : Bool) (n : ℕ) (source : Source) (places : List ℕ) (v : SlotValue) : Type 0 where
@@ -82,6 +84,12 @@ SharesTold common turned source places marks entries =
 -- where a bit is set in `common`, each mask has it set
 abbrev pub IsCommon : ℕ → List ℕ → Type 0
 IsCommon common masks = (j : ℕ) → nat_eq (bit_at common j) 1 ≡ true → (i : ℕ) → i < length masks → nat_eq (bit_at (get_or masks i 0) j) 1 ≡ true
+
+-- By one mask what is marked is what is common; by none nothing is marked, and all is common.
+abbrev pub IsAlone : ℕ → ℕ → List ℕ → Type 0
+IsAlone marks common [] = (marks ≡ 0) × (common ≡ 2 ^ 64 - 1)
+IsAlone marks common (n ∷ []) = marks ≡ common
+IsAlone marks common (n ∷ m ∷ masks) = Unit {0}
 
 -- The masks are turned for the subscribers of some bits: what is bit j of mask i, is bit i of number j.
 abbrev pub IsTurned : ℕ → List ℕ → List ℕ → Type 0

@@ -4,7 +4,6 @@ use Rattle.std.specs.Arc.{arc_value}
 use Rattle.pg_wire.specs.declared.ids.PmuKey.{PmuKey}
 use Rattle.pg_config.specs.Parts.{Part, Source}
 use Rattle.pg_data.specs.Measurements.{Measurement}
-use Rattle.pg_session.specs.Events as event_of
 use Rattle.pg_session.specs.Events.{Happening, drain, announced_at, samples_at, key_in}
 use Rattle.pg_wire.specs.declared.refusal.Refusal.{Refusal}
 use Rattle.pg_wire.specs.declared.refusal.Refusal.TheVariants.{NoSuchSub, NoMemory}

@@ -5,12 +5,13 @@ ghost use Rattle.std.specs.Map.{lookup};
 ghost use Rattle.std.specs.Arc.{arc_value};
 ghost use Rattle.std.specs.Option.{option_map_or};
 ghost use Rattle.pg_registry.specs.Registered.{has_source};
-ghost use Rattle.pg_gateway.specs.Occurrences.{occurrence, told, measure};
+ghost use Rattle.pg_session.specs.Events.{drain};
+ghost use Rattle.pg_gateway.specs.Occurrences.{occurrence, told, measure, asks};
 ghost use Rattle.pg_gateway.specs.State.{SharedMachine, opening, slot_of, own_of};
 ghost use Rattle.pg_gateway.specs.Shown.{SlotValue, GatewayShows, Goes, IsWithinLimits};
 ghost use Rattle.pg_gateway.specs.Alike.{LeavesAlike, TakesOwnBlocks};
 ghost use Rattle.pg_gateway.specs.Frugal.{Frugal};
-ghost use Rattle.pg_gateway.specs.Posting.{Answers};
+ghost use Rattle.pg_gateway.specs.Posting.{Answers, KeepsBuffer};
 ghost use Rattle.pg_gateway.specs.Taking.{told_to_all};
 ghost use Rattle.pg_gateway.specs.Consistent.{IsPosted};
 ghost use Rattle.pg_gateway.specs.Routes.{KeepsRoutes};
@@ -96,6 +97,7 @@ impl Gateway {
     {
         match event {
             Event::Measure(frame) => reply_to_all(self.measure(&frame)),
+            Event::Drain(sub, buf) => self.drain(sub, buf),
             other => self.step_other(other),
         }
     }
@@ -116,6 +118,21 @@ impl Gateway {
         let counts = self.kernel.measure(frame, &mut self.routes);
         self.kernel.tell_limits();
         counts
+    }
+
+    /// Takes a drain. It is a function of its own, so that nothing of what the other events need is made ready for it.
+    #[inline(never)]
+    fn drain(&mut self, sub: SubId, buf: Vec<u8>) -> Reply
+        ensures goes { Goes self.old (asks sub (drain (length buf.items))) (told result) self.new }
+        ensures alike { LeavesAlike self.old (asks sub (drain (length buf.items))) (told result) }
+        ensures own_blocks { TakesOwnBlocks self.old (asks sub (drain (length buf.items))) (told result) }
+        ensures frugal { Frugal self.old (asks sub (drain (length buf.items))) (told result) }
+        ensures buffer { KeepsBuffer buf.items result }
+        ensures limits { IsWithinLimits self.new }
+    {
+        let reply = self.kernel.drain(sub, buf);
+        self.kernel.tell_limits();
+        reply
     }
 
     /// Takes any event. It is a function of its own, so that nothing of what the others need is made ready for a data frame.

@@ -131,8 +131,8 @@ impl Routes {
         }
     }
 
-    /// The subscribers that hold a PMU of a block that was taken, and those that hold those of all such blocks. For the others of the
-    /// first it is noted which of the blocks those are, as the bits of their numbers.
+    /// The subscribers that hold a PMU of a block that was taken, and those that hold those of all such blocks, the same where there is
+    /// one. For the others of the first it is noted which of the blocks those are, as the bits of their numbers.
     pub(crate) fn shares_of(
         &self,
         blocks: &[(usize, Option<Refusal>)],
@@ -143,6 +143,7 @@ impl Routes {
         ensures covers { (j : ℕ) → bit_at result.0 j ≡ 0 → All (λ b. b.1 ≡ None → bit_at (get_or self.now.masks b.0 0) j ≡ 0) blocks.now }
         ensures none { (j : ℕ) → All (λ b. bit_at (get_or self.now.masks b.0 0) j ≡ 0) blocks.now → bit_at result.0 j ≡ 0 }
         ensures common { IsCommon result.1 (masks_taken self.now.masks blocks.now) }
+        ensures alone { length (masks_taken self.now.masks blocks.now) ≡ 1 → result.0 ≡ result.1 }
         ensures turned { (j : ℕ) → bit_at result.0 j ≡ 1 → nat_eq (bit_at result.1 j) 1 ≡ false
             → (i : ℕ) → bit_at (get_or turned.new j 0) i ≡ bit_at (get_or (masks_taken self.now.masks blocks.now) i 0) j }
     {
@@ -154,12 +155,14 @@ impl Routes {
         (marks, common)
     }
 
-    /// The subscribers that hold a PMU of a block that was taken, and those that hold those of all such blocks.
+    /// The subscribers that hold a PMU of a block that was taken, and those that hold those of all such blocks, the same where there is
+    /// one.
     fn marks_of(&self, blocks: &[(usize, Option<Refusal>)]) -> (u64, u64)
         requires within { All (λ b. b.0 < length self.now.masks) blocks.now }
         ensures covers { (j : ℕ) → bit_at result.0 j ≡ 0 → All (λ b. b.1 ≡ None → bit_at (get_or self.now.masks b.0 0) j ≡ 0) blocks.now }
         ensures none { (j : ℕ) → All (λ b. bit_at (get_or self.now.masks b.0 0) j ≡ 0) blocks.now → bit_at result.0 j ≡ 0 }
         ensures common { IsCommon result.1 (masks_taken self.now.masks blocks.now) }
+        ensures alone { length (masks_taken self.now.masks blocks.now) ≡ 1 → result.0 ≡ result.1 }
     {
         let mut marks = 0u64;
         let mut common = u64::MAX;

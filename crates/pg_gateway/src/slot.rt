@@ -1,6 +1,6 @@
 //! One subscriber with its audit.
 
-ghost use Rattle.std.specs.Prelude.{◌≡◌, ◌<◌, ◌≤◌, ℕ, List, nat_eq, true, false, length, filter, vec_capacity, slice_get, IfOk, IfErr, Some, None, option_map, IfSome};
+ghost use Rattle.std.specs.Prelude.{◌≡◌, ◌<◌, ◌≤◌, [], ◌∷◌, ℕ, List, nat_eq, true, false, length, filter, vec_capacity, slice_get, IfOk, IfErr, Some, None, option_map, IfSome};
 ghost use Rattle.std.specs.Arc.{arc_value};
 ghost use Rattle.std.specs.Int.{bit_at};
 ghost use Rattle.pg_audit.specs.Noting.{newest_at};
@@ -17,7 +17,7 @@ ghost use Rattle.pg_gateway.specs.Sharing.{SubscriberSlot as SlotState, announce
 ghost use Rattle.pg_gateway.specs.State.{added, with_note, noted_as};
 ghost use Rattle.pg_gateway.specs.Shown.{SlotShows, slot_waits};
 ghost use Rattle.pg_gateway.specs.Taking.{Asks, AsksNothing, HasNone, offered, measured, part_passes, IsNoFrame, IsRising, Fits, LaysShare, Awaits, TakesOffer, TakesGrant, counts_of};
-ghost use Rattle.pg_gateway.specs.Routes.{HasBits, places_at, places_held, share_in, TellsShare};
+ghost use Rattle.pg_gateway.specs.Routes.{HasBits, HoldsPart, IsOnlyBit, places_at, TellsShare};
 
 use crate::asking::code;
 use crate::event::Event;
@@ -230,13 +230,57 @@ impl SubscriberSlot {
         ensures lays { LaysShare (measured (arc_value frame.now) places.now) self.old result self.new }
         ensures room { 16 ≤ vec_capacity held.new }
     {
-        if !whole && number == 0 {
+        if whole {
+            return self.subscriber.lay_frame(frame, places, stamps);
+        }
+        match only_bit(number) {
+            Some(bit) => self.lay_block(frame, places[bit as usize], stamps),
+            None => self.lay_some(frame, places, number, held, stamps),
+        }
+    }
+
+    /// Lays the copies that its streams need of a block, the only one that it holds of a frame. Nothing else changes. The one refusal
+    /// is `NoMemory`.
+    #[inline(always)]
+    pub(crate) fn lay_block(
+        &mut self,
+        frame: &Arc<DataFrame>,
+        place: usize,
+        stamps: &mut Stamps,
+    ) -> Result<(), Refusal>
+        requires place { place < length (arc_value frame.now).config.parts }
+        requires holds { HoldsPart (arc_value frame.now).config place self.old }
+        requires none { HasNone self.old }
+        requires fit { Fits (measured (arc_value frame.now) (place ∷ [])) self.old }
+        ensures lays { LaysShare (measured (arc_value frame.now) (place ∷ [])) self.old result self.new }
+    {
+        self.subscriber.lay_block(frame, place, stamps)
+    }
+
+    /// Lays the copies of the blocks whose bits its number has: none, where that has none.
+    #[inline(never)]
+    fn lay_some(
+        &mut self,
+        frame: &Arc<DataFrame>,
+        places: &[usize],
+        number: u64,
+        held: &mut Vec<usize>,
+        stamps: &mut Stamps,
+    ) -> Result<(), Refusal>
+        requires rising { AreRising 0 (length (arc_value frame.now).config.parts) places.now }
+        requires few { length places.now ≤ 16 }
+        requires tell { TellsShare false number (arc_value frame.now).config places.now self.old }
+        requires room { 16 ≤ vec_capacity held.old }
+        requires none { HasNone self.old }
+        requires fit { Fits (measured (arc_value frame.now) places.now) self.old }
+        ensures lays { LaysShare (measured (arc_value frame.now) places.now) self.old result self.new }
+        ensures room { 16 ≤ vec_capacity held.new }
+    {
+        if number == 0 {
             return Ok(());
         }
-        let one = hold_marked(places, whole, number, held);
-        let mine = share_of(places, whole, one, held);
-        self.subscriber.lay_frame(frame, mine, stamps)?;
-        Ok(())
+        hold_all(places, number, held);
+        self.subscriber.lay_frame(frame, held, stamps)
     }
 
     /// Gives up the copies that lie ready. Nothing else changes.
@@ -340,13 +384,62 @@ impl SubscriberSlot {
         ensures spared { self.new.spared ≡ false }
         ensures room { 16 ≤ vec_capacity held.new }
     {
-        if !whole && number == 0 {
+        if whole {
+            return counts(self.subscriber.take_frame(frame, places, lost, stamps));
+        }
+        match only_bit(number) {
+            Some(bit) => {
+                let place = places[bit as usize];
+                self.take_block(frame, place, lost, stamps)
+            }
+            None => self.take_some(frame, places, number, held, lost, stamps),
+        }
+    }
+
+    /// Takes a block, the only one that it holds of a frame.
+    #[inline(always)]
+    pub(crate) fn take_block(
+        &mut self,
+        frame: &Arc<DataFrame>,
+        place: usize,
+        lost: bool,
+        stamps: &mut Stamps,
+    ) -> (u64, u64)
+        requires place { place < length (arc_value frame.now).config.parts }
+        requires holds { HoldsPart (arc_value frame.now).config place self.old }
+        requires awaits { Awaits (measured (arc_value frame.now) (place ∷ [])) self.old }
+        ensures takes { TakesOffer (measured (arc_value frame.now) (place ∷ [])) lost self.old result self.new }
+        ensures spared { self.new.spared ≡ false }
+    {
+        counts(self.subscriber.take_block(frame, place, lost, stamps))
+    }
+
+    /// Takes the blocks whose bits its number has: none, where that has none.
+    #[inline(never)]
+    fn take_some(
+        &mut self,
+        frame: &Arc<DataFrame>,
+        places: &[usize],
+        number: u64,
+        held: &mut Vec<usize>,
+        lost: bool,
+        stamps: &mut Stamps,
+    ) -> (u64, u64)
+        requires rising { AreRising 0 (length (arc_value frame.now).config.parts) places.now }
+        requires few { length places.now ≤ 16 }
+        requires tell { TellsShare false number (arc_value frame.now).config places.now self.old }
+        requires room { 16 ≤ vec_capacity held.old }
+        requires awaits { Awaits (measured (arc_value frame.now) places.now) self.old }
+        ensures takes { TakesOffer (measured (arc_value frame.now) places.now) lost self.old result self.new }
+        ensures spared { self.new.spared ≡ false }
+        ensures room { 16 ≤ vec_capacity held.new }
+    {
+        if number == 0 {
             self.spared = false;
             return (0, 0);
         }
-        let one = hold_marked(places, whole, number, held);
-        let mine = share_of(places, whole, one, held);
-        counts(self.subscriber.take_frame(frame, mine, lost, stamps))
+        hold_all(places, number, held);
+        counts(self.subscriber.take_frame(frame, held, lost, stamps))
     }
 }
 
@@ -396,29 +489,20 @@ fn hold(
     !held.is_empty()
 }
 
-/// Of these places of a frame's blocks, those of a subscriber whose number has their bits, unless it holds the whole of them: the
-/// one among them, or else they are put into `held`.
-fn hold_marked(places: &[usize], whole: bool, number: u64, held: &mut Vec<usize>) -> Option<usize>
-    requires bits { whole ≡ false → HasBits (length places.now) number }
-    requires some { whole ≡ false → 0 < number }
-    requires places { 0 < length places.now }
-    requires few { length places.now ≤ 16 }
-    requires room { 16 ≤ vec_capacity held.old }
-    ensures some { 0 < length (places_held whole number places.now) }
-    ensures held { share_in whole result places.now held.new.items ≡ places_held whole number places.now }
-    ensures within { IfSome result (λ i. i < length places.now) }
-    ensures room { 16 ≤ vec_capacity held.new }
+/// The only bit that is set in a number, if it is told.
+#[inline(always)]
+fn only_bit(number: u64) -> Option<u32>
+    ensures { IfSome result (λ bit. IsOnlyBit number bit) }
 {
-    if whole {
+    if number == 0 {
         return None;
     }
     let first = number.trailing_zeros();
     let more = number & !(1u64 << first);
-    if more == 0 {
-        return Some(first as usize);
+    if more != 0 {
+        return None;
     }
-    hold_all(places, number, held);
-    None
+    Some(first)
 }
 
 /// Of these places of a frame's blocks, those whose bits a number has.
@@ -435,25 +519,6 @@ fn hold_all(places: &[usize], number: u64, held: &mut Vec<usize>)
         let place = left.trailing_zeros();
         left &= !(1u64 << place);
         held.push_reserved(places[place as usize]);
-    }
-}
-
-/// The whole of these places, or the one of them, or those that are held.
-fn share_of<'a>(
-    places: &'a [usize],
-    whole: bool,
-    one: Option<usize>,
-    held: &'a [usize],
-) -> &'a [usize]
-    requires within { IfSome one (λ i. i < length places.now) }
-    ensures { result.now ≡ share_in whole one places.now held.now }
-{
-    if whole {
-        return places;
-    }
-    match one {
-        Some(place) => &places[place..place + 1],
-        None => held,
     }
 }
 

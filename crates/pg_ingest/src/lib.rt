@@ -6,6 +6,7 @@ mod laws;
 mod link;
 mod pending;
 mod run;
+mod spares;
 mod told;
 mod transfer;
 

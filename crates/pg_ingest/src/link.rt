@@ -12,6 +12,7 @@ ghost use Rattle.pg_audit.specs.Counting.{no_pmu_stats};
 
 use crate::asking::Asking;
 use crate::pending::Pending;
+use crate::spares::Spares;
 use crate::told::{Told, tell};
 use pg_audit::PmuStats;
 use pg_command::write_command;
@@ -53,8 +54,8 @@ pub struct Link {
     asking: Asking,
     stats: PmuStats,
     pending: Pending,
-    // The memory of a data frame that is done with, for the next one.
-    spare: Option<Arc<DataFrame>>,
+    // The memory of data frames that are done with, for later ones.
+    spares: Spares,
 }
 
 impl Model for Link {
@@ -86,7 +87,7 @@ impl Link {
             asking: Asking::new(),
             stats: PmuStats::new(),
             pending: Pending::none(),
-            spare: None,
+            spares: Spares::new(alloc)?,
         })
     }
 
@@ -140,7 +141,7 @@ impl Link {
     {
         match self.deframer.next() {
             Taken::Frame(frame) => {
-                let spare = self.spare.take();
+                let spare = self.spares.take();
                 let told = tell(self.alloc, self.source, &self.known, frame, spare);
                 self.take(told)
             }
@@ -150,12 +151,12 @@ impl Link {
         }
     }
 
-    /// Keeps the memory of a data frame that is done with, for the next one. It is used where nobody else holds the frame.
+    /// Keeps the memory of a data frame that is done with, for a later one. It is used once nobody else holds the frame.
     #[inline(always)]
     pub fn give_back(&mut self, frame: Arc<DataFrame>)
         ensures { self.new ≡ self.old }
     {
-        self.spare = Some(frame);
+        self.spares.keep(frame);
     }
 
     /// Keeps what a frame tells, counts it, and tells it.

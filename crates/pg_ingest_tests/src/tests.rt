@@ -3,13 +3,15 @@ ghost use Rattle.pg_gateway.specs.Posting.{Posted};
 ghost use Rattle.pg_gateway.specs.Occurrences.{occurrence, told};
 
 use crate::asserts::same;
-use pg_fakes::{FakeGate, FakeReader, FakeWriter};
+use pg_data::DataFrame;
+use pg_fakes::{FakeGate, FakeReader, FakeWriter, all_memory};
 use pg_gateway::{Event, Gate, Reply};
 use pg_ingest::*;
 use pg_wire::{PmuId, Refusal, SubId, check};
 use std::alloc::Global;
 use std::io::ErrorKind;
 use std::process::Abort;
+use std::sync::Arc;
 use std::test::*;
 
 // Source 7's CFG-2 without its check: PMU 7, resolution 1,000,000, one phasor VA, rate 30.
@@ -164,6 +166,43 @@ fn framed(rt: &impl Abort, alloc: Global, frames: &[&[u8]]) -> Vec<u8> {
             .expect(rt, "memory");
     }
     bytes
+}
+
+// The next data frame of a link, which is held, and given back too.
+fn next_held(rt: &impl Abort, link: &mut Link) -> Arc<DataFrame> {
+    match link.next_event() {
+        LinkEvent::Measure(frame) => {
+            link.give_back(Arc::try_clone(&frame).expect(rt, "too many"));
+            frame
+        }
+        _ => panic!(rt; "no data frame"),
+    }
+}
+
+// The three data frames of a burst are held until the last has come.
+fn burst(rt: &impl Abort, link: &mut Link) {
+    let _held = [
+        next_held(rt, link),
+        next_held(rt, link),
+        next_held(rt, link),
+    ];
+}
+
+// A burst is read in the memory of the one before it, where its frames are not held any more, also where there is no other memory.
+#[test]
+fn burst_in_the_memory_of_the_last(rt: HostRuntime) {
+    let alloc = rt.alloc();
+    let mut link = Link::new(alloc, PmuId::new(7).expect(&rt, "reserved")).expect(&rt, "memory");
+    feed(&rt, &mut link, &framed(&rt, alloc, &[&CONFIG_7]));
+    same(&rt, next_seen(&mut link), Seen::Announced);
+    let bytes = framed(&rt, alloc, &[&DATA_7, &DATA_7, &DATA_7]);
+    feed(&rt, &mut link, &bytes);
+    burst(&rt, &mut link);
+    feed(&rt, &mut link, &bytes);
+    let held = all_memory(alloc).expect(&rt, "a list of it");
+    burst(&rt, &mut link);
+    drop(held);
+    same(&rt, next_seen(&mut link), Seen::More);
 }
 
 // A gate that tells what it was posted, so that what `run_link` ensures of the posts is no empty word. Nobody is there for a

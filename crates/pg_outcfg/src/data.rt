@@ -111,14 +111,15 @@ pub fn data_frame_near(
 /// order, which of that frame's blocks is its own.
 ///
 /// It asks for what `data_frame` asks for, and of each block that the frame has it. The frame is the same for every list in which
-/// all members stand: it is composed in the memory of `spare`, or in an allocation of its size where that has less room. The one
-/// refusal is `NoMemory`.
+/// all members stand. It may well be `size` bytes long, as `data_frame_near` has it: if it is, its blocks are not measured first. It is
+/// composed in the memory of `spare`, or in an allocation of its size where that has less room. The one refusal is `NoMemory`.
 pub fn data_frame_at_once(
     alloc: Global,
     definition: &Definition,
     slot: u64,
     frame: &DataFrame,
     order: &[Option<u8>],
+    size: &mut u16,
     stamps: &mut Stamps,
     spare: Vec<u8>,
 ) -> Result<Vec<u8>, Refusal>
@@ -132,22 +133,56 @@ pub fn data_frame_at_once(
     ensures most { IfOk result (λ v. vec_len v ≤ 12752) }
     ensures memory { IfErr result (λ refusal. refusal ≡ Refusal.NoMemory) }
 {
-    let size = AROUND_BODY + ordered_len(frame, order);
-    let mut out = room_for(alloc, spare, size)?;
+    let mut out = spare;
+    let mut near = *size;
+    loop {
+        if AROUND_BODY <= near && near <= MOST_BYTES {
+            out = room_for(alloc, out, near)?;
+            if compose_at_once(&mut out, definition, slot, frame, order, near, stamps) {
+                *size = near;
+                return Ok(out);
+            }
+        }
+        // This is the frame's size, so there is no third turn.
+        near = AROUND_BODY + ordered_len(frame, order);
+    }
+}
+
+/// Composes the data frame of a slot in memory with room for so many bytes, where one frame brought the blocks of all members, and tells
+/// whether it is so many bytes long.
+fn compose_at_once(
+    out: &mut Vec<u8>,
+    definition: &Definition,
+    slot: u64,
+    frame: &DataFrame,
+    order: &[Option<u8>],
+    size: u16,
+    stamps: &mut Stamps,
+) -> bool
+    requires limits { IsWithinLimits definition.now }
+    requires time { slot / definition.now.rate < 2 ^ 32 }
+    requires members { length order.now ≡ length definition.now.members }
+    requires blocks { AreBlocks (length frame.now.config.parts) order.now }
+    requires least { 16 ≤ size }
+    requires room { size ≤ vec_capacity out.old }
+    ensures fits { size ≡ 16 + length (joined (blocks_in frame.now order.now)) → IsTrue result }
+    ensures frame { IsTrue result → (listed : Listing) → AreMembers listed definition.now.members
+        → out.new.items ≡ data_frame_of definition.now slot listed (pieces_in frame.now order.now) }
+    ensures len { IsTrue result → vec_len out.new ≡ size }
+{
     let quality = clear_quality(frame.quality);
     let stamp = stamps.stamp_of(definition.rate, definition.base, slot, quality);
-    // There is room for all of it: what is tested here tells the compiler, which then keeps no way to take memory.
-    let Some(crc) = start_stamped(&mut out, definition, stamp, size) else {
-        return Err(Refusal::NoMemory);
+    let Some(crc) = start_stamped(out, definition, stamp, size) else {
+        return false;
     };
-    let Some(crc) = add_ordered(&mut out, crc, frame, order) else {
-        return Err(Refusal::NoMemory);
+    let Some(crc) = add_ordered(out, crc, frame, order) else {
+        return false;
     };
-    if out.capacity() - out.len() < CHECK_BYTES {
-        return Err(Refusal::NoMemory);
+    if out.len() + CHECK_BYTES != usize::from(size) {
+        return false;
     }
-    end_frame_by(&mut out, crc);
-    Ok(out)
+    end_frame_by(out, crc);
+    true
 }
 
 /// The joined time quality where all blocks are of one frame: that frame's without bit 7.

@@ -1,5 +1,5 @@
 -- What `room` leaves.
-use Rattle.std.proofs.Common.{◌≡◌, ℕ, ◌+◌, ◌-◌, ◌<◌, ◌≤◌, Bool, true, false, nat_lt, if◌then◌else◌, List, [], ◌∷◌, ◌++◌, length, drop, slice_get, Option, Some, None, length-append, refl, sym, ap, ap₂, ◌∙◌, arith}
+use Rattle.std.proofs.Common.{◌≡◌, ℕ, ◌+◌, ◌-◌, ◌^◌, ◌<◌, ◌≤◌, Bool, true, false, nat_lt, if◌then◌else◌, List, [], ◌∷◌, ◌++◌, length, drop, slice_get, Option, Some, None, length-append, refl, sym, ap, ap₂, ◌∙◌, arith}
 use Rattle.std.proofs.lemmas.Grind.{common_steps}
 use Rattle.std.proofs.lemmas.List.{map-append, length-map}
 use Rattle.circular_buffer.specs.Buffer.{keep_last}
@@ -33,6 +33,29 @@ full_pushed size limit (x ∷ xs) oldest frame is some light first =
     let left = ap (λ n. room n (limit - length frame.bytes.items) 0 (shown (x ∷ xs))) count ∙ full_room (limit - length frame.bytes.items) (framed_of x) (shown xs) light in
     let kept = ap (λ n. shown (drop n (x ∷ xs ++ frame ∷ []))) one ∙ map-append framed_of xs (frame ∷ []) in
     ap (λ l. pass_on l.0 (l.1 ++ framed_of frame ∷ [])) left ∙ ap₂ (λ o l. pass_on (saturated (o.gap + 1)) l) (sym same) (sym kept)
+
+saturated_small : (n : ℕ) → n < 2 ^ 64 → saturated (0 + n) ≡ n
+saturated_small n small = grind (arith, common_steps)
+
+-- nothing is passed on
+pass_on_none : (items : List QueuedFrame) → ((first : QueuedFrame) → Some first ≡ slice_get items 0 → first.gap < 2 ^ 64) → pass_on 0 (shown items) ≡ shown items
+pass_on_none [] small = refl
+pass_on_none (x ∷ xs) small = rw (saturated_small x.gap (small x refl)) refl
+
+-- a push where there is room: none goes
+pub roomy_pushed : (size limit : ℕ) (items : List QueuedFrame) (frame : QueuedFrame) → length items < size → bytes_in (shown items) + length frame.bytes.items ≤ limit
+    → ((first : QueuedFrame) → Some first ≡ slice_get items 0 → first.gap < 2 ^ 64) → frame.gap < 2 ^ 64
+    → pushed size limit (shown items) (framed_of frame) ≡ shown (items ++ frame ∷ [])
+roomy_pushed size limit items frame few light small gap =
+    let count : length (shown items) ≡ length items = length-map items framed_of in
+    let left = room_stands size (limit - length frame.bytes.items) 0 (shown items) (omega (arith, few, count)) (omega (arith, light)) in
+    let behind = first_behind items frame small gap in
+    ap (λ l. pass_on l.0 (l.1 ++ framed_of frame ∷ [])) left ∙ ap (pass_on 0) (sym (map-append framed_of items (frame ∷ []))) ∙ pass_on_none (items ++ frame ∷ []) behind
+  where
+    first_behind : (items : List QueuedFrame) (frame : QueuedFrame) → ((first : QueuedFrame) → Some first ≡ slice_get items 0 → first.gap < 2 ^ 64) → frame.gap < 2 ^ 64
+        → (first : QueuedFrame) → Some first ≡ slice_get (items ++ frame ∷ []) 0 → first.gap < 2 ^ 64
+    first_behind [] frame small gap first is = let same : first ≡ frame = cc in rw same gap
+    first_behind (x ∷ xs) frame small gap first is = small first is
 
 -- a buffer that gives up a frame was full
 pub gives_up : (count size : ℕ) (oldest : QueuedFrame) (front : Option QueuedFrame) → Some oldest ≡ (if nat_lt count size then None else front)

@@ -1,11 +1,11 @@
 //! The output queue. A clause sees a queue as its readers show it.
 ghost use Rattle.std.specs.Prelude.{◌≡◌, ◌+◌, ◌-◌, ◌^◌, ◌<◌, ◌≤◌, ◌↔◌, ◌==◌, [], ◌∷◌, ◌++◌, length, take, drop, map, sum, slice_get, option_copied, IfOk, IfErr, IsOk, IfSome, IfNone, MatchOption, vec_len, false, if◌then◌else◌, nat_lt, Ok, Err, sum_by, min, Some, None};
 ghost use Rattle.std.specs.List.{flat_map};
-ghost use Rattle.pg_ring.specs.Shown.{Queue, Framed, IsWithinLimits, empty_queue, emptied, data_frames, drained, bytes_to_leave, begun_of, frames_begun, frames_to_leave, saturated, gap_of};
+ghost use Rattle.pg_ring.specs.Shown.{Queue, Framed, bytes_in, IsWithinLimits, empty_queue, emptied, data_frames, drained, bytes_to_leave, begun_of, frames_begun, frames_to_leave, saturated, gap_of};
 ghost use Rattle.pg_ring.specs.Steps.{with_data, with_lost, with_reply, takes_reply, begun_next};
 ghost use Rattle.pg_ring.specs.Numbers.{Numbered, ShowsNumbered, push_made, dropped_by, lose_made, drain_made, clear_made, cleared_by, none_made, reply_made};
 
-use crate::ring::{QueuedFrame, copy_front, keep_spare, push_frame};
+use crate::ring::{QueuedFrame, copy_front, keep_spare, push_frame, push_last};
 use crate::sizes::{RingBytes, RingSize};
 use circular_buffer::HeapCircularBuffer;
 use pg_wire::Refusal;
@@ -180,7 +180,42 @@ impl OutQueue {
     /// A frame that is no longer than the ring bytes is appended, and the oldest frames go until the ring's frames and
     /// bytes fit; their gaps, and one for each, pass on to the next frame. A longer frame changes nothing in the ring: it
     /// is dropped itself, and pending.
+    // Inlined, a push calls one of two small functions.
+    #[inline(always)]
     pub fn push_data(&mut self, frame: Vec<u8>) -> u64
+        requires { 0 < vec_len frame }
+        ensures dropped { result + length self.new.frames ≡ length self.old.frames + 1 }
+        ensures shown { self.new ≡ with_data self.old frame.items }
+        ensures numbered { (m : Numbered) → ShowsNumbered self.old m
+            → ShowsNumbered self.new (push_made m frame.items) × (result ≡ dropped_by m frame.items) }
+    {
+        if self.frames.is_full() || frame.len() > self.byte_limit - self.held {
+            return self.push_over(frame);
+        }
+        self.push_behind(frame);
+        0
+    }
+
+    /// The same, where there is room for it: it drops nothing.
+    #[inline(never)]
+    fn push_behind(&mut self, frame: Vec<u8>)
+        requires some { 0 < vec_len frame }
+        requires place { length self.old.frames < self.old.ring_size }
+        requires fits { bytes_in self.old.frames + vec_len frame ≤ self.old.byte_limit }
+        ensures one_more { length self.new.frames ≡ length self.old.frames + 1 }
+        ensures shown { self.new ≡ with_data self.old frame.items }
+    {
+        let frame = QueuedFrame {
+            bytes: frame,
+            gap: self.pending,
+        };
+        push_last(&mut self.frames, &mut self.held, frame);
+        self.pending = 0;
+    }
+
+    /// The same, mostly called where the oldest frames have to go.
+    #[inline(never)]
+    fn push_over(&mut self, frame: Vec<u8>) -> u64
         requires { 0 < vec_len frame }
         ensures dropped { result + length self.new.frames ≡ length self.old.frames + 1 }
         ensures shown { self.new ≡ with_data self.old frame.items }

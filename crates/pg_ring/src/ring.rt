@@ -1,9 +1,10 @@
 //! The steps of the ring of data frames.
-ghost use Rattle.std.specs.Prelude.{◌≡◌, ℕ, ◌+◌, ◌-◌, ◌^◌, ◌<◌, ◌≤◌, [], ◌∷◌, ◌++◌, length, vec_len, min, take, drop};
+ghost use Rattle.std.specs.Prelude.{◌≡◌, ℕ, ◌+◌, ◌-◌, ◌^◌, ◌<◌, ◌≤◌, [], ◌∷◌, ◌++◌, length, vec_len, min, take, drop, slice_get, Some};
 ghost use Rattle.circular_buffer.specs.Buffer.{buffer};
 ghost use Rattle.pg_ring.specs.Shown.{bytes_in, HaveBytes, Framed};
 ghost use Rattle.pg_ring.specs.Steps.{room, pass_on, pushed};
 ghost use Rattle.pg_ring.specs.Items.{shown, framed_of};
+ghost use Rattle.pg_ring.specs.declared.ring.QueuedFrame.{QueuedFrame};
 
 use circular_buffer::HeapCircularBuffer;
 
@@ -101,6 +102,50 @@ pub(crate) fn push_frame(
     pass_gap(frames, oldest.gap.saturating_add(1));
     keep_spare(spares, oldest.bytes);
     1
+}
+
+/// Appends a frame for which there is room. None goes, and no gap passes on.
+#[inline(always)]
+pub(crate) fn push_last(
+    frames: &mut HeapCircularBuffer<QueuedFrame>,
+    held: &mut usize,
+    frame: QueuedFrame,
+)
+    requires counted { held.old ≡ bytes_in (shown frames.old.items) }
+    requires room { length frames.old.items < frames.old.capacity }
+    requires fits { held.old + vec_len frame.bytes < 2 ^ 64 }
+    requires has_byte { 0 < vec_len frame.bytes }
+    requires have_bytes { HaveBytes (shown frames.old.items) }
+    ensures frames { (limit : ℕ) → held.old + vec_len frame.bytes ≤ limit
+        → shown frames.new.items ≡ pushed frames.old.capacity limit (shown frames.old.items) (framed_of frame) }
+    ensures one_more { length frames.new.items ≡ length frames.old.items + 1 }
+    ensures counted { held.new ≡ bytes_in (shown frames.new.items) }
+    ensures sum { held.new ≡ held.old + vec_len frame.bytes }
+    ensures capacity { frames.new.capacity ≡ frames.old.capacity }
+    ensures have_bytes { HaveBytes (shown frames.new.items) }
+{
+    is_number(frame.gap);
+    first_is_number(frames);
+    *held += frame.bytes.len();
+    let Ok(()) = frames.try_push_back(frame) else {
+        unreachable!();
+    };
+}
+
+/// The first frame's gap is a number of 64 bits. A law: it does nothing.
+fn first_is_number(frames: &HeapCircularBuffer<QueuedFrame>)
+    ensures { (first : QueuedFrame) → Some first ≡ slice_get frames.now.items 0 → first.gap < 2 ^ 64 }
+{
+    if let Some(first) = frames.front() {
+        is_number(first.gap);
+    }
+}
+
+/// A gap is a number of 64 bits. A law: it does nothing.
+fn is_number(gap: u64)
+    ensures { gap < 2 ^ 64 }
+{
+    let _ = gap;
 }
 
 /// Copies what fits of `from` to the front of `out`, and returns how much.

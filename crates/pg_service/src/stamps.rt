@@ -99,8 +99,8 @@ impl Stamps {
     #[inline(always)]
     fn pass_whole<'b>(&mut self, bytes: &'b [u8], clock: u64, ages: &mut Histogram) -> &'b [u8] {
         let mut rest = bytes;
-        let mut frames = 0u64;
-        for _ in 0..bytes.len() {
+        let mut frames = 0;
+        for at in 0..bytes.len() {
             let [_, kind, s0, s1, n0, n1, t0, t1, t2, t3, f0, f1, f2, f3, ..] = rest else {
                 break;
             };
@@ -112,13 +112,12 @@ impl Stamps {
                 break;
             }
             let stream = u16::from_be_bytes([*n0, *n1]);
-            let soc = u32::from_be_bytes([*t0, *t1, *t2, *t3]);
-            let fracsec = u32::from_be_bytes([*f0, *f1, *f2, *f3]);
-            self.observe(stream, soc, fracsec, clock, ages);
-            frames = frames.saturating_add(1);
+            let stamp = u64::from_be_bytes([*t0, *t1, *t2, *t3, *f0, *f1, *f2, *f3]);
+            self.observe(stream, stamp, clock, ages);
+            frames = at + 1;
             rest = behind;
         }
-        self.frames = self.frames.saturating_add(frames);
+        self.frames = self.frames.saturating_add(frames as u64);
         rest
     }
 
@@ -181,8 +180,9 @@ impl Stamps {
     fn meet(&mut self, clock: u64, ages: &mut Histogram) {
         match self.kind() {
             DATA => {
-                let (stream, soc) = (self.half_at(STREAM_AT), self.word_at(SOC_AT));
-                self.observe(stream, soc, self.word_at(FRACSEC_AT), clock, ages);
+                let soc = u64::from(self.word_at(SOC_AT));
+                let stamp = soc << 32 | u64::from(self.word_at(FRACSEC_AT));
+                self.observe(self.half_at(STREAM_AT), stamp, clock, ages);
                 self.frames = self.frames.saturating_add(1);
             }
             CFG_TWO => self.learn(),
@@ -192,13 +192,13 @@ impl Stamps {
         self.held = 0;
     }
 
-    /// A data frame of this stream goes out, which has this stamp: its age is counted where it is known.
+    /// A data frame of this stream goes out, which has this stamp, SOC and behind it FRACSEC: its age is counted where it is known.
     #[inline(always)]
-    fn observe(&self, stream: u16, soc: u32, fracsec: u32, clock: u64, ages: &mut Histogram) {
+    fn observe(&self, stream: u16, stamp: u64, clock: u64, ages: &mut Histogram) {
         let Some(base) = self.bases.iter().find(|it| it.stream == stream) else {
             return;
         };
-        if let Some(age) = age_of(soc, fracsec & TICKS, base.resolution, clock) {
+        if let Some(age) = age_of(stamp, base.resolution, clock) {
             ages.observe(age);
         }
     }
@@ -225,14 +225,13 @@ fn kind_of(sync: u8) -> u8 {
 }
 
 /// The age in microseconds of a stamp, 0 where it is not past; `None` where FRACSEC is none of this base.
-fn age_of(soc: u32, frac: u32, base: u32, clock: u64) -> Option<u64> {
-    if frac >= base {
+fn age_of(stamp: u64, base: u32, clock: u64) -> Option<u64> {
+    let (soc, frac) = (stamp >> 32, stamp & u64::from(TICKS));
+    if frac >= u64::from(base) {
         return None;
     }
-    let micros = u64::from(frac).saturating_mul(1_000_000) / u64::from(base.max(1));
-    let stamp = u64::from(soc)
-        .saturating_mul(1_000_000)
-        .saturating_add(micros);
+    let micros = frac.saturating_mul(1_000_000) / u64::from(base.max(1));
+    let stamp = soc.saturating_mul(1_000_000).saturating_add(micros);
     Some(clock.saturating_sub(stamp))
 }
 

@@ -27,4 +27,5 @@ pub mod Pendings
 pub mod Changing
 pub mod Sending
 pub mod Taking
+pub mod On
 pub mod Fields

@@ -8,8 +8,10 @@ ghost use Rattle.pg_session.specs.Events.{announced_at, config_of, samples_at};
 ghost use Rattle.pg_session.specs.Streams.{PlacedBlock, place_of, with_place, placed};
 ghost use Rattle.pg_session.specs.Ready.{ArePlaces, AreRising};
 ghost use Rattle.pg_session.specs.Filling.{count_keeping};
+ghost use Rattle.pg_session.specs.On.{AreOn};
 ghost use Rattle.pg_session.specs.Wanted.{piece_of_placed, wanted_of, all_wanted};
 
+use crate::on::take_lowest;
 use crate::stream::{Stream, place_next};
 use circular_buffer::HeapCircularBuffer;
 use pg_config::{PmuConfig, SourceConfig};
@@ -137,11 +139,13 @@ pub(crate) fn copy_members(
     Ok(())
 }
 
-/// Lays the copies of a frame's blocks that the streams ask for. The one refusal is `NoMemory`; some copies may then lie there.
+/// Lays the copies of a frame's blocks that the streams ask for: those that are on, by their bits. The one refusal is `NoMemory`; some
+/// copies may then lie there.
 #[inline(always)]
 pub(crate) fn copy_blocks(
     frame: &Arc<DataFrame>,
     places: &[usize],
+    on: u8,
     streams: &[Stream],
     blocks: &mut HeapCircularBuffer<SharedBlock>,
 ) -> Result<(), Refusal>
@@ -149,14 +153,17 @@ pub(crate) fn copy_blocks(
     requires streams { length streams.now ≤ 8 }
     requires empty { blocks.old.items ≡ [] }
     requires room { blocks.old.capacity ≡ 128 }
+    requires on { AreOn on streams.now }
     ensures laid { OnOk result (blocks.new.items ≡ all_wanted streams.now (arc_value frame.now).quality (samples_at (arc_value frame.now) places.now)) }
     ensures needless { all_wanted streams.now (arc_value frame.now).quality (samples_at (arc_value frame.now) places.now) ≡ [] → IsOk result }
     ensures capacity { blocks.new.capacity ≡ blocks.old.capacity }
     ensures memory { IfErr result (λ refusal. refusal ≡ Refusal.NoMemory) }
 {
     let _count = frame.count();
-    for s in streams {
-        s.lay_copies(frame, places, blocks)?;
+    let mut left = u64::from(on);
+    'on: while left != 0 {
+        let at = take_lowest(&mut left);
+        streams[at].lay_copies(frame, places, blocks)?;
     }
     Ok(())
 }
@@ -166,6 +173,7 @@ pub(crate) fn copy_blocks(
 pub(crate) fn copy_for_each(
     frame: &Arc<DataFrame>,
     place: usize,
+    on: u8,
     streams: &[Stream],
     blocks: &mut HeapCircularBuffer<SharedBlock>,
 ) -> Result<(), Refusal>
@@ -173,11 +181,14 @@ pub(crate) fn copy_for_each(
     requires streams { length streams.now ≤ 8 }
     requires empty { blocks.old.items ≡ [] }
     requires room { blocks.old.capacity ≡ 128 }
+    requires on { AreOn on streams.now }
     ensures laid { OnOk result (blocks.new.items ≡ replicate (count_keeping streams.now) (piece_of (arc_value frame.now) place)) }
     ensures capacity { blocks.new.capacity ≡ blocks.old.capacity }
 {
-    for s in streams {
-        s.lay_one(frame, place, blocks)?;
+    let mut left = u64::from(on);
+    'on: while left != 0 {
+        let at = take_lowest(&mut left);
+        streams[at].lay_one(frame, place, blocks)?;
     }
     Ok(())
 }

@@ -111,6 +111,7 @@ pub(crate) fn send_filled(
     slot: u64,
     frame: &DataFrame,
     order: &[Option<u8>],
+    size: &mut u16,
     stamps: &mut Stamps,
     output: &mut Output,
 )
@@ -129,6 +130,6 @@ pub(crate) fn send_filled(
         output.lose();
     } else {
         let spare = output.take_spare(alloc);
-        output.send(data_frame_at_once(alloc, definition, slot, frame, order, stamps, spare));
+        output.send(data_frame_at_once(alloc, definition, slot, frame, order, size, stamps, spare));
     }
 }

@@ -10,6 +10,7 @@ mod filling;
 mod laws;
 mod leaving;
 mod listing;
+mod on;
 mod output;
 mod pending;
 mod reply;

@@ -21,6 +21,7 @@ use crate::change::Change;
 use crate::copying::{copy_blocks, copy_for_each, copy_parts, lay_config};
 use crate::event::{PrivateEvent, PrivateReply};
 use crate::listing::{list_all, list_one};
+use crate::on::mask_of;
 use crate::output::Output;
 use crate::reply::{is_question, send_reply, word_at};
 use crate::standing::Standing;
@@ -51,7 +52,8 @@ const MOST_BLOCKS: usize = 128;
 
 const MOST_CONFIGS: usize = 16;
 
-/// One subscriber: its grants, its streams, its queue and its counters (own rule). Nothing that it holds speaks of another.
+/// One subscriber: its grants, its streams, its queue and its counters (own rule). Nothing that it holds speaks of another. `on` has the
+/// bits of those streams that are on, each by its place, so that a data frame visits no other.
 #[derive(Drop)]
 pub struct Subscriber {
     alloc: Global,
@@ -59,6 +61,7 @@ pub struct Subscriber {
     grants: Grants,
     listed: ConfigList,
     streams: Vec<Stream>,
+    on: u8,
     output: Output,
     last_tick: Option<u32>,
     blocks: HeapCircularBuffer<SharedBlock>,
@@ -97,7 +100,7 @@ impl Model for Subscriber {
       };
       blocks = s.blocks.items;
       configs = map arc_value s.configs.items;
-    }) (vec_capacity s.streams) s.blocks.capacity s.configs.capacity };
+    }) (vec_capacity s.streams) s.blocks.capacity s.configs.capacity s.on };
 }
 
 impl Subscriber {
@@ -120,6 +123,7 @@ impl Subscriber {
             grants: Grants::new(alloc)?,
             listed: ConfigList::new(alloc)?,
             streams: Vec::with_capacity(alloc, MOST_STREAMS)?,
+            on: 0,
             output: Output::new(alloc, ring, bytes)?,
             last_tick: last,
             blocks: HeapCircularBuffer::with_capacity(alloc, MOST_BLOCKS)?,
@@ -282,7 +286,7 @@ impl Subscriber {
                 copy_parts(config, places, &mut self.configs)
             }
             PrivateEvent::Measure(frame, places) => {
-                copy_blocks(frame, places, &self.streams, &mut self.blocks)
+                copy_blocks(frame, places, self.on, &self.streams, &mut self.blocks)
             }
             _ => Ok(()),
         }
@@ -387,22 +391,47 @@ impl Subscriber {
         if places.len() != 1 {
             return self.lay_just(frame, places, stamps);
         }
-        if self.lay_one(frame, places[0]) {
+        self.forget();
+        self.lay_block(frame, places[0], stamps)
+    }
+
+    /// Lays the copies that a frame's only block needs, as `lay_frame` does, where none lie ready.
+    ///
+    /// # Errors
+    ///
+    /// `NoMemory`, and then no copy lies ready.
+    #[inline(always)]
+    pub fn lay_block(
+        &mut self,
+        frame: &Arc<DataFrame>,
+        place: usize,
+        stamps: &mut Stamps,
+    ) -> Result<(), Refusal>
+        requires place { place < length (arc_value frame.now).config.parts }
+        requires held { AreHeld self.old.own.grants self.old.own.listed (samples_at (arc_value frame.now) (place ∷ [])) }
+        requires none { HasNoCopies self.old }
+        ensures laid { IfOk result (λ u. IsLaidFor self.new (measure (arc_value frame.now).soc (arc_value frame.now).quality (arc_value frame.now).frac (samples_at (arc_value frame.now) (place ∷ [])))) }
+        ensures none { IfErr result (λ refusal. HasNoCopies self.new) }
+        ensures memory { IfErr result (λ refusal. refusal ≡ Refusal.NoMemory) }
+        ensures needless { NeedsNone self.old (measure (arc_value frame.now).soc (arc_value frame.now).quality (arc_value frame.now).frac (samples_at (arc_value frame.now) (place ∷ []))) → IsOk result }
+        ensures own { self.new.own ≡ self.old.own }
+    {
+        if self.lay_one(frame, place) {
             return Ok(());
         }
-        self.lay_just(frame, places, stamps)
+        self.lay_just(frame, &[place], stamps)
     }
 
     /// Lays a copy of a frame's only block for each stream where it may stay. The answer is whether there was memory.
     #[inline(always)]
     fn lay_one(&mut self, frame: &Arc<DataFrame>, place: usize) -> bool
         requires place { place < length (arc_value frame.now).config.parts }
+        requires none { HasNoCopies self.old }
         ensures blocks { IsTrue result → self.new.blocks ≡ replicate (count_keeping self.new.own.streams) (piece_of (arc_value frame.now) place) }
         ensures configs { self.new.configs ≡ [] }
         ensures own { self.new.own ≡ self.old.own }
     {
-        self.forget();
-        copy_for_each(frame, place, &self.streams, &mut self.blocks).is_ok()
+        copy_for_each(frame, place, self.on, &self.streams, &mut self.blocks).is_ok()
     }
 
     /// Lays just the copies that a data frame asks for, or none, where its blocks leave no slot of a stream open behind them.
@@ -421,7 +450,7 @@ impl Subscriber {
         ensures needless { NeedsNone self.old (measure (arc_value frame.now).soc (arc_value frame.now).quality (arc_value frame.now).frac (samples_at (arc_value frame.now) places.now)) → IsOk result }
         ensures own { self.new.own ≡ self.old.own }
     {
-        if are_filled(frame, places, &self.streams, stamps) {
+        if are_filled(frame, places, self.on, &self.streams, stamps) {
             self.forget();
             return Ok(());
         }
@@ -458,6 +487,28 @@ impl Subscriber {
         self.measure(frame, places, lost, stamps)
     }
 
+    /// Takes a frame's only block: the same step as `take_frame` of it.
+    #[inline(always)]
+    pub fn take_block(
+        &mut self,
+        frame: &Arc<DataFrame>,
+        place: usize,
+        lost: bool,
+        stamps: &mut Stamps,
+    ) -> PrivateReply
+        requires place { place < length (arc_value frame.now).config.parts }
+        requires held { AreHeld self.old.own.grants self.old.own.listed (samples_at (arc_value frame.now) (place ∷ [])) }
+        requires laid { IsLaidFor self.old (measure (arc_value frame.now).soc (arc_value frame.now).quality (arc_value frame.now).frac (samples_at (arc_value frame.now) (place ∷ []))) }
+        ensures takes { Takes self.old (measure (arc_value frame.now).soc (arc_value frame.now).quality (arc_value frame.now).frac (samples_at (arc_value frame.now) (place ∷ []))) lost (told result) self.new }
+        // the same of what is kept, whatever state that shows
+        ensures steps { Steps self.old (measure (arc_value frame.now).soc (arc_value frame.now).quality (arc_value frame.now).frac (samples_at (arc_value frame.now) (place ∷ []))) lost (told result) self.new }
+        ensures few { MakesFew (told result) }
+        ensures plain { IsPlain result }
+        ensures none { HasNoCopies self.new }
+    {
+        self.measure_one(frame, place, lost, stamps)
+    }
+
     /// A granted PMU's block came alone. Copies of it lie ready, enough for all streams.
     #[inline(always)]
     fn measure_one(
@@ -481,6 +532,7 @@ impl Subscriber {
             &self.listed,
             frame,
             place,
+            self.on,
             &mut self.streams,
             &mut self.blocks,
             stamps,
@@ -514,6 +566,7 @@ impl Subscriber {
             &self.listed,
             frame,
             places,
+            self.on,
             &mut self.streams,
             stamps,
             &mut self.output,
@@ -567,6 +620,7 @@ impl Subscriber {
             &self.listed,
             frame,
             places,
+            self.on,
             &mut self.streams,
             &mut self.blocks,
             stamps,
@@ -604,6 +658,7 @@ impl Subscriber {
             return PrivateReply::Refused(Refusal::NotConnected);
         }
         stop_all(&mut self.streams);
+        self.on = 0;
         self.output.clear();
         self.connected = false;
         PrivateReply::Done { made: 0, kept: 0 }
@@ -730,6 +785,7 @@ impl Subscriber {
             return PrivateReply::Refused(Refusal::NoSuchStream);
         }
         remove_streams(&mut self.streams, stream.get());
+        self.on = mask_of(&self.streams);
         PrivateReply::Done { made: 0, kept: 0 }
     }
 
@@ -769,6 +825,7 @@ impl Subscriber {
         let word = word_at(asked.word)?;
         if !is_question(word) {
             switch_streams(&mut self.streams, asked.stream, asked.word);
+            self.on = mask_of(&self.streams);
             return Ok(());
         }
         let soc = self.last_tick.unwrap_or(0);

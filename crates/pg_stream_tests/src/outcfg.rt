@@ -380,15 +380,26 @@ fn all_of_one_frame(rt: HostRuntime) {
     let order = [Some(1), Some(0)];
     same(&rt, order.len(), definition.members.as_slice().len());
     let mut stamps = Stamps::new();
-    // Whether or not the stamp was found before, and whatever memory is there.
-    for room in [0, 40] {
+    // Whether or not the stamp was found before, whatever memory is there, and whatever size is guessed.
+    for (room, guess) in [(0, 0), (40, 36), (40, 26), (0, 56)] {
         let spare = vec![in alloc; 0xFF; room].expect(&rt, "memory");
-        let came = data_frame_at_once(alloc, &definition, 3001, &frame, &order, &mut stamps, spare);
+        let mut size = guess;
+        let came = data_frame_at_once(
+            alloc,
+            &definition,
+            3001,
+            &frame,
+            &order,
+            &mut size,
+            &mut stamps,
+            spare,
+        );
         same(
             &rt,
             came.expect(&rt, "memory").as_slice(),
             wanted.as_slice(),
         );
+        same(&rt, size, 36);
     }
 }
 
@@ -412,13 +423,31 @@ fn stamp_of_its_own(rt: HostRuntime) {
         let other = measured(&rt, alloc, &config, quality, &body).expect(&rt, "memory");
         same(&rt, other.count(), 2);
         let spare = Vec::new(alloc);
-        let came = data_frame_at_once(alloc, &definition, slot, &other, &order, &mut stamps, spare);
+        let came = data_frame_at_once(
+            alloc,
+            &definition,
+            slot,
+            &other,
+            &order,
+            &mut 0,
+            &mut stamps,
+            spare,
+        );
         same(&rt, came.expect(&rt, "memory")[10], quality);
     }
     let frame = measured(&rt, alloc, &config, 0, &body).expect(&rt, "memory");
     same(&rt, frame.count(), 2);
     let spare = Vec::new(alloc);
-    let came = data_frame_at_once(alloc, &definition, 3001, &frame, &order, &mut stamps, spare);
+    let came = data_frame_at_once(
+        alloc,
+        &definition,
+        3001,
+        &frame,
+        &order,
+        &mut 0,
+        &mut stamps,
+        spare,
+    );
     same(
         &rt,
         came.expect(&rt, "memory").as_slice(),

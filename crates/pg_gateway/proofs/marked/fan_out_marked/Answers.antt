@@ -1,11 +1,12 @@
-use Rattle.std.proofs.Common.{rules, arith, ◌∙◌, true≢false, w64}
+use Rattle.std.proofs.Common.{get_or, subst, rules, arith, ◌∙◌, true≢false, w64}
 use Rattle.std.specs.Arc.{arc_value}
 use Rattle.std.specs.Int.{trailing_zeros}
 use Rattle.pg_gateway.specs.Taking.{measured, Awaits, HasNone}
-use Rattle.pg_gateway.specs.Routes.{IsPassed}
+use Rattle.pg_gateway.specs.Routes.{WhereBit, IsPassed}
 use Rattle.indexmap.proofs.CallerLemmas.{index_map_len-with_value_at}
 use Rattle.pg_gateway.proofs.RouteLaws.{turn, without, bit_within, still_marked, now_cleared, still_unmarked, to_all, walked_turn, walked_end, kept_marks}
 use Rattle.pg_gateway.proofs.MaskLaws.{told_left}
+use Rattle.pg_gateway.proofs.OnlyLaws.{one_place, told_holds}
 use Rattle.pg_gateway.proofs.marked.fan_out_marked.Goals as goal
 
 pub index_mut-requires : goal.index_mut-requires
@@ -91,3 +92,18 @@ returns-clause-fans_out c = λ ps h.
 
 pub returns-clause-none : goal.returns-clause-none
 returns-clause-none c = to_all HasNone c.marked.left c.marked.subs.entries (omega arith) c.marked.invariant.none
+
+pub fan_out_only_block-requires-clause-holds : goal.fan_out_only_block-requires-clause-holds
+fan_out_only_block-requires-clause-holds c =
+    told_holds c.args.common c.args.marks c.args.turned.now (arc_value c.args.frame.now).config c.args.places.now (get_or c.args.places.now 0 0) c.args.subs.now.entries
+    (one_place c.args.places.now (omega (arith, c.if-places-eq1.true))) (c.requires.alone c.if-places-eq1.true) c.requires.tell
+
+pub fan_out_only_block-requires-clause-awaits : goal.fan_out_only_block-requires-clause-awaits
+fan_out_only_block-requires-clause-awaits c =
+    subst (λ ps. WhereBit 1 c.args.marks (Awaits (measured (arc_value c.args.frame.now) ps)) c.args.subs.now.entries)
+    (one_place c.args.places.now (omega (arith, c.if-places-eq1.true))) c.requires.awaits
+
+pub fan_out_only_block-requires-clause-passed : goal.fan_out_only_block-requires-clause-passed
+fan_out_only_block-requires-clause-passed c =
+    subst (λ ps. WhereBit 0 c.args.marks (IsPassed (measured (arc_value c.args.frame.now) ps)) c.args.subs.now.entries)
+    (one_place c.args.places.now (omega (arith, c.if-places-eq1.true))) c.requires.passed

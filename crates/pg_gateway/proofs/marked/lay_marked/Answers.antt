@@ -1,15 +1,16 @@
-use Rattle.std.proofs.Common.{rules, arith, refl, sym, ◌∙◌, true≢false, w64}
+use Rattle.std.proofs.Common.{get_or, rules, arith, refl, sym, ◌∙◌, true≢false, w64}
 use Rattle.std.specs.Arc.{arc_value}
 use Rattle.std.specs.Int.{trailing_zeros}
 use Rattle.pg_gateway.specs.Shown.{SlotShows}
 use Rattle.pg_gateway.specs.Taking.{measured, Awaits, HasNone, Fits}
 use Rattle.pg_gateway.specs.Frugal.{Spares}
-use Rattle.pg_gateway.specs.Routes.{IsPassed}
+use Rattle.pg_gateway.specs.Routes.{WhereBit, HoldsPart, IsPassed, SharesTold}
 use Rattle.indexmap.proofs.CallerLemmas.{index_map_len-with_value_at}
 use Rattle.pg_gateway.proofs.FanLaws.{Related-kept}
 use Rattle.pg_gateway.proofs.Taking.{awaits_laid, shows_kept}
 use Rattle.pg_gateway.proofs.RouteLaws.{turn, without, bit_within, still_marked, now_cleared, still_unmarked, kept_marks, from_all, to_all, awaits_passed}
 use Rattle.pg_gateway.proofs.MaskLaws.{told_kept}
+use Rattle.pg_gateway.proofs.OnlyLaws.{one_place, told_holds, holds_told, ok_then}
 use Rattle.pg_gateway.proofs.marked.lay_marked.Goals as goal
 
 pub marked-init : goal.marked-init
@@ -95,3 +96,17 @@ returns-clause-laid c =
     let o = measured (arc_value c.args.frame.now) c.args.places.now in
     let xs = c.marked.subs.entries in
     from_all (Awaits o) 1 c.args.marks xs (to_all (Awaits o) c.marked.left xs (omega arith) c.marked.invariant.laid)
+
+pub lay_only_block-requires-clause-holds : goal.lay_only_block-requires-clause-holds
+lay_only_block-requires-clause-holds c =
+    told_holds c.args.common c.args.marks c.args.turned.now (arc_value c.args.frame.now).config c.args.places.now (get_or c.args.places.now 0 0) c.args.subs.now.entries
+    (one_place c.args.places.now (omega (arith, c.if-places-eq1.true))) (c.requires.alone c.if-places-eq1.true) c.requires.tell
+
+pub returns-then-places-eq1-clause-tell : goal.returns-then-places-eq1-clause-tell
+returns-then-places-eq1-clause-tell c =
+    let config = (arc_value c.args.frame.now).config in
+    let xs = c.lay_only_block.new.subs.entries in
+    ok_then c.lay_only_block.result (WhereBit 1 c.args.marks (HoldsPart config (get_or c.args.places.now 0 0)) xs)
+    (SharesTold c.args.common c.args.turned.now config c.args.places.now c.args.marks xs)
+    (holds_told c.args.common c.args.marks c.args.turned.now (arc_value c.args.frame.now).config c.args.places.now (get_or c.args.places.now 0 0) xs
+    (one_place c.args.places.now (omega (arith, c.if-places-eq1.true))) (c.requires.alone c.if-places-eq1.true)) c.lay_only_block.ensures.holds

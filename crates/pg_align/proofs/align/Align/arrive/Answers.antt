@@ -1,6 +1,4 @@
-use Rattle.std.proofs.Common.{◌≡◌, ◌<◌, ◌≤◌, ◌∙◌, Bool, true, false, length, refl, arith, rules}
-use Rattle.std.specs.Prelude.{IsTrue}
-use Rattle.std.proofs.lemmas.Grind.{common_steps}
+use Rattle.std.proofs.Common.{◌≡◌, ◌<◌, ◌≤◌, ◌∙◌, true, length, refl, arith}
 use Rattle.pg_align.specs.Fields.{slots_of}
 use Rattle.pg_align.specs.Slots.{fresh_slot, others_than}
 use Rattle.pg_align.specs.declared.answer.Arrived.{Arrived}
@@ -8,7 +6,7 @@ use Rattle.pg_align.specs.declared.answer.Arrived.TheVariants.{Kept, Late, Twice
 use Rattle.pg_align.proofs.Parts.{effective_within}
 use Rattle.pg_align.proofs.Arriving.{others-with_part}
 use Rattle.pg_align.proofs.Histories.{Shows-arrival}
-use Rattle.pg_align.proofs.Keeping.{taken_back, kept_back, kept_arrival}
+use Rattle.pg_align.proofs.Keeping.{taken_back, kept_arrival}
 use Rattle.pg_align.proofs.align.Align.arrive.Goals as goal
 
 by_answer : {P : Type 0} (r : Arrived) → (r ≡ Arrived.Kept → P) → (r ≡ Arrived.Late → P) → (r ≡ Arrived.Twice → P) → P

@@ -1,4 +1,4 @@
-use Rattle.std.proofs.Common.{◌≡◌, true, false, sym, ap, subst, length, ◌∙◌, arith}
+use Rattle.std.proofs.Common.{◌≡◌, length, true, false, sym, ap, subst, ◌∙◌, arith}
 use Rattle.std.specs.Arc.{arc_value}
 use Rattle.std.specs.Map.{keys_of}
 use Rattle.pg_session.specs.Events.{samples_at}
@@ -49,6 +49,18 @@ lay_copies_marked-requires-clause-tell c =
     let turned = rw c.deref-2.ensures.value at c.shares_of-marks.ensures.turned in
     subst (λ places. SharesTold c.shares_of-marks.result.1 c.shares_of-marks.new.turned m.config places c.shares_of-marks.result.0 xs) (sym c.deref-3.ensures.value)
     (shares_told m xs (masks_taken masks blocks) taken c.shares_of-marks.result.0 c.shares_of-marks.result.1 c.shares_of-marks.new.turned tell.0 tell.1 common turned)
+
+pub lay_copies_marked-requires-clause-alone : goal.lay_copies_marked-requires-clause-alone
+lay_copies_marked-requires-clause-alone c = λ one.
+    let tell = measured_told (arc_value c.args.frame.now) c.self.inside.registry c.self.inside.last_tick c.self.inside.subs.entries c.refresh.new.self.masks c.judge_shared-some.new.taken.items c.judge_shared-some.new.blocks.items
+    c.refresh.ensures.masks c.judge_shared-some.ensures.rising c.judge_shared-some.ensures.taken c.judge_shared-some.ensures.blocks in
+    (rw c.deref-2.ensures.value at c.shares_of-marks.ensures.alone) (tell.0 ∙ sym (ap length c.deref-3.ensures.value) ∙ one)
+
+pub fan_out_marked-made-requires-clause-alone : goal.fan_out_marked-made-requires-clause-alone
+fan_out_marked-made-requires-clause-alone c = λ one.
+    let tell = measured_told (arc_value c.args.frame.now) c.self.inside.registry c.self.inside.last_tick c.self.inside.subs.entries c.refresh.new.self.masks c.judge_shared-some.new.taken.items c.judge_shared-some.new.blocks.items
+    c.refresh.ensures.masks c.judge_shared-some.ensures.rising c.judge_shared-some.ensures.taken c.judge_shared-some.ensures.blocks in
+    (rw c.deref-2.ensures.value at c.shares_of-marks.ensures.alone) (tell.0 ∙ sym (ap length c.deref-5.ensures.value) ∙ one)
 
 pub lay_copies_marked-requires-clause-bits : goal.lay_copies_marked-requires-clause-bits
 lay_copies_marked-requires-clause-bits c =

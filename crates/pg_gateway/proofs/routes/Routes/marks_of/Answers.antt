@@ -1,9 +1,9 @@
-use Rattle.std.proofs.Common.{◌≡◌, ◌≤◌, length, get_or, None, All, take, arith, sym, ap, subst, ◌∙◌}
+use Rattle.std.proofs.Common.{◌≡◌, ◌<◌, ◌^◌, rules, get_or, None, All, take, arith, sym, ap, subst, ◌∙◌}
 use Rattle.std.specs.Int.{bit_at}
 use Rattle.std.specs.Int.Bits.{bit_or}
 use Rattle.std.proofs.lemmas.List.{get_or_default, take_all}
-use Rattle.pg_gateway.specs.Routes.{IsCommon, masks_taken}
-use Rattle.pg_gateway.proofs.MaskLaws.{common_next, covers_taken, covers_refused, none_more, masks_more, masks_same, taken_if, refused_if}
+use Rattle.pg_gateway.specs.Routes.{IsAlone, IsCommon, masks_taken}
+use Rattle.pg_gateway.proofs.MaskLaws.{alone_next, alone_end, common_next, covers_taken, covers_refused, none_more, masks_more, masks_same, taken_if, refused_if}
 use Rattle.pg_gateway.proofs.routes.Routes.marks_of.Goals as goal
 use Rattle.pg_gateway.proofs.routes.Routes.marks_of.Goals.{then-is_none, else-is_none}
 
@@ -24,6 +24,7 @@ loop-block-preserved c =
           record {
             covers = λ j unset. covers_taken masks bs k lt c.loop-block.marks inv.covers j (ap (λ m. bit_at m j) (sym marks) ∙ unset);
             none = λ j all. ap (λ m. bit_at m j) marks ∙ none_more masks bs k lt c.loop-block.marks inv.none j all;
+            alone = rw (w.marks-is, w.common-is, read, masks_more masks bs k lt none) (alone_next c.loop-block.marks c.loop-block.common (get_or masks (get_or bs k (0, None)).0 0) (masks_taken masks (take k bs)) (subst (λ n. n < 2 ^ 64) read (search rules)) inv.alone);
             common = rw (w.common-is, read, masks_more masks bs k lt none) (common_next c.loop-block.common (get_or masks (get_or bs k (0, None)).0 0) (masks_taken masks (take k bs)) inv.common);
           }
       | else-is_none w ↦
@@ -31,6 +32,7 @@ loop-block-preserved c =
           record {
             covers = λ j unset. covers_refused masks bs k lt c.loop-block.marks refused inv.covers j (ap (λ m. bit_at m j) (sym w.marks-is) ∙ unset);
             none = λ j all. ap (λ m. bit_at m j) w.marks-is ∙ inv.none j all;
+            alone = rw (w.marks-is, w.common-is, masks_same masks bs k lt refused) inv.alone;
             common = rw (w.common-is, masks_same masks bs k lt refused) inv.common;
           }
     ]
@@ -44,3 +46,9 @@ pub returns-clause-common : goal.returns-clause-common
 returns-clause-common c =
     let all : take c.loop-block.block-index c.args.blocks.now ≡ c.args.blocks.now = take_all c.loop-block.block-index c.args.blocks.now (omega (arith, c.loop-block-test.false)) in
     subst (λ l. IsCommon c.loop-block.common (masks_taken c.args.self.now.masks l)) all c.loop-block.invariant.common
+
+pub returns-clause-alone : goal.returns-clause-alone
+returns-clause-alone c =
+    let all : take c.loop-block.block-index c.args.blocks.now ≡ c.args.blocks.now = take_all c.loop-block.block-index c.args.blocks.now (omega (arith, c.loop-block-test.false)) in
+    alone_end c.loop-block.marks c.loop-block.common (masks_taken c.args.self.now.masks c.args.blocks.now)
+    (subst (λ l. IsAlone c.loop-block.marks c.loop-block.common (masks_taken c.args.self.now.masks l)) all c.loop-block.invariant.alone)

@@ -1,6 +1,6 @@
 use Rattle.std.proofs.Common.{◌≡◌, ℕ, All, None, get_or, take}
 use Rattle.std.specs.Int.{bit_at}
-use Rattle.pg_gateway.specs.Routes.{IsCommon, masks_taken}
+use Rattle.pg_gateway.specs.Routes.{IsAlone, IsCommon, masks_taken}
 use Rattle.pg_gateway.proofs.routes.Routes.marks_of.Given as goal
 
 abbrev pub invariant-loop-block : goal.invariant-loop-block
@@ -8,4 +8,5 @@ invariant-loop-block l = record {
   covers : (j : ℕ) → bit_at l.marks j ≡ 0 → All (λ b. b.1 ≡ None → bit_at (get_or l.self.masks b.0 0) j ≡ 0) (take l.block-index l.blocks);
   none : (j : ℕ) → All (λ b. bit_at (get_or l.self.masks b.0 0) j ≡ 0) l.blocks → bit_at l.marks j ≡ 0;
   common : IsCommon l.common (masks_taken l.self.masks (take l.block-index l.blocks));
+  alone : IsAlone l.marks l.common (masks_taken l.self.masks (take l.block-index l.blocks));
 }

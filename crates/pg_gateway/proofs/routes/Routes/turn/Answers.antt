@@ -1,5 +1,5 @@
 use Rattle.std.proofs.Common.{◌≡◌, replicate, ◌++◌, ◌∷◌, [], ◌+◌, length, get_or, None, take, refl, arith, sym, ap, subst, ◌∙◌}
-use Rattle.std.proofs.lemmas.List.{get_or_default, take_all}
+use Rattle.std.proofs.lemmas.List.{get_or_default}
 use Rattle.pg_gateway.specs.Routes.{IsTurned, masks_taken}
 use Rattle.pg_gateway.proofs.MaskLaws.{turned_block, turned_none, zeros_at, more_masks, masks_more, masks_same, taken_if, refused_if}
 use Rattle.pg_gateway.proofs.routes.Routes.turn.Goals as goal

@@ -1,64 +1,55 @@
-use Rattle.std.proofs.Common.{◌≡◌, ◌<◌, refl, sym, ap, subst, arith, length, ◌∙◌}
-use Rattle.std.proofs.lemmas.Result.{err_from_is_err_and}
+use Rattle.std.proofs.Common.{[], ◌∷◌, get_or, true, IfSome, refl, subst}
 use Rattle.std.specs.Arc.{arc_value}
-use Rattle.pg_gateway.specs.Routes.{places_held, share_in}
-use Rattle.pg_gateway.specs.Sharing.{share}
+use Rattle.pg_gateway.specs.Routes.{TellsShare, IsOnlyBit}
 use Rattle.pg_gateway.specs.Taking.{measured}
-use Rattle.pg_gateway.proofs.Taking.{measured_none, measured_share, fit_at, lays_no_share, lays_some, lays_refused}
-use Rattle.pg_gateway.proofs.MaskLaws.{held_told, none_held, rising_told}
+use Rattle.pg_gateway.proofs.Taking.{measured_share, fit_at, lays_share}
+use Rattle.pg_gateway.proofs.MaskLaws.{held_told}
+use Rattle.pg_gateway.proofs.OnlyLaws.{only_told, fits_same, lays_same}
 use Rattle.pg_gateway.proofs.slot.SubscriberSlot.lay_measured.Goals as goal
-
-pub returns-then-number-eq0-clause-lays : goal.returns-then-number-eq0-clause-lays
-returns-then-number-eq0-clause-lays c =
-    let m = arc_value c.args.frame.now in
-    let places = c.args.places.now in
-    let old = c.args.self.now in
-    let held = held_told c.args.whole c.args.number m.config places old old (places_held c.args.whole c.args.number places) refl refl c.requires.tell in
-    let empty : length (places_held c.args.whole c.args.number places) ≡ 0 = ap (λ b. length (places_held b c.args.number places)) c.if-not-whole.true ∙ none_held c.args.number places (omega (arith, c.if-number-eq0.true)) in
-    lays_no_share (measured m places) old old refl c.requires.none
-    (measured_none m places (places_held c.args.whole c.args.number places) old.subscriber.own.grants held empty)
 
 pub lay_frame-requires : goal.lay_frame-requires
 lay_frame-requires c =
     let m = arc_value c.args.frame.now in
     let places = c.args.places.now in
-    let items = c.share_of-mine.result.now in
-    let is : items ≡ places_held c.args.whole c.args.number places = c.share_of-mine.ensures ∙ ap (share_in c.args.whole c.hold_marked-one.result places) c.deref.ensures.value ∙ c.hold_marked-one.ensures.held in
-    let held = held_told c.args.whole c.args.number m.config places c.args.self.now _ items c.self.view_is is c.requires.tell in
-    let rising = rising_told m.config places c.self.inside.subscriber.own.grants items held c.requires.rising in
-    let full : 0 < length items = subst (λ l. 0 < length l) (sym is) c.hold_marked-one.ensures.some in
-    let some = measured_share m places items c.self.inside.subscriber.own.grants held rising full in
+    let tell = subst (λ b. TellsShare b c.args.number m.config places c.args.self.now) c.if-whole.true c.requires.tell in
+    let held = held_told true c.args.number m.config places c.args.self.now _ places c.self.view_is refl tell in
+    let some = measured_share m places places c.self.inside.subscriber.own.grants held c.requires.rising c.requires.some in
     let fit = rw (← c.self.view_is) at c.requires.fit in
     record {
-      places = record { some = full; rising = rising };
+      places = record { some = c.requires.some; rising = c.requires.rising };
       held = fit_at c.self.inside.subscriber _ _ some fit;
     }
 
-pub returns-in_err-lay_frame-clause-lays : goal.returns-in_err-lay_frame-clause-lays
-returns-in_err-lay_frame-clause-lays c =
+pub returns-then-whole-clause-lays : goal.returns-then-whole-clause-lays
+returns-then-whole-clause-lays c =
     let m = arc_value c.args.frame.now in
     let places = c.args.places.now in
-    let items = c.share_of-mine.result.now in
-    let is : items ≡ places_held c.args.whole c.args.number places = c.share_of-mine.ensures ∙ ap (share_in c.args.whole c.hold_marked-one.result places) c.deref.ensures.value ∙ c.hold_marked-one.ensures.held in
-    let held = held_told c.args.whole c.args.number m.config places c.args.self.now _ items c.self.view_is is c.requires.tell in
-    let rising = rising_told m.config places c.self.inside.subscriber.own.grants items held c.requires.rising in
-    let full : 0 < length items = subst (λ l. 0 < length l) (sym is) c.hold_marked-one.ensures.some in
-    let some = measured_share m places items c.self.inside.subscriber.own.grants held rising full in
-    let err = err_from_is_err_and c.from_residual.result c.from_residual.ensures.1 in
-    rw (err.1, err.2) (lays_refused (measured m places) c.args.self.now _ _ _ c.lay_frame.new.self c.self.view_is
-    (ap (λ v. share (measured m places) v.subscriber.own.grants) (sym c.self.view_is) ∙ some)
-    c.in_err-lay_frame.ensures.memory c.in_err-lay_frame.ensures.needless c.lay_frame.ensures.own)
+    let tell = subst (λ b. TellsShare b c.args.number m.config places c.args.self.now) c.if-whole.true c.requires.tell in
+    let held = held_told true c.args.number m.config places c.args.self.now c.args.self.now places refl refl tell in
+    let some = measured_share m places places c.args.self.now.subscriber.own.grants held c.requires.rising c.requires.some in
+    lays_share (measured m places) c.args.self.now _ _ c.lay_frame.result c.lay_frame.new.self c.self.view_is c.requires.none some
+    c.lay_frame.ensures.laid c.lay_frame.ensures.memory c.lay_frame.ensures.needless c.lay_frame.ensures.own
 
-pub returns-clause-lays : goal.returns-clause-lays
-returns-clause-lays c =
+pub lay_block-requires-clause-place : goal.lay_block-requires-clause-place
+lay_block-requires-clause-place c =
+    (only_told (arc_value c.args.frame.now) c.args.places.now c.args.number c.in-Some.bit c.args.self.now c.requires.rising (subst (λ b. TellsShare b c.args.number (arc_value c.args.frame.now).config c.args.places.now c.args.self.now) c.if-whole.false c.requires.tell)
+    (subst (λ o. IfSome o (λ bit. IsOnlyBit c.args.number bit)) c.in-Some.is c.only_bit.ensures)).0
+
+pub lay_block-requires-clause-holds : goal.lay_block-requires-clause-holds
+lay_block-requires-clause-holds c =
+    (only_told (arc_value c.args.frame.now) c.args.places.now c.args.number c.in-Some.bit c.args.self.now c.requires.rising (subst (λ b. TellsShare b c.args.number (arc_value c.args.frame.now).config c.args.places.now c.args.self.now) c.if-whole.false c.requires.tell)
+    (subst (λ o. IfSome o (λ bit. IsOnlyBit c.args.number bit)) c.in-Some.is c.only_bit.ensures)).1
+
+pub lay_block-requires-clause-fit : goal.lay_block-requires-clause-fit
+lay_block-requires-clause-fit c =
     let m = arc_value c.args.frame.now in
-    let places = c.args.places.now in
-    let items = c.share_of-mine.result.now in
-    let is : items ≡ places_held c.args.whole c.args.number places = c.share_of-mine.ensures ∙ ap (share_in c.args.whole c.hold_marked-one.result places) c.deref.ensures.value ∙ c.hold_marked-one.ensures.held in
-    let held = held_told c.args.whole c.args.number m.config places c.args.self.now _ items c.self.view_is is c.requires.tell in
-    let rising = rising_told m.config places c.self.inside.subscriber.own.grants items held c.requires.rising in
-    let full : 0 < length items = subst (λ l. 0 < length l) (sym is) c.hold_marked-one.ensures.some in
-    let some = measured_share m places items c.self.inside.subscriber.own.grants held rising full in
-    lays_some (measured m places) c.args.self.now _ _ c.lay_frame.new.self c.self.view_is c.requires.none
-    (ap (λ v. share (measured m places) v.subscriber.own.grants) (sym c.self.view_is) ∙ some)
-    c.in_ok-lay_frame.ensures.laid c.lay_frame.ensures.own
+    let told = only_told (arc_value c.args.frame.now) c.args.places.now c.args.number c.in-Some.bit c.args.self.now c.requires.rising (subst (λ b. TellsShare b c.args.number (arc_value c.args.frame.now).config c.args.places.now c.args.self.now) c.if-whole.false c.requires.tell)
+    (subst (λ o. IfSome o (λ bit. IsOnlyBit c.args.number bit)) c.in-Some.is c.only_bit.ensures) in
+    fits_same (measured m c.args.places.now) (measured m (get_or c.args.places.now c.in-Some.bit 0 ∷ [])) c.args.self.now told.2 c.requires.fit
+
+pub returns-in-Some-clause-lays : goal.returns-in-Some-clause-lays
+returns-in-Some-clause-lays c =
+    let m = arc_value c.args.frame.now in
+    let told = only_told (arc_value c.args.frame.now) c.args.places.now c.args.number c.in-Some.bit c.args.self.now c.requires.rising (subst (λ b. TellsShare b c.args.number (arc_value c.args.frame.now).config c.args.places.now c.args.self.now) c.if-whole.false c.requires.tell)
+    (subst (λ o. IfSome o (λ bit. IsOnlyBit c.args.number bit)) c.in-Some.is c.only_bit.ensures) in
+    lays_same (measured m c.args.places.now) (measured m (get_or c.args.places.now c.in-Some.bit 0 ∷ [])) c.args.self.now told.2 c.lay_block.result c.lay_block.new.self c.lay_block.ensures.lays

@@ -1,64 +1,72 @@
-use Rattle.std.proofs.Common.{◌≡◌, ◌<◌, refl, sym, ap, subst, arith, length, ◌∙◌}
+use Rattle.std.proofs.Common.{[], ◌∷◌, ◌<◌, length, get_or, true, IfSome, refl, sym, subst, ◌∙◌}
 use Rattle.std.proofs.lemmas.List.{append-nil}
 use Rattle.std.specs.Arc.{arc_value}
 use Rattle.pg_audit.specs.Noting as audit
+use Rattle.pg_data.specs.Measurements.{Measurement}
 use Rattle.pg_session.specs.Events.{measure, samples_at}
 use Rattle.pg_session.specs.Private.{told}
-use Rattle.pg_gateway.specs.Routes.{places_held, share_in}
-use Rattle.pg_gateway.specs.Sharing.{share}
+use Rattle.pg_gateway.specs.Routes.{TellsShare, IsOnlyBit}
 use Rattle.pg_gateway.specs.Taking.{measured}
-use Rattle.pg_gateway.proofs.Taking.{measured_none, measured_share, offer_cleared, offer_some, fit_at, laid_at, not_true, none_is_some}
-use Rattle.pg_gateway.proofs.MaskLaws.{held_told, none_held, rising_told}
+use Rattle.pg_gateway.proofs.Taking.{measured_share, offer_some, fit_at, laid_at, not_true, none_is_some}
+use Rattle.pg_gateway.proofs.MaskLaws.{held_told}
+use Rattle.pg_gateway.proofs.OnlyLaws.{only_told, awaits_same, takes_same}
 use Rattle.pg_gateway.proofs.slot.SubscriberSlot.take_measured.Goals as goal
-
-pub returns-then-number-eq0-clause-takes : goal.returns-then-number-eq0-clause-takes
-returns-then-number-eq0-clause-takes c =
-    let m = arc_value c.args.frame.now in
-    let places = c.args.places.now in
-    let held = held_told c.args.whole c.args.number m.config places c.args.self.now _ (places_held c.args.whole c.args.number places) c.self.view_is refl c.requires.tell in
-    let empty : length (places_held c.args.whole c.args.number places) ≡ 0 = ap (λ b. length (places_held b c.args.number places)) c.if-not-whole.true ∙ none_held c.args.number places (omega (arith, c.if-number-eq0.true)) in
-    let none = measured_none m places (places_held c.args.whole c.args.number places) c.self.inside.subscriber.own.grants held empty in
-    offer_cleared (measured m places) c.args.lost c.args.self.now _ c.self.view_is (ap (λ v. share (measured m places) v.subscriber.own.grants) (sym c.self.view_is) ∙ none) c.requires.awaits
 
 pub take_frame-requires : goal.take_frame-requires
 take_frame-requires c =
     let m = arc_value c.args.frame.now in
     let places = c.args.places.now in
-    let items = c.share_of-mine.result.now in
-    let is : items ≡ places_held c.args.whole c.args.number places = c.share_of-mine.ensures ∙ ap (share_in c.args.whole c.hold_marked-one.result places) c.deref.ensures.value ∙ c.hold_marked-one.ensures.held in
-    let held = held_told c.args.whole c.args.number m.config places c.args.self.now _ items c.self.view_is is c.requires.tell in
-    let rising = rising_told m.config places c.self.inside.subscriber.own.grants items held c.requires.rising in
-    let full : 0 < length items = subst (λ l. 0 < length l) (sym is) c.hold_marked-one.ensures.some in
-    let some = measured_share m places items c.self.inside.subscriber.own.grants held rising full in
+    let tell = subst (λ b. TellsShare b c.args.number m.config places c.args.self.now) c.if-whole.true c.requires.tell in
+    let held = held_told true c.args.number m.config places c.args.self.now _ places c.self.view_is refl tell in
+    let some = measured_share m places places c.self.inside.subscriber.own.grants held c.requires.rising c.requires.some in
     let awaits = rw (← c.self.view_is) at c.requires.awaits in
     record {
-      places = record { some = full; rising = rising };
+      places = record { some = c.requires.some; rising = c.requires.rising };
       held = fit_at c.self.inside.subscriber _ _ some awaits.fit;
       laid = laid_at c.self.inside.subscriber _ _ some awaits.laid;
     }
 
-pub returns-clause-takes : goal.returns-clause-takes
-returns-clause-takes c =
+pub returns-then-whole-clause-takes : goal.returns-then-whole-clause-takes
+returns-then-whole-clause-takes c =
     let m = arc_value c.args.frame.now in
     let places = c.args.places.now in
-    let items = c.share_of-mine.result.now in
-    let is : items ≡ places_held c.args.whole c.args.number places = c.share_of-mine.ensures ∙ ap (share_in c.args.whole c.hold_marked-one.result places) c.deref.ensures.value ∙ c.hold_marked-one.ensures.held in
-    let held = held_told c.args.whole c.args.number m.config places c.args.self.now _ items c.self.view_is is c.requires.tell in
-    let rising = rising_told m.config places c.self.inside.subscriber.own.grants items held c.requires.rising in
-    let full : 0 < length items = subst (λ l. 0 < length l) (sym is) c.hold_marked-one.ensures.some in
-    let some = measured_share m places items c.self.inside.subscriber.own.grants held rising full in
-    rw (← c.self.view_is) (offer_some (measured m places) c.args.lost _ _ (measure m.soc m.quality m.frac (samples_at m items)) (told c.take_frame.result) c.counts.result some c.take_frame.ensures.takes
+    let tell = subst (λ b. TellsShare b c.args.number m.config places c.args.self.now) c.if-whole.true c.requires.tell in
+    let held = held_told true c.args.number m.config places c.args.self.now _ places c.self.view_is refl tell in
+    let some = measured_share m places places c.self.inside.subscriber.own.grants held c.requires.rising c.requires.some in
+    rw (← c.self.view_is) (offer_some (measured m places) c.args.lost _ _ (measure m.soc m.quality m.frac (samples_at m places)) (told c.take_frame.result) c.counts.result some c.take_frame.ensures.takes
     (λ s h. subst (λ l. audit.ShowsAudit c.self.inside.audit l) (sym (append-nil s.noted)) h.audit) c.counts.ensures.counts (c.counts.ensures.few c.take_frame.ensures.few) c.take_frame.ensures.none)
 
-pub returns-clause-spared : goal.returns-clause-spared
-returns-clause-spared c =
+pub returns-then-whole-clause-spared : goal.returns-then-whole-clause-spared
+returns-then-whole-clause-spared c =
     let m = arc_value c.args.frame.now in
     let places = c.args.places.now in
-    let items = c.share_of-mine.result.now in
-    let is : items ≡ places_held c.args.whole c.args.number places = c.share_of-mine.ensures ∙ ap (share_in c.args.whole c.hold_marked-one.result places) c.deref.ensures.value ∙ c.hold_marked-one.ensures.held in
-    let held = held_told c.args.whole c.args.number m.config places c.args.self.now _ items c.self.view_is is c.requires.tell in
-    let rising = rising_told m.config places c.self.inside.subscriber.own.grants items held c.requires.rising in
-    let full : 0 < length items = subst (λ l. 0 < length l) (sym is) c.hold_marked-one.ensures.some in
-    let some = measured_share m places items c.self.inside.subscriber.own.grants held rising full in
+    let tell = subst (λ b. TellsShare b c.args.number m.config places c.args.self.now) c.if-whole.true c.requires.tell in
+    let held = held_told true c.args.number m.config places c.args.self.now _ places c.self.view_is refl tell in
+    let some = measured_share m places places c.self.inside.subscriber.own.grants held c.requires.rising c.requires.some in
     let awaits = rw (← c.self.view_is) at c.requires.awaits in
     not_true _ (λ on. none_is_some (sym (awaits.spared on) ∙ some))
+
+pub take_block-requires-clause-place : goal.take_block-requires-clause-place
+take_block-requires-clause-place c =
+    (only_told (arc_value c.args.frame.now) c.args.places.now c.args.number c.in-Some.bit c.args.self.now c.requires.rising (subst (λ b. TellsShare b c.args.number (arc_value c.args.frame.now).config c.args.places.now c.args.self.now) c.if-whole.false c.requires.tell)
+    (subst (λ o. IfSome o (λ bit. IsOnlyBit c.args.number bit)) c.in-Some.is c.only_bit.ensures)).0
+
+pub take_block-requires-clause-holds : goal.take_block-requires-clause-holds
+take_block-requires-clause-holds c =
+    (only_told (arc_value c.args.frame.now) c.args.places.now c.args.number c.in-Some.bit c.args.self.now c.requires.rising (subst (λ b. TellsShare b c.args.number (arc_value c.args.frame.now).config c.args.places.now c.args.self.now) c.if-whole.false c.requires.tell)
+    (subst (λ o. IfSome o (λ bit. IsOnlyBit c.args.number bit)) c.in-Some.is c.only_bit.ensures)).1
+
+pub take_block-requires-clause-awaits : goal.take_block-requires-clause-awaits
+take_block-requires-clause-awaits c =
+    let m = arc_value c.args.frame.now in
+    let told = only_told (arc_value c.args.frame.now) c.args.places.now c.args.number c.in-Some.bit c.args.self.now c.requires.rising (subst (λ b. TellsShare b c.args.number (arc_value c.args.frame.now).config c.args.places.now c.args.self.now) c.if-whole.false c.requires.tell)
+    (subst (λ o. IfSome o (λ bit. IsOnlyBit c.args.number bit)) c.in-Some.is c.only_bit.ensures) in
+    awaits_same (measured m c.args.places.now) (measured m (get_or c.args.places.now c.in-Some.bit 0 ∷ [])) c.args.self.now told.2 c.requires.awaits
+
+pub returns-in-Some-clause-takes : goal.returns-in-Some-clause-takes
+returns-in-Some-clause-takes c =
+    let m = arc_value c.args.frame.now in
+    let place = get_or c.args.places.now c.in-Some.bit 0 in
+    let told = only_told (arc_value c.args.frame.now) c.args.places.now c.args.number c.in-Some.bit c.args.self.now c.requires.rising (subst (λ b. TellsShare b c.args.number (arc_value c.args.frame.now).config c.args.places.now c.args.self.now) c.if-whole.false c.requires.tell)
+    (subst (λ o. IfSome o (λ bit. IsOnlyBit c.args.number bit)) c.in-Some.is c.only_bit.ensures) in
+    takes_same m c.args.places.now (place ∷ []) c.args.lost c.args.self.now c.take_block.new.self c.take_block.result told.2 c.take_block.ensures.takes

@@ -1,12 +1,11 @@
-use Rattle.std.proofs.Common.{◌≡◌, ◌<◌, ◌&&◌, ◌||◌, ◌==◌, not, Bool, is_some, length, replicate, None, true, false, refl, ap, sym, ◌∙◌, subst, arith}
+use Rattle.std.proofs.Common.{◌≡◌, is_some, length, replicate, None, true, ap, sym, ◌∙◌, subst, arith}
 use Rattle.std.proofs.lemmas.List.{take-replicate}
 use Rattle.pg_data.specs.Measurements.{resolution}
 use Rattle.pg_data.specs.Pieces.{Piece}
 use Rattle.pg_stream.specs.Slots.{slot_at}
 use Rattle.pg_align.specs.Slots.{Aligned}
-use Rattle.pg_outcfg.specs.Ordered.{pieces_in}
 use Rattle.pg_session.specs.Events.{samples_at}
-use Rattle.pg_session.specs.Streams.{StreamOf, placed}
+use Rattle.pg_session.specs.Streams.{StreamOf}
 use Rattle.pg_session.specs.Filling.{can_leave, fills, is_full}
 use Rattle.pg_session.proofs.Simulating.{stream_of}
 use Rattle.pg_session.proofs.Measuring.{base_shared}
@@ -25,7 +24,7 @@ returns-in-All c =
     let def = c.self.inside.definition in
     let s : StreamOf (Aligned Piece) = stream_of def c.self.inside.align c.self.inside.changes in
     let samples = samples_at m c.args.places.now in
-    let on : c.self.inside.align.is_on ≡ true = sym c.is_on.ensures.shown ∙ c.if-not-is_on.false in
+    let on : c.self.inside.align.is_on ≡ true = subst (λ (v : StreamOf (Aligned Piece)). v.slots.is_on ≡ true) (sym c.self.view_is) c.requires.on in
     let came = c.place_all.ensures.all c.in-All.is in
     let order = c.place_all.new.order in
     let all = ap is_full came.1 ∙ blocks_came m _ order (c.place_all.ensures.blocks c.in-All.is) in

@@ -1,4 +1,4 @@
-use Rattle.std.proofs.Common.{◌≡◌, List, [], ◌∷◌, ◌<◌, length, replicate, Option, Ok, None, Some, is_some, Bool, true, false, refl, ap, sym, ◌∙◌, subst, arith}
+use Rattle.std.proofs.Common.{◌≡◌, List, [], ◌∷◌, length, replicate, Ok, None, is_some, true, false, refl, ap, sym, ◌∙◌, subst, arith}
 use Rattle.std.proofs.lemmas.List.{take-replicate}
 use Rattle.pg_data.specs.Measurements.{resolution}
 use Rattle.pg_data.specs.Pieces.{Piece}
@@ -7,9 +7,8 @@ use Rattle.pg_align.specs.Histories.{is_above}
 use Rattle.pg_align.specs.Slots.{Aligned, with_last, head_with}
 use Rattle.pg_outcfg.specs.Ordered.{pieces_in}
 use Rattle.pg_session.specs.Events.{samples_at}
-use Rattle.pg_session.specs.Streams.{StreamOf, Turn, PlacedBlock, placed, still, effective_in, slot_frame, arrival_turn, measure_turn}
-use Rattle.pg_session.specs.Output.{all_ignored}
-use Rattle.pg_session.specs.Sending.{Sending, Sends}
+use Rattle.pg_session.specs.Streams.{StreamOf, Turn, PlacedBlock, placed, still, slot_frame, measure_turn}
+use Rattle.pg_session.specs.Sending.{Sends}
 use Rattle.pg_session.specs.Kept.{by_slots}
 use Rattle.pg_session.specs.Fields.{NeedsNoCopy, with_stats, turn_stats}
 use Rattle.pg_session.specs.Filling.{can_leave}
@@ -42,7 +41,7 @@ no_block c = by c.place_all.result refl
         let m = c.args.frame.now in
         let s : StreamOf (Aligned Piece) = stream_of c.self.inside.definition c.self.inside.align c.self.inside.changes in
         let samples = samples_at m c.args.places.now in
-        let on : c.self.inside.align.is_on ≡ true = sym c.is_on.ensures.shown ∙ c.if-not-is_on.false in
+        let on : c.self.inside.align.is_on ≡ true = subst (λ (v : StreamOf (Aligned Piece)). v.slots.is_on ≡ true) (sym c.self.view_is) c.requires.on in
         let needs = subst (λ (v : StreamOf (Aligned Piece)). NeedsNoCopy v m.soc m.quality m.frac samples) (sym c.self.view_is) c.requires.filled in
         let two = c.place_all.ensures.some e in
         absurd (let no : false ≡ true = sym two.1 ∙ (clears_of s m.soc m.quality m.frac samples on two.0 needs).all in cc no)
@@ -71,7 +70,7 @@ unreachable-requires c =
     let def = c.self.inside.definition in
     let s : StreamOf (Aligned Piece) = stream_of def c.self.inside.align c.self.inside.changes in
     let samples = samples_at m c.args.places.now in
-    let on : c.self.inside.align.is_on ≡ true = sym c.is_on.ensures.shown ∙ c.if-not-is_on.false in
+    let on : c.self.inside.align.is_on ≡ true = subst (λ (v : StreamOf (Aligned Piece)). v.slots.is_on ≡ true) (sym c.self.view_is) c.requires.on in
     let needs = subst (λ (v : StreamOf (Aligned Piece)). NeedsNoCopy v m.soc m.quality m.frac samples) (sym c.self.view_is) c.requires.filled in
     let came = c.place_all.ensures.all c.in-All.is in
     let clears = clears_of s m.soc m.quality m.frac samples on came.0 needs in
@@ -104,7 +103,7 @@ filled_turn c =
     let s : StreamOf (Aligned Piece) = stream_of def c.self.inside.align c.self.inside.changes in
     let samples = samples_at m places in
     let blocks = placed def.members m.quality samples in
-    let on : c.self.inside.align.is_on ≡ true = sym c.is_on.ensures.shown ∙ c.if-not-is_on.false in
+    let on : c.self.inside.align.is_on ≡ true = subst (λ (v : StreamOf (Aligned Piece)). v.slots.is_on ≡ true) (sym c.self.view_is) c.requires.on in
     let needs = subst (λ (v : StreamOf (Aligned Piece)). NeedsNoCopy v m.soc m.quality m.frac samples) (sym c.self.view_is) c.requires.filled in
     let came = c.place_all.ensures.all c.in-All.is in
     let order = c.place_all.new.order in
