@@ -5,8 +5,8 @@
     python3 bench/unproved.py OUT --replay   a program that replays standard input alone, in one: for run-replay.sh, as PROGRAM
 
 It takes the module that `rt try` compiles, takes out the checks, fills and tests that only a trial has, writes the inlining hints of the
-sources into it, which a trial leaves out, and compiles it at -O3. Instructions a frame were 1 to 5 % fewer than the proved
-program's (7 % with frames of 16 blocks), with --replay some 1 % fewer still, as LLVM inlines more into a small program: compare like with like.
+sources into it, which a trial leaves out, and compiles it at -O3. Instructions a frame were 0 to 5 % fewer than the proved
+program's, with --replay up to 1 % fewer still, as LLVM inlines more into a small program: compare like with like.
 What it builds has no checks and no proof: it is for figures alone. It stands on what this version of the toolchain calls things, and says so
 where it finds them otherwise.
 """
@@ -21,6 +21,9 @@ import tempfile
 TARGET = "x86_64-unknown-linux-gnu"
 LEVEL = "x86-64-v2"
 HINTS = {"inline(never)": "noinline", "inline(always)": "alwaysinline", "inline": "inlinehint", "cold": "cold"}
+# An `impl`: its trait, if it is of one, and its type. And a function, with its place in an `impl` and its attributes before it.
+IMPL = re.compile(r"(?m)^impl\b(?:<[^{;]*?>)?\s+(?:!?([A-Z]\w*)(?:<[^{;]*?>)?\s+for\s+)?&?(?:\w+::)*([A-Za-z]\w*)")
+FUNCTION = re.compile(r"(?m)^( +)?((?:#\[[^\]]*\]\s*)*)(?:pub(?:\([\w ]+\))?\s+)?(?:const\s+)?(?:unsafe\s+)?fn\s+(\w+)")
 # A compiler that keeps the module of the program, and makes nothing of it. (A small one comes before it, and is compiled.)
 KEEPER = """#!/bin/bash
 if [ "$(stat -c %s module.bc)" -lt 100000 ]; then exec -a clang "{clang}" "$@"; fi
@@ -82,26 +85,32 @@ def with_replay(top, room):
 
 
 def hints_in(kit, crates):
-    """The hints by module and function: those of the repository, and of the kit's sources."""
+    """The hints by place and function: those of the repository, and of the kit's sources. A place is a module, or a crate and a type, behind
+    whose name the module of a program has the trait's, where an `impl` is of one."""
     found = {}
     for folder in [*glob.glob(f"{crates}/*/src"), *glob.glob(f"{kit}/rattle/*/src")]:
+        crate = os.path.basename(os.path.dirname(folder))
         for file in glob.glob(f"{folder}/**/*.rt", recursive=True):
             names = os.path.relpath(file, folder)[:-3].split("/")
-            path = "::".join([os.path.basename(os.path.dirname(folder)), *(it for it in names if it not in ("lib", "main", "mod"))])
+            path = "::".join([crate, *(it for it in names if it not in ("lib", "main", "mod"))])
             with open(file) as f:
                 text = f.read()
-            for hint in re.finditer(r"#\[(inline\(never\)|inline\(always\)|inline|cold)\]([^{};]*?)\bfn\s+(\w+)", text):
-                found.setdefault((path, hint[3]), set()).add(HINTS[hint[1]])
+            owners = [(it.start(), it[2] + (it[1] or "")) for it in IMPL.finditer(text)]
+            for it in FUNCTION.finditer(text):
+                owner = next((name for start, name in reversed(owners) if start < it.start()), None)
+                place = (crate, owner) if it[1] and owner else path
+                found.setdefault((place, it[3]), set()).update(HINTS[word] for word in re.findall(r"#\[([\w()]+)\]", it[2]) if word in HINTS)
     return found
 
 
 def hinted(text, hints):
     def one(line):
         parts = re.sub(r"::<.*$", "", line[2]).split("::")
-        for length in range(len(parts) - 1, max(len(parts) - 4, 0), -1):
-            words = hints.get(("::".join(parts[:length]), parts[-1]), set())
-            if words and not {"noinline", "alwaysinline"} <= words:
-                return f'{line[1]}"{line[2]}"{line[3]} {" ".join(sorted(words))} #'
+        places = [(parts[0], parts[-2])] if len(parts) > 2 else []
+        places += ["::".join(parts[:length]) for length in range(len(parts) - 1, max(len(parts) - 4, 0), -1)]
+        words = next((hints[place, parts[-1]] for place in places if (place, parts[-1]) in hints), set())
+        if words and not {"noinline", "alwaysinline"} <= words:
+            return f'{line[1]}"{line[2]}"{line[3]} {" ".join(sorted(words))} #'
         return line[0]
 
     return re.sub(r'^(define [^@\n]*@)"([^"\n]+)"(\([^\n]*?\)) #', one, text, flags=re.M)

@@ -26,10 +26,16 @@ use Rattle.pg_gateway.specs.Judging.{samples_in, sample_refusal, is_taken, judge
 use Rattle.pg_gateway.specs.Placing.{ArePlaced}
 use Rattle.pg_gateway.specs.Shown.{SlotValue}
 use Rattle.pg_gateway.specs.Taking.{part_passes}
-use Rattle.pg_gateway.specs.Routes.{IsMask, AreMasks, HasBits, IsAlone, IsOnlyBit, IsCommon, IsTurned, bit_of, mask_where, masks_taken, places_at, places_held, TellsShare, SharesTold}
+use Rattle.pg_gateway.specs.Routes.{IsMask, AreMasks, HasBits, IsOnlyBit, IsCommon, IsTurned, bit_of, mask_where, masks_taken, places_at, places_held, TellsShare, SharesTold}
 use Rattle.pg_gateway.proofs.Places.{part_there, rising-filter}
 use Rattle.pg_gateway.proofs.RouteLaws.{turn, without, bit_within, one_zero, value_set_same, value_set_other}
 use Rattle.pg_gateway.proofs.RouteKept.{mask_at}
+
+-- By one mask what is marked is what is common; by none nothing is marked, and all is common.
+abbrev pub IsAlone : ℕ → ℕ → List ℕ → Type 0
+IsAlone marks common [] = (marks ≡ 0) × (common ≡ 2 ^ 64 - 1)
+IsAlone marks common (n ∷ []) = marks ≡ common
+IsAlone marks common (n ∷ m ∷ masks) = Unit {0}
 
 -- of these places, each with a mask, those whose mask has a subscriber's bit set
 abbrev places_marked : ℕ → List ℕ → List ℕ → List ℕ

@@ -1,5 +1,5 @@
 -- Which subscribers hold a PMU, as the bits of a number: subscriber j's is bit j.
-use Rattle.std.specs.Prelude.{◌≡◌, ◌≢◌, ◌^◌, ◌-◌, ◌<◌, ◌≤◌, ℕ, suc, nat_eq, Bool, true, false, if◌then◌else◌, List, [], ◌∷◌, ◌++◌, length, filter, get_or, slice_get, Option, Some, None}
+use Rattle.std.specs.Prelude.{◌≡◌, ◌≢◌, ◌<◌, ◌≤◌, ℕ, suc, nat_eq, Bool, true, false, if◌then◌else◌, List, [], ◌∷◌, ◌++◌, length, filter, get_or, slice_get, Option, Some, None}
 use Rattle.std.specs.Int.{bit_at}
 use Rattle.std.specs.Map.{keys_of, values_of}
 use Rattle.pg_wire.specs.declared.ids.PmuKey.{PmuKey}
@@ -84,12 +84,6 @@ SharesTold common turned source places marks entries =
 -- where a bit is set in `common`, each mask has it set
 abbrev pub IsCommon : ℕ → List ℕ → Type 0
 IsCommon common masks = (j : ℕ) → nat_eq (bit_at common j) 1 ≡ true → (i : ℕ) → i < length masks → nat_eq (bit_at (get_or masks i 0) j) 1 ≡ true
-
--- By one mask what is marked is what is common; by none nothing is marked, and all is common.
-abbrev pub IsAlone : ℕ → ℕ → List ℕ → Type 0
-IsAlone marks common [] = (marks ≡ 0) × (common ≡ 2 ^ 64 - 1)
-IsAlone marks common (n ∷ []) = marks ≡ common
-IsAlone marks common (n ∷ m ∷ masks) = Unit {0}
 
 -- The masks are turned for the subscribers of some bits: what is bit j of mask i, is bit i of number j.
 abbrev pub IsTurned : ℕ → List ℕ → List ℕ → Type 0

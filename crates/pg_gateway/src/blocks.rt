@@ -143,10 +143,12 @@ pub(crate) fn judge(
     taken.clear();
     let config = source_of(frame);
     let soc = soc_of(frame);
+    let mut next = *near;
     for place in 0..config.count() {
-        let judged = judge_block(config, soc, place, registry, last, near);
+        let judged = judge_block(config, soc, place, registry, last, &mut next);
         note_judged(judged, place, blocks, taken);
     }
+    *near = next;
 }
 
 /// Whether a source's PMU is registered.

@@ -1,9 +1,10 @@
--- What a reader must believe, in this order: the CFG-1 list, the joined quality, the output frames, and what these tell whoever
--- reads them.
+-- What a reader must believe, in this order: the CFG-1 list, the joined quality, the output frames, the front of a data frame, and what
+-- the frames tell whoever reads them.
 pub mod Listing
 pub mod Quality
 pub mod Frames
 pub mod Ordered
+pub mod Fronts
 pub mod Reading
 -- Only private contracts and proofs use these: places in the list, how it lies in memory, and a stamp's bytes.
 pub mod Places

@@ -1,17 +1,17 @@
 //! The data frame of a slot.
-ghost use Rattle.std.specs.Prelude.{◌≡◌, ◌+◌, ◌/◌, ◌<◌, ◌≤◌, ◌++◌, ◌^◌, List, length, drop, zip, ℕ, replicate, IsTrue, IfOk, IfErr, IfSome, IsSome, vec_len, vec_capacity};
-ghost use Rattle.pg_wire.specs.Check.{dividend, IsRemainder};
-ghost use Rattle.pg_wire.specs.Heads.{start_of};
+ghost use Rattle.std.specs.Prelude.{◌≡◌, ◌+◌, ◌/◌, ◌<◌, ◌≤◌, ◌++◌, ◌^◌, length, ℕ, replicate, IsTrue, IfOk, IfErr, IfSome, IsSome, vec_len, vec_capacity};
+ghost use Rattle.std.specs.Int.{w16, to_be_bytes};
+ghost use Rattle.pg_wire.specs.Check.{chk, dividend, IsRemainder};
 ghost use Rattle.pg_wire.specs.Stream.{joined};
 ghost use Rattle.pg_stream.specs.Limits.{IsWithinLimits};
-ghost use Rattle.pg_stream.specs.Slots.{stamp_at};
 ghost use Rattle.pg_data.specs.Measurements.{block_of};
 ghost use Rattle.pg_outcfg.specs.Listing.{Listing};
 ghost use Rattle.pg_outcfg.specs.Ordered.{AreBlocks, AreMembers, blocks_in, pieces_in};
 ghost use Rattle.pg_outcfg.specs.Quality.{joined_quality};
-ghost use Rattle.pg_outcfg.specs.Stamped.{stamp_bytes};
-ghost use Rattle.pg_outcfg.specs.Frames.{block_or_filler, data_blocks, data_heading, qualities_of, data_frame_of};
+ghost use Rattle.pg_outcfg.specs.Fronts.{front_bytes};
+ghost use Rattle.pg_outcfg.specs.Frames.{block_or_filler, data_blocks, qualities_of, data_frame_of};
 
+use crate::front::Front;
 use crate::list::ConfigList;
 use crate::stamps::{Stamp, Stamps};
 use pg_config::PmuConfig;
@@ -22,9 +22,6 @@ use std::alloc::Global;
 
 /// How many bytes a frame has beside its body.
 const AROUND_BODY: u16 = 16;
-
-/// The second byte of a data frame's SYNC: data, by the edition of 2011 (C37.118.2, 6.2).
-const DATA_FRAME: u8 = 0x02;
 
 /// How many bytes a head has.
 const HEAD_BYTES: usize = 14;
@@ -64,13 +61,12 @@ pub fn data_frame(
 {
     let spare = Vec::new(alloc);
     let stamps = &mut Stamps::new();
-    data_frame_near(
-        alloc, definition, slot, listed, parts, &mut 0, stamps, spare,
-    )
+    let front = &mut Front::new();
+    data_frame_near(alloc, definition, slot, listed, parts, front, stamps, spare)
 }
 
-/// The same, where the frame may well be `size` bytes long: if it is, the members are gone through once. `size` is then the size of
-/// this frame, which is that of the stream's next one while its effective members stay. 0 guesses nothing.
+/// The same, where `front` is that of the stream's last data frame. This one may well have it too: if it has, the members are gone through
+/// once, and its bytes are not summed again. `front` is then that of this frame. One of no frame guesses nothing.
 ///
 /// The frame is composed in the memory of `spare`, whatever bytes are there, or in an allocation of its size where that has less
 /// room. So it may have more room than its size.
@@ -80,7 +76,7 @@ pub fn data_frame_near(
     slot: u64,
     listed: &ConfigList,
     parts: &[Option<SharedBlock>],
-    size: &mut u16,
+    front: &mut Front,
     stamps: &mut Stamps,
     spare: Vec<u8>,
 ) -> Result<Vec<u8>, Refusal>
@@ -90,15 +86,16 @@ pub fn data_frame_near(
     ensures frame { IfOk result (λ v. v.items ≡ data_frame_of definition.now slot listed.now parts.now) }
     ensures least { IfOk result (λ v. 16 ≤ vec_len v) }
     ensures most { IfOk result (λ v. vec_len v ≤ 12752) }
+    ensures front { IfOk result (λ v. front.new ≡ record { id = definition.now.stream; size = vec_len v }) }
     ensures memory { IfErr result (λ refusal. refusal ≡ Refusal.NoMemory) }
 {
     let mut frame = spare;
-    let mut near = *size;
+    let mut near = front.size();
     loop {
         if AROUND_BODY <= near && near <= MOST_BYTES {
             frame = room_for(alloc, frame, near)?;
-            if compose(&mut frame, definition, slot, listed, parts, near, stamps) {
-                *size = near;
+            front.turn_to(definition.stream, near);
+            if compose(&mut frame, definition, slot, listed, parts, front, stamps) {
                 return Ok(frame);
             }
         }
@@ -111,15 +108,15 @@ pub fn data_frame_near(
 /// order, which of that frame's blocks is its own.
 ///
 /// It asks for what `data_frame` asks for, and of each block that the frame has it. The frame is the same for every list in which
-/// all members stand. It may well be `size` bytes long, as `data_frame_near` has it: if it is, its blocks are not measured first. It is
-/// composed in the memory of `spare`, or in an allocation of its size where that has less room. The one refusal is `NoMemory`.
+/// all members stand. `front` and `spare` are what `data_frame_near` has them to be: where the frame has that front too, its blocks are not
+/// measured first. The one refusal is `NoMemory`.
 pub fn data_frame_at_once(
     alloc: Global,
     definition: &Definition,
     slot: u64,
     frame: &DataFrame,
     order: &[Option<u8>],
-    size: &mut u16,
+    front: &mut Front,
     stamps: &mut Stamps,
     spare: Vec<u8>,
 ) -> Result<Vec<u8>, Refusal>
@@ -131,15 +128,16 @@ pub fn data_frame_at_once(
         → v.items ≡ data_frame_of definition.now slot listed (pieces_in frame.now order.now)) }
     ensures least { IfOk result (λ v. 16 ≤ vec_len v) }
     ensures most { IfOk result (λ v. vec_len v ≤ 12752) }
+    ensures front { IfOk result (λ v. front.new ≡ record { id = definition.now.stream; size = vec_len v }) }
     ensures memory { IfErr result (λ refusal. refusal ≡ Refusal.NoMemory) }
 {
     let mut out = spare;
-    let mut near = *size;
+    let mut near = front.size();
     loop {
         if AROUND_BODY <= near && near <= MOST_BYTES {
             out = room_for(alloc, out, near)?;
-            if compose_at_once(&mut out, definition, slot, frame, order, near, stamps) {
-                *size = near;
+            front.turn_to(definition.stream, near);
+            if compose_at_once(&mut out, definition, slot, frame, order, front, stamps) {
                 return Ok(out);
             }
         }
@@ -148,41 +146,38 @@ pub fn data_frame_at_once(
     }
 }
 
-/// Composes the data frame of a slot in memory with room for so many bytes, where one frame brought the blocks of all members, and tells
-/// whether it is so many bytes long.
+/// Composes the data frame of a slot in memory with room for as many bytes as this front tells, where one frame brought the blocks of all
+/// members, and tells whether it is so many bytes long.
 fn compose_at_once(
     out: &mut Vec<u8>,
     definition: &Definition,
     slot: u64,
     frame: &DataFrame,
     order: &[Option<u8>],
-    size: u16,
+    front: &Front,
     stamps: &mut Stamps,
 ) -> bool
     requires limits { IsWithinLimits definition.now }
     requires time { slot / definition.now.rate < 2 ^ 32 }
     requires members { length order.now ≡ length definition.now.members }
     requires blocks { AreBlocks (length frame.now.config.parts) order.now }
-    requires least { 16 ≤ size }
-    requires room { size ≤ vec_capacity out.old }
-    ensures fits { size ≡ 16 + length (joined (blocks_in frame.now order.now)) → IsTrue result }
+    requires front { front.now.id ≡ definition.now.stream }
+    requires least { 16 ≤ front.now.size }
+    requires room { front.now.size ≤ vec_capacity out.old }
+    ensures fits { front.now.size ≡ 16 + length (joined (blocks_in frame.now order.now)) → IsTrue result }
     ensures frame { IsTrue result → (listed : Listing) → AreMembers listed definition.now.members
         → out.new.items ≡ data_frame_of definition.now slot listed (pieces_in frame.now order.now) }
-    ensures len { IsTrue result → vec_len out.new ≡ size }
+    ensures len { IsTrue result → vec_len out.new ≡ front.now.size }
 {
     let quality = clear_quality(frame.quality);
     let stamp = stamps.stamp_of(definition.rate, definition.base, slot, quality);
-    let Some(crc) = start_stamped(out, definition, stamp, size) else {
+    let Some(crc) = start_stamped(out, front, stamp) else {
         return false;
     };
     let Some(crc) = add_ordered(out, crc, frame, order) else {
         return false;
     };
-    if out.len() + CHECK_BYTES != usize::from(size) {
-        return false;
-    }
-    end_frame_by(out, crc);
-    true
+    end_if_whole(out, crc, front.size())
 }
 
 /// The joined time quality where all blocks are of one frame: that frame's without bit 7.
@@ -260,68 +255,83 @@ fn room_for(alloc: Global, spare: Vec<u8>, size: u16) -> Result<Vec<u8>, Refusal
     Ok(Vec::with_capacity(alloc, usize::from(size))?)
 }
 
-/// Composes the data frame of a slot in memory with room for so many bytes, and tells whether it is so many bytes long.
+/// Composes the data frame of a slot in memory with room for as many bytes as this front tells, and tells whether it is so many bytes
+/// long.
 fn compose(
     frame: &mut Vec<u8>,
     definition: &Definition,
     slot: u64,
     listed: &ConfigList,
     parts: &[Option<SharedBlock>],
-    size: u16,
+    front: &Front,
     stamps: &mut Stamps,
 ) -> bool
     requires limits { IsWithinLimits definition.now }
     requires time { slot / definition.now.rate < 2 ^ 32 }
     requires parts { length parts.now ≡ length definition.now.members }
-    requires least { 16 ≤ size }
-    requires room { size ≤ vec_capacity frame.old }
-    ensures fits { size ≡ 16 + length (joined (data_blocks listed.now definition.now.members parts.now)) → IsTrue result }
+    requires front { front.now.id ≡ definition.now.stream }
+    requires least { 16 ≤ front.now.size }
+    requires room { front.now.size ≤ vec_capacity frame.old }
+    ensures fits { front.now.size ≡ 16 + length (joined (data_blocks listed.now definition.now.members parts.now)) → IsTrue result }
     ensures frame { IsTrue result → frame.new.items ≡ data_frame_of definition.now slot listed.now parts.now }
-    ensures len { IsTrue result → vec_len frame.new ≡ size }
+    ensures len { IsTrue result → vec_len frame.new ≡ front.now.size }
 {
     let members = definition.members.as_slice();
     let quality = join_qualities(parts);
     let stamp = stamps.stamp_of(definition.rate, definition.base, slot, quality);
-    let Some(crc) = start_stamped(frame, definition, stamp, size) else {
+    let Some(crc) = start_stamped(frame, front, stamp) else {
         return false;
     };
     let Some(crc) = add_blocks(frame, crc, members, listed, parts) else {
         return false;
     };
-    if frame.len() + CHECK_BYTES != usize::from(size) {
+    end_if_whole(frame, crc, front.size())
+}
+
+/// Ends a frame of which this is the check so far, if it is then so many bytes long.
+#[inline(always)]
+fn end_if_whole(frame: &mut Vec<u8>, crc: u16, size: u16) -> bool
+    requires check { IsRemainder (dividend frame.old.items) crc }
+    ensures fits { vec_len frame.old + 2 ≡ size → size ≤ vec_capacity frame.old → IsTrue result }
+    ensures bytes { IsTrue result → frame.new.items ≡ frame.old.items ++ to_be_bytes w16 (chk frame.old.items) }
+    ensures len { IsTrue result → (vec_len frame.old + 2 ≡ size) × (vec_len frame.new ≡ size) }
+{
+    let len = frame.len();
+    // With the room tested, CHK is added without a way to take memory.
+    if len + CHECK_BYTES != usize::from(size) || frame.capacity() - len < CHECK_BYTES {
         return false;
     }
     end_frame_by(frame, crc);
     true
 }
 
-/// Starts the data frame of a slot whose stamp this is: its first 14 bytes are there, and nothing of what was. Returns the check of them;
-/// none where there was no room for them.
+/// Starts the data frame of a slot whose front and stamp these are: its first 14 bytes are there, and nothing of what was. Returns the
+/// check of them; none where there was no room for them.
 #[inline(always)]
-fn start_stamped(
-    frame: &mut Vec<u8>,
-    definition: &Definition,
-    stamp: &Stamp,
-    size: u16,
-) -> Option<u16>
+fn start_stamped(frame: &mut Vec<u8>, front: &Front, stamp: &Stamp) -> Option<u16>
     ensures fits { 14 ≤ vec_capacity frame.old → IsSome result }
-    ensures bytes { IsSome result → (slot quality : ℕ) → stamp.now ≡ stamp_bytes (stamp_at definition.now.rate definition.now.base slot) quality
-        → frame.new.items ≡ start_of (data_heading definition.now slot quality) size }
+    ensures bytes { IsSome result → frame.new.items ≡ front_bytes front.now ++ stamp.now }
     ensures len { IsSome result → vec_len frame.new ≡ 14 }
     ensures check { IfSome result (λ crc. IsRemainder (dividend frame.new.items) crc) }
     ensures room { vec_capacity frame.old ≤ vec_capacity frame.new }
 {
-    let [size_high, size_low] = size.to_be_bytes();
-    let [id_high, id_low] = definition.stream.get().to_be_bytes();
-    let front = [0xAA, DATA_FRAME, size_high, size_low, id_high, id_low];
     frame.clear();
     if frame.capacity() < HEAD_BYTES {
         return None;
     }
     // With the room tested, the head is added without a way to take memory.
-    let _ = frame.extend_from_slice(&front);
-    let _ = frame.extend_from_slice(stamp.bytes());
-    Some(stamp.check_behind(&front))
+    let _ = frame.extend_from_slice(&head_of(&front.bytes(), stamp.bytes()));
+    Some(front.check_with(stamp))
+}
+
+/// A head of this front and this stamp.
+#[inline(always)]
+fn head_of(front: &[u8; 6], stamp: &[u8; 8]) -> [u8; 14]
+    ensures { result ≡ front.now ++ stamp.now }
+{
+    let [a, b, c, d, e, f] = *front;
+    let [g, h, i, j, k, l, m, n] = *stamp;
+    [a, b, c, d, e, f, g, h, i, j, k, l, m, n]
 }
 
 /// The joined time quality of the blocks that are there (own rule): each leap second flag that one has, and the greatest

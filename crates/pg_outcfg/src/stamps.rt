@@ -1,11 +1,12 @@
 //! The slot and the stamp that were found last.
-ghost use Rattle.std.specs.Prelude.{◌≡◌, ◌≢◌, ◌/◌, ◌^◌, ◌<◌, ◌≤◌, ◌++◌, length, IfOk, Ok};
+ghost use Rattle.std.specs.Prelude.{◌≡◌, ◌≢◌, ◌/◌, ◌^◌, ◌<◌, ◌≤◌, ◌++◌, ℕ, List, length, IfOk, Ok};
 ghost use Rattle.pg_wire.specs.Check.{dividend, dividend_from, IsRemainder};
 ghost use Rattle.pg_stream.specs.Slots.{slot_at, stamp_at};
+ghost use Rattle.pg_outcfg.specs.Fronts.{no_stamp};
 ghost use Rattle.pg_outcfg.specs.Stamped.{stamp_bytes};
 
 use pg_stream::{slot_of, stamp_of};
-use pg_wire::{Refusal, check_alone, check_head};
+use pg_wire::{Refusal, check_alone};
 use std::marker::Model;
 
 /// The stamp in a frame's head: SOC and FRACSEC, its last eight bytes (C37.118.2, 6.2), with what these add to a check.
@@ -50,26 +51,25 @@ impl Stamp {
         &self.bytes
     }
 
-    /// The check of a head that it ends, by what it adds.
+    /// The check of a head that it ends, by what it adds: `check` is that of the head with zeros in its place.
     #[inline(always)]
-    pub(crate) fn check_behind(&self, front: &[u8; 6]) -> u16
-        ensures { IsRemainder (dividend (front.now ++ self.now)) result }
+    pub(crate) fn check_behind(&self, check: u16) -> u16
+        ensures { (front : List ℕ) → IsRemainder (dividend (front ++ no_stamp)) check → IsRemainder (dividend (front ++ self.now)) result }
     {
-        check_of(front, &self.bytes, self.alone)
+        check_of(check, &self.bytes, self.alone)
     }
 }
 
-/// The check of a head by its front and its stamp, where `alone` is what the stamp adds.
+/// The same, where `alone` is what the stamp adds.
 #[inline(always)]
-fn check_of(front: &[u8; 6], stamp: &[u8], alone: u16) -> u16
+fn check_of(check: u16, stamp: &[u8], alone: u16) -> u16
     requires eight { length stamp.now ≡ 8 }
     requires alone { IsRemainder (dividend_from 0 stamp.now) alone }
-    ensures { IsRemainder (dividend (front.now ++ stamp.now)) result }
+    ensures { (front : List ℕ) → IsRemainder (dividend (front ++ no_stamp)) check → IsRemainder (dividend (front ++ stamp.now)) result }
 {
     // Only the contract speaks of its bytes.
     let _ = stamp;
-    let [a, b, c, d, e, f] = *front;
-    check_head(&[a, b, c, d, e, f, 0, 0, 0, 0, 0, 0, 0, 0]) ^ alone
+    check ^ alone
 }
 
 /// The slot of a time and the stamp of a slot, as they were found last. Streams of one rate and one resolution ask for the same ones, one

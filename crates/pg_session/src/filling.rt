@@ -12,7 +12,7 @@ ghost use Rattle.pg_session.specs.Filling.{are_all, filled};
 use crate::output::Output;
 use crate::stream::place_next;
 use pg_data::DataFrame;
-use pg_outcfg::{ConfigList, Stamps, data_frame_at_once};
+use pg_outcfg::{ConfigList, Front, Stamps, data_frame_at_once};
 use pg_stream::Definition;
 use pg_wire::PmuKey;
 use std::alloc::Global;
@@ -111,7 +111,7 @@ pub(crate) fn send_filled(
     slot: u64,
     frame: &DataFrame,
     order: &[Option<u8>],
-    size: &mut u16,
+    front: &mut Front,
     stamps: &mut Stamps,
     output: &mut Output,
 )
@@ -130,6 +130,8 @@ pub(crate) fn send_filled(
         output.lose();
     } else {
         let spare = output.take_spare(alloc);
-        output.send(data_frame_at_once(alloc, definition, slot, frame, order, size, stamps, spare));
+        output.send(data_frame_at_once(
+            alloc, definition, slot, frame, order, front, stamps, spare,
+        ));
     }
 }

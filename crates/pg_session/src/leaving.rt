@@ -10,19 +10,19 @@ ghost use Rattle.pg_session.specs.Fields.{AreTimed};
 use crate::output::Output;
 use pg_align::Align;
 use pg_data::SharedBlock;
-use pg_outcfg::{ConfigList, Stamps, data_frame_near};
+use pg_outcfg::{ConfigList, Front, Stamps, data_frame_near};
 use pg_stream::Definition;
 use std::alloc::Global;
 
-/// Makes the frame of a slot that left, and sends it. Where a frame of the event was lost this one is not composed. `size` is the
-/// size of the stream's last frame, if it is known: this one mostly has the same.
+/// Makes the frame of a slot that left, and sends it. Where a frame of the event was lost this one is not composed. `front` is
+/// that of the stream's last frame: this one mostly has the same.
 fn send_slot(
     alloc: Global,
     definition: &Definition,
     listed: &ConfigList,
     slot: u64,
     parts: &[Option<SharedBlock>],
-    size: &mut u16,
+    front: &mut Front,
     stamps: &mut Stamps,
     output: &mut Output,
 )
@@ -37,7 +37,7 @@ fn send_slot(
         output.lose();
     } else {
         let spare = output.take_spare(alloc);
-        output.send(data_frame_near(alloc, definition, slot, listed, parts, size, stamps, spare));
+        output.send(data_frame_near(alloc, definition, slot, listed, parts, front, stamps, spare));
     }
 }
 
@@ -48,7 +48,7 @@ pub(crate) fn leave_all(
     definition: &Definition,
     listed: &ConfigList,
     align: &mut Align,
-    size: &mut u16,
+    front: &mut Front,
     stamps: &mut Stamps,
     output: &mut Output,
 )
@@ -62,7 +62,7 @@ pub(crate) fn leave_all(
     ensures few { output.new.made + length align.new.slots ≤ output.old.made + length align.old.slots }
 {
     if align.is_leaving() {
-        leave_each(alloc, definition, listed, align, size, stamps, output);
+        leave_each(alloc, definition, listed, align, front, stamps, output);
     }
 }
 
@@ -73,7 +73,7 @@ fn leave_each(
     definition: &Definition,
     listed: &ConfigList,
     align: &mut Align,
-    size: &mut u16,
+    front: &mut Front,
     stamps: &mut Stamps,
     output: &mut Output,
 )
@@ -88,7 +88,7 @@ fn leave_each(
 {
     while let Some(left) = align.leave_next() {
         send_slot(
-            alloc, definition, listed, left.slot, left.parts, size, stamps, output,
+            alloc, definition, listed, left.slot, left.parts, front, stamps, output,
         );
     }
 }
@@ -99,7 +99,7 @@ pub(crate) fn flush_all(
     definition: &Definition,
     listed: &ConfigList,
     align: &mut Align,
-    size: &mut u16,
+    front: &mut Front,
     stamps: &mut Stamps,
     output: &mut Output,
 )
@@ -114,7 +114,7 @@ pub(crate) fn flush_all(
 {
     while let Some(left) = align.flush_next() {
         send_slot(
-            alloc, definition, listed, left.slot, left.parts, size, stamps, output,
+            alloc, definition, listed, left.slot, left.parts, front, stamps, output,
         );
     }
 }

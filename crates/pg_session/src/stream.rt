@@ -35,7 +35,7 @@ use crate::standing::{StreamStanding, count_effective};
 use circular_buffer::HeapCircularBuffer;
 use pg_align::Align;
 use pg_data::{DataFrame, SharedBlock};
-use pg_outcfg::{ConfigList, OutCfg, Stamps, header};
+use pg_outcfg::{ConfigList, Front, OutCfg, Stamps, header};
 use pg_stream::Definition;
 use pg_wire::{PmuKey, Refusal, StreamId};
 use std::alloc::Global;
@@ -45,15 +45,15 @@ use std::sync::Arc;
 /// The most members of a stream.
 const MOST_MEMBERS: usize = 32;
 
-/// A stream: its definition, its open slots, and the count of changes of the CFG-1 list since its definition. `size` is the size of
-/// its last data frame, a good guess for the next one, or 0 where its effective members have changed since. `guess` is the place of
+/// A stream: its definition, its open slots, and the count of changes of the CFG-1 list since its definition. `front` is that of
+/// its last data frame, a good guess for the next one, or of none where its effective members have changed since. `guess` is the place of
 /// the member whose block is guessed to come next: behind the last one that came it is the next.
 #[derive(Drop)]
 pub(crate) struct Stream {
     definition: Definition,
     align: Align,
     changes: OutCfg,
-    size: u16,
+    front: Front,
     guess: usize,
 }
 
@@ -203,7 +203,7 @@ impl Stream {
             definition,
             align,
             changes: OutCfg::new(),
-            size: 0,
+            front: Front::new(),
             guess: 0,
         })
     }
@@ -287,11 +287,11 @@ impl Stream {
                 &self.definition,
                 listed,
                 &mut self.align,
-                &mut self.size,
+                &mut self.front,
                 &mut Stamps::new(),
                 output,
             );
-            self.size = 0;
+            self.front = Front::new();
             let members = self.definition.members.as_slice();
             let mut effective = [false; MOST_MEMBERS];
             let effective = &mut effective[..members.len()];
@@ -315,7 +315,7 @@ impl Stream {
                 &self.definition,
                 listed,
                 &mut self.align,
-                &mut self.size,
+                &mut self.front,
                 &mut Stamps::new(),
                 output,
             );
@@ -371,7 +371,7 @@ impl Stream {
                     &self.definition,
                     listed,
                     &mut self.align,
-                    &mut self.size,
+                    &mut self.front,
                     stamps,
                     output,
                 );
@@ -570,7 +570,7 @@ impl Stream {
                     &self.definition,
                     listed,
                     &mut self.align,
-                    &mut self.size,
+                    &mut self.front,
                     stamps,
                     output,
                 );
@@ -648,7 +648,7 @@ impl Stream {
             slot,
             frame,
             order,
-            &mut self.size,
+            &mut self.front,
             stamps,
             output,
         );

@@ -784,8 +784,9 @@ impl Subscriber {
         if stream_of(&self.streams, stream.get()).is_none() {
             return PrivateReply::Refused(Refusal::NoSuchStream);
         }
-        remove_streams(&mut self.streams, stream.get());
-        self.on = mask_of(&self.streams);
+        let left = &mut self.streams;
+        remove_streams(left, stream.get());
+        self.on = mask_of(left);
         PrivateReply::Done { made: 0, kept: 0 }
     }
 

@@ -176,30 +176,26 @@ fn frame_3001(
     same(rt, parts.len(), definition.members.as_slice().len());
     let frame = data_frame(alloc, definition, 3001, list, parts).expect(rt, "memory");
     let mut stamps = Stamps::new();
-    // Whatever size is guessed, and whatever was in the memory, it is the same frame, and its size is the next guess.
-    for guess in [
-        0,
-        15,
-        16,
-        frame.len() as u16,
-        frame.len() as u16 + 1,
-        12_752,
-        65_535,
-    ] {
-        let mut size = guess;
-        let spare = Vec::from_slice(alloc, &[0xFF; 40]).expect(rt, "memory");
-        let near = data_frame_near(
-            alloc,
-            definition,
-            3001,
-            list,
-            parts,
-            &mut size,
-            &mut stamps,
-            spare,
-        );
-        same(rt, near.expect(rt, "memory").as_slice(), frame.as_slice());
-        same(rt, usize::from(size), frame.len());
+    // Whatever size is guessed, whosever front it is, and whatever was in the memory, it is the same frame, and its size is the next guess.
+    let len = frame.len() as u16;
+    let other = StreamId::new(1).expect(rt, "reserved");
+    for whose in [definition.stream, other] {
+        for guess in [0, 15, 16, len, len + 1, 12_752, 65_535] {
+            let mut front = Front::of(whose, guess);
+            let spare = Vec::from_slice(alloc, &[0xFF; 40]).expect(rt, "memory");
+            let near = data_frame_near(
+                alloc,
+                definition,
+                3001,
+                list,
+                parts,
+                &mut front,
+                &mut stamps,
+                spare,
+            );
+            same(rt, near.expect(rt, "memory").as_slice(), frame.as_slice());
+            same(rt, front.size(), len);
+        }
     }
     Ok(frame)
 }
@@ -380,17 +376,23 @@ fn all_of_one_frame(rt: HostRuntime) {
     let order = [Some(1), Some(0)];
     same(&rt, order.len(), definition.members.as_slice().len());
     let mut stamps = Stamps::new();
-    // Whether or not the stamp was found before, whatever memory is there, and whatever size is guessed.
-    for (room, guess) in [(0, 0), (40, 36), (40, 26), (0, 56)] {
+    // Whether or not the stamp was found before, whatever memory is there, whatever size is guessed, and whosever front it is.
+    for (room, whose, guess) in [
+        (0, 101, 0),
+        (40, 101, 36),
+        (40, 101, 26),
+        (0, 101, 56),
+        (40, 7, 36),
+    ] {
         let spare = vec![in alloc; 0xFF; room].expect(&rt, "memory");
-        let mut size = guess;
+        let mut front = Front::of(StreamId::new(whose).expect(&rt, "reserved"), guess);
         let came = data_frame_at_once(
             alloc,
             &definition,
             3001,
             &frame,
             &order,
-            &mut size,
+            &mut front,
             &mut stamps,
             spare,
         );
@@ -399,7 +401,7 @@ fn all_of_one_frame(rt: HostRuntime) {
             came.expect(&rt, "memory").as_slice(),
             wanted.as_slice(),
         );
-        same(&rt, size, 36);
+        same(&rt, front.size(), 36);
     }
 }
 
@@ -429,7 +431,7 @@ fn stamp_of_its_own(rt: HostRuntime) {
             slot,
             &other,
             &order,
-            &mut 0,
+            &mut Front::new(),
             &mut stamps,
             spare,
         );
@@ -444,7 +446,7 @@ fn stamp_of_its_own(rt: HostRuntime) {
         3001,
         &frame,
         &order,
-        &mut 0,
+        &mut Front::new(),
         &mut stamps,
         spare,
     );

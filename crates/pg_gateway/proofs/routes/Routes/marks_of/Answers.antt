@@ -2,8 +2,8 @@ use Rattle.std.proofs.Common.{◌≡◌, ◌<◌, ◌^◌, rules, get_or, None, 
 use Rattle.std.specs.Int.{bit_at}
 use Rattle.std.specs.Int.Bits.{bit_or}
 use Rattle.std.proofs.lemmas.List.{get_or_default, take_all}
-use Rattle.pg_gateway.specs.Routes.{IsAlone, IsCommon, masks_taken}
-use Rattle.pg_gateway.proofs.MaskLaws.{alone_next, alone_end, common_next, covers_taken, covers_refused, none_more, masks_more, masks_same, taken_if, refused_if}
+use Rattle.pg_gateway.specs.Routes.{IsCommon, masks_taken}
+use Rattle.pg_gateway.proofs.MaskLaws.{IsAlone, alone_next, alone_end, common_next, covers_taken, covers_refused, none_more, masks_more, masks_same, taken_if, refused_if}
 use Rattle.pg_gateway.proofs.routes.Routes.marks_of.Goals as goal
 use Rattle.pg_gateway.proofs.routes.Routes.marks_of.Goals.{then-is_none, else-is_none}
 

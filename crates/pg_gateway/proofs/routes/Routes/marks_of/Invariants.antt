@@ -1,6 +1,7 @@
 use Rattle.std.proofs.Common.{◌≡◌, ℕ, All, None, get_or, take}
 use Rattle.std.specs.Int.{bit_at}
-use Rattle.pg_gateway.specs.Routes.{IsAlone, IsCommon, masks_taken}
+use Rattle.pg_gateway.specs.Routes.{IsCommon, masks_taken}
+use Rattle.pg_gateway.proofs.MaskLaws.{IsAlone}
 use Rattle.pg_gateway.proofs.routes.Routes.marks_of.Given as goal
 
 abbrev pub invariant-loop-block : goal.invariant-loop-block
