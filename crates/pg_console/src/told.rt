@@ -64,7 +64,8 @@ impl Told<'_> {
         }
     }
 
-    /// What the workers tell of their sources and ports.
+    /// What the workers tell of their sources and ports. Once all are to end nobody is asked, as none need answer then: each line that
+    /// lies there yet would wait a second for it.
     pub(crate) fn ask<R: Wait + Clock>(&self, rt: &R, alloc: Global) -> Reports {
         let Neighbours {
             ports,
@@ -72,6 +73,9 @@ impl Told<'_> {
             board,
             ..
         } = self.neighbours;
+        if self.stop.load(Ordering::SeqCst) {
+            return board.ask(rt, alloc, &[], &[], journal);
+        }
         board.ask(rt, alloc, self.sources, ports, journal)
     }
 

@@ -51,6 +51,31 @@ fn make_boxes<R: Net + Abort>(rt: &R, alloc: Global) -> Boxes {
     }
 }
 
+/// How often it is noted that workers did not answer, where one line asks what the service shows and no worker is there. `is_over` tells
+/// whether all are to end.
+fn unanswered<R: Net + Abort + Wait + Clock>(rt: &R, alloc: Global, is_over: bool) -> u64 {
+    let boxes = make_boxes(rt, alloc);
+    let stop = AtomicBool::new(is_over);
+    let told = Told {
+        sources: &boxes.sources,
+        neighbours: Neighbours {
+            ports: &boxes.ports,
+            finder: &boxes.names,
+            journal: &boxes.journal,
+            board: &boxes.board,
+        },
+        registered: &boxes.registered,
+        window: None,
+        stop: &stop,
+    };
+    let mut gate = Watched::new(Gateway::new(alloc).expect(rt, "memory"));
+    let mut reader = b"status\n".as_slice();
+    let mut console = Console::new(alloc, Vec::new(alloc), told);
+    answer_lines(rt, &mut console, &mut gate, &mut reader, &mut EditsAlone);
+    drop(console);
+    boxes.journal.count(Notice::Unanswered)
+}
+
 /// What a new gateway answers to lines, written by a writer whose call number `fails_at` fails; the gateway, whether all
 /// workers are to end, and the faults that were noted.
 fn answered<R: Net + Abort + Wait + Clock>(
@@ -140,4 +165,12 @@ fn no_reader_of_answers(rt: HostRuntime) {
     let (_, mut gate, is_over, faults) = answered(&rt, alloc, "addpmu 7\naddpmu 8\nquit\n", 1);
     assert!(rt; is_over && faults == 1);
     assert!(rt; has(&rt, &mut gate, 7) && has(&rt, &mut gate, 8));
+}
+
+/// Workers that are there are asked what the service shows, and waited for; once all are to end nobody is, as none need answer then.
+#[test]
+fn nobody_is_asked_at_the_end(rt: HostRuntime) {
+    let alloc = rt.alloc();
+    same(&rt, unanswered(&rt, alloc, false), 1);
+    same(&rt, unanswered(&rt, alloc, true), 0);
 }
