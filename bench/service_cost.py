@@ -1,6 +1,6 @@
 #!/usr/bin/env python3
 """Counts what the running service takes for each input frame under load: instructions of its own code, by callgrind, beside those that
-`pdcgw replay` takes for the same frames without the reading and printing of its text; and system calls, by strace.
+the core takes for the same frames in `pdcgw replay` (bench/instructions.py); and system calls, by strace.
 
     python3 bench/service_cost.py PROGRAM
 
@@ -20,13 +20,12 @@ import sys
 import tempfile
 import time
 
+import instructions
 import service
 
 RATE = 60
 # (its own, so that it can run beside the other scripts)
 service.FIRST_SOURCE_PORT, service.FIRST_PORT = 21_100, 21_300
-# What is text alone in a replay: its script's lines and hexadecimal digits are read, and its answers printed.
-TEXT = re.compile(r"pg_replay|pg_operator|hex::|hex\d*_|memchr|itoa|fmt|StdoutLock|BufWriter|LineWriter|write_all|read_line|stdin|StdinLock", re.I)
 
 
 class Players:
@@ -106,7 +105,7 @@ def run(words, sources, subscribers, instants, burst):
         file.write(text)
         file.flush()
         process = subprocess.Popen([*words, "run", "--setup", file.name], stdin=subprocess.PIPE, stdout=subprocess.DEVNULL,
-                                   stderr=subprocess.DEVNULL)
+                                   stderr=subprocess.DEVNULL, env=instructions.ENVIRONMENT)
         players.meet()
         players.play(instants, burst)
         process.stdin.write(b"quit\n")
@@ -138,34 +137,16 @@ def calls_of_service(program, sources, subscribers, instants, burst):
     return counts[-1]
 
 
-def replay_without_text(program, options, instants):
-    """The instructions of a replay, and those of them that are not text."""
-    bench = os.path.dirname(os.path.abspath(__file__))
-    script = subprocess.run([sys.executable, f"{bench}/replay_scripts.py", str(instants), *options], stdout=subprocess.PIPE, check=True).stdout
-    with tempfile.TemporaryDirectory() as folder:
-        out = os.path.join(folder, "callgrind")
-        subprocess.run(["valgrind", "--tool=callgrind", f"--callgrind-out-file={out}", program, "replay"], input=script,
-                       stdout=subprocess.DEVNULL, stderr=subprocess.DEVNULL, check=True)
-        told = subprocess.run(["callgrind_annotate", "--threshold=100", out], stdout=subprocess.PIPE, text=True, check=True).stdout
-        text = 0
-        for line in told.splitlines():
-            found = re.match(r"\s*([\d,]+) \([^)]*\)\s+(.*)", line)
-            if found and TEXT.search(found.group(2)) and "PROGRAM TOTALS" not in line:
-                text += int(found.group(1).replace(",", ""))
-        return total_of(out), total_of(out) - text
-
-
 def load(name, program, sources, subscribers, options, burst, has_bound=True):
     few, many = 128, 384
     frames_in = (many - few) * len(sources)
     frames_out = (many - few) * sum(len(streams) for _, _, streams in subscribers)
     service_cost = (instructions_of_service(program, sources, subscribers, many, burst)
                     - instructions_of_service(program, sources, subscribers, few, burst)) / frames_in
-    lower, upper = replay_without_text(program, options, 100), replay_without_text(program, options, 200)
-    replay_cost = (upper[1] - lower[1]) / (100 * len(sources))
+    replay_cost = instructions.per_frame(program, options, len(sources))
     calls = (calls_of_service(program, sources, subscribers, many, burst)
              - calls_of_service(program, sources, subscribers, few, burst)) / (frames_in + frames_out)
-    service.tell(f"{name}: instructions an input frame; of a replay without its text", f"{service_cost:,.0f}; {replay_cost:,.0f}",
+    service.tell(f"{name}: instructions for each input frame; the core's in a replay", f"{service_cost:,.0f}; {replay_cost:,.0f}",
                  "at most 1.2 times", service_cost <= 1.2 * replay_cost)
     service.tell(f"{name}: system calls a frame that comes in or goes out", f"{calls:.3f}", "below 0.1" if has_bound else "none",
                  calls < 0.1 or not has_bound)

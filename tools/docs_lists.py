@@ -1,7 +1,8 @@
 #!/usr/bin/env python3
-"""Compares the lists of the pages with those of the program, taken from its sources: keys of a setup, lines of `run`, metrics,
-texts of the log, reasons; and looks at each link, command and path that the pages name. What is missing is printed, a line
-each; status 1 where something is. Run it anywhere: it finds the repository by its own place."""
+"""Compares the lists of the pages with those of the program, taken from its sources: keys of a setup, operator's commands, metrics,
+texts of the log, reasons, crates, the libraries that are trusted, pages of definitions, planted bugs; and looks at each link, command
+and path that the pages name. What is missing is printed, a line each; status 1 where something is. Run it anywhere: it finds the
+repository by its own place."""
 import glob
 import os
 import re
@@ -19,6 +20,16 @@ def text_of(path):
 
 def source(crate, file):
     return text_of(f"crates/{crate}/src/{file}.rt")
+
+
+def crates():
+    """The libraries of each crate, as crates.txt has them."""
+    listed = {}
+    for line in text_of("crates.txt").splitlines():
+        head, colon, libraries = line.partition("#")[0].partition(":")
+        if colon:
+            listed[head.split()[0]] = libraries.split()
+    return listed
 
 
 def between(text, start, end):
@@ -59,13 +70,13 @@ DEFINED = {"rate", "base", "wait", "window"}
 
 
 def keys():
-    rules = source("pg_setup", "kind")
+    rules = source("pg_operator", "kind")
     words = between(source("pdcgw", "help"), "A setup file is TOML", "A subscriber sends commands")
     for table, heading in TABLES.items():
         told = {cells[0].strip("| `"): cells for cells in rows(section("docs/SETUP.md", heading)) if "`" in cells[0]}
         rule = re.compile(r'(required|optional)!\("(\w+)", Kind::(\w+)(?:\(([\d_]+), ([\d_]+)\))?')
         listed = rule.findall(between(rules, f"const {table}:", "];"))
-        expect(listed, f"pg_setup kind.rt: no keys of {table} were found")
+        expect(listed, f"pg_operator kind.rt: no keys of {table} were found")
         for need, name, kind, least, most in listed:
             if kind == "Tables":
                 continue
@@ -86,18 +97,18 @@ def keys():
 
 
 def lines():
-    verbs = re.findall(r'"(\w+)" => Verb::', source("pg_operator", "verb"))
-    ways = re.findall(r'"(\w+)" => Way::', source("pg_operator", "steer"))
+    verbs = re.findall(r'"(\w+)" => Verb::', source("pg_lines", "verb"))
+    ways = re.findall(r'"(\w+)" => Way::', source("pg_lines", "steer"))
     own = re.findall(r'"(\w+)" => return Ok\(Asked::', source("pg_console", "console"))
-    table = rows(section("docs/OPERATING.md", "## Lines"))[1:]
+    table = rows(section("docs/OPERATING.md", "## Commands"))[1:]
     told = {span.split(" ")[0] for cells in table for span in spans(cells[0])}
     words = source("pdcgw", "help")
     for word in verbs + ways + own:
-        expect(word in told, f"docs/OPERATING.md, Lines: the line {word} is missing")
+        expect(word in told, f"docs/OPERATING.md, Commands: {word} is missing")
         expect(re.search(rf"\b{word}\b", words), f"`pdcgw run --help`: the line {word} is missing")
     expect(verbs and ways and own, "the words of lines were not found in the sources")
     for word in told - set(verbs + ways + own):
-        expect(False, f"docs/OPERATING.md, Lines: there is no line {word}")
+        expect(False, f"docs/OPERATING.md, Commands: there is no {word}")
 
 
 def metrics():
@@ -157,6 +168,84 @@ def reasons():
         for number, name in re.findall(r"\b(\d{1,2}) ([A-Z][a-z]+[A-Z]\w+)", text_of(page)):
             if name in listed.values():
                 expect(listed.get(int(number)) == name, f"{page}: {number} is not {name}")
+
+
+def below(of, listed):
+    """The crates that a crate stands on, and all that those stand on."""
+    found_below, waiting = set(), list(listed.get(of, ()))
+    while waiting:
+        it = waiting.pop()
+        if it not in found_below:
+            found_below.add(it)
+            waiting.extend(listed.get(it, ()))
+    return found_below
+
+
+def table_of_crates():
+    listed = crates()
+    page = section("docs/ARCHITECTURE.md", "## What each crate does")
+    told = {cells[0].strip("| "): set(re.findall(r"\bpg_\w+\b", cells[2])) for cells in rows(page)[1:]}
+    for name, libraries in listed.items():
+        if name.endswith("_tests"):
+            expect(re.search(rf"\b{name}\b", page), f"docs/ARCHITECTURE.md: the crate {name} is missing")
+            continue
+        expect(name in told, f"docs/ARCHITECTURE.md: the crate {name} is missing")
+        for other in sorted(set(libraries) & set(listed) - below(name, told)):
+            expect(False, f"docs/ARCHITECTURE.md: {name} stands on {other} too")
+        for other in sorted(told.get(name, set()) - below(name, listed)):
+            expect(False, f"docs/ARCHITECTURE.md: {name} does not stand on {other}")
+    for name in set(told) - set(listed):
+        expect(False, f"docs/ARCHITECTURE.md: there is no crate {name}")
+
+
+def trusted():
+    listed = crates()
+    ported = {it for libraries in listed.values() for it in libraries} - set(listed) | {"std"}
+    told = set(re.findall(r"`(\w+)`", section("docs/PROOFS.md", "## What is trusted"))) - {"rt"}
+    for name in ported - told:
+        expect(False, f"docs/PROOFS.md, what is trusted: {name} is missing")
+    for name in told - ported:
+        expect(False, f"docs/PROOFS.md, what is trusted: no crate stands on {name}")
+
+
+def definitions():
+    text = section("docs/PROOFS.md", "## A reading order for the headline")
+    table = between(text, "**2. The definitions**", "**3. The running service.**")
+    pages = [(crate, name) for cells in rows(table)[1:]
+             for crate, names in re.findall(r"(pg_\w+): ((?:`\w+`(?: \([^)]*\))?(?:, )?)+)", cells[1])
+             for name in re.findall(r"`(\w+)`", re.sub(r"\([^)]*\)", "", names))]
+    service = re.findall(r"(pg_\w+): ((?:`\w+`(?:, )?)+)", between(text, "**3. The running service.**", "Which source"))
+    both = pages + [(crate, name) for crate, names in service for name in re.findall(r"`(\w+)`", names)]
+    for crate, name in both:
+        expect(os.path.exists(f"{ROOT}/crates/{crate}/specs/{name}.antt"), f"docs/PROOFS.md: {crate} has no page {name}")
+    said = re.search(r"(\d+) pages of some ([\d,]+) lines", table)
+    expect(said and int(said[1]) == len(pages), f"docs/PROOFS.md: the reading order has {len(pages)} pages")
+    found_pages = [it for it in pages if os.path.exists(f"{ROOT}/crates/{it[0]}/specs/{it[1]}.antt")]
+    lines_of = sum(text_of(f"crates/{crate}/specs/{name}.antt").count("\n") for crate, name in found_pages)
+    expect(said and abs(int(said[2].replace(",", "")) - lines_of) <= 100, f"docs/PROOFS.md: the reading order has {lines_of} lines")
+
+
+def quoted():
+    """The contract that PROOFS.md quotes, beside its source."""
+    block = between(text_of("docs/PROOFS.md"), "Quoted:\n\n```\n", "```")
+    real = re.sub(r"\s+", "", source("pg_serve", "world") + text_of("crates/pg_serve/specs/Full.antt"))
+    for line in block.splitlines():
+        expect(re.sub(r"\s+", "", line) in real, f"docs/PROOFS.md: the contract has no {line.strip()!r}")
+
+
+def planted():
+    text = text_of("docs/PLANTED.md")
+    for part in re.split(r"\n## ", text)[1:]:
+        names = re.findall(r"\bpg_\w+", part.partition("\n")[0])
+        for cells in rows(part)[1:] if names else []:
+            for file in re.findall(r"`(\w+)`", cells[-1]):
+                there = [it for it in glob.glob(f"{ROOT}/crates/*/*/{file}.edit") if it.split("/")[-3] in names]
+                expect(there, f"docs/PLANTED.md, {' and '.join(names)}: there is no edit {file}")
+    for path in glob.glob(f"{ROOT}/crates/*/*/*.edit"):
+        name = os.path.basename(path).removesuffix(".edit")
+        rest = text.partition("<!-- files: begin -->")
+        expect(f"`{name}`" in rest[0], f"docs/PLANTED.md: no row has the edit {name} of {path.split('/')[-3]}")
+        expect(f"`{name}`" in rest[2], f"docs/PLANTED.md: run tools/planted_table.py, for {name}")
 
 
 def anchor(heading):
@@ -221,7 +310,7 @@ def commands():
 
 
 PAGES = [os.path.relpath(path, ROOT) for path in sorted(glob.glob(f"{ROOT}/*.md") + glob.glob(f"{ROOT}/docs/*.md"))]
-for look in (keys, lines, metrics, log, reasons, links, commands):
+for look in (keys, lines, metrics, log, reasons, table_of_crates, trusted, definitions, quoted, planted, links, commands):
     look()
 print("\n".join(found + [f"{looked} places looked at, {len(found)} wrong"]))
 sys.exit(1 if found else 0)

@@ -1,11 +1,12 @@
 #!/usr/bin/env python3
-"""Runs the gate, `rt ci`, and prints beside its answer what each crate took of it.
+"""Runs the gate by tools/gate.sh, as .ci/run does, and measures its time.
 
-Processor seconds are those of the checks and compilers that the gate started, read from the kernel while they run (twice a
-second, so that what lives shorter is missed); wall-clock seconds are from the first to the last moment at which a check of that
-kind was seen.
+    python3 tools/gate_times.py [FILE]      FILE gets the gate's output, else standard output does
 
-    python3 tools/gate_times.py [FILE]      FILE: where the gate's own output goes (else standard output, before the table)
+The last line on standard output has the totals: processors, wall-clock minutes, and processor minutes of proofs, tests and edits and in all.
+The table of each crate goes to out/gate_times.md at the top. Its processor seconds are those of the checks and compilers that the gate
+started. They are read from the kernel twice a second, so processes that live shorter are missed, and the sum of the kinds is less than the
+total, which is the kernel's own. The status is the gate's.
 """
 import os
 import subprocess
@@ -15,11 +16,12 @@ import time
 
 TICK = os.sysconf("SC_CLK_TCK")
 KINDS = ("proof", "tests", "edits")
+TABLE = "out/gate_times.md"
 seen = {}  # (process, its start) -> (crate, kind, processor seconds, first moment, last moment)
 
 
 def kind_of(words, folder):
-    """The crate and the kind of work of a process, or None where it is none of the gate's."""
+    """The crate and the kind of work of a process. None: it is not one of the gate."""
     if not words or "rattle" not in os.path.basename(words[0]):
         return None
     if "rt-edit-" not in folder and not folder.startswith(os.getcwd() + "/"):
@@ -53,15 +55,24 @@ def watch(ended, begun):
         look(time.monotonic() - begun)
 
 
+def seconds(kind, crate=None):
+    return sum(it[2] for it in seen.values() if it[1] == kind and crate in (None, it[0]))
+
+
 def table():
-    crates = sorted({crate for crate, *_ in seen.values()})
-    print("| Crate | " + " | ".join(KINDS) + " | in all | from .. to |")
-    print("|---|" + "---|" * (len(KINDS) + 2))
-    for crate in crates:
-        mine = [it for it in seen.values() if it[0] == crate]
-        sums = [sum(it[2] for it in mine if it[1] == kind) for kind in KINDS]
-        span = f"{min(it[3] for it in mine):.0f} .. {max(it[4] for it in mine):.0f}"
-        print(f"| {crate} | " + " | ".join(f"{it:.0f}" for it in sums) + f" | {sum(sums):.0f} | {span} |")
+    rows = ["| Crate | " + " | ".join(KINDS) + " | in all | from .. to |", "|---|" + "---|" * (len(KINDS) + 2)]
+    for crate in sorted({crate for crate, *_ in seen.values()}):
+        sums = [seconds(kind, crate) for kind in KINDS]
+        times = [time for it in seen.values() if it[0] == crate for time in it[3:]]
+        rows.append(f"| {crate} | " + " | ".join(f"{it:.0f}" for it in sums) + f" | {sum(sums):.0f} | {min(times):.0f} .. {max(times):.0f} |")
+    return rows
+
+
+def totals(wall_clock):
+    spent = os.times()
+    kinds = ", ".join(f"{kind} {seconds(kind) / 60:.1f}" for kind in KINDS)
+    return (f"{len(os.sched_getaffinity(0))} processors: wall clock {wall_clock / 60:.1f} minutes, "
+            f"processor minutes {kinds}, in all {(spent.children_user + spent.children_system) / 60:.1f}")
 
 
 def main():
@@ -69,13 +80,17 @@ def main():
     begun, ended = time.monotonic(), threading.Event()
     watcher = threading.Thread(target=watch, args=(ended, begun))
     watcher.start()
-    with open(sys.argv[1], "w") if len(sys.argv) > 1 else os.fdopen(os.dup(1), "w") as out:
-        gate = subprocess.run(["rt", "ci"], stdout=out, stderr=subprocess.STDOUT)
-    ended.set()
-    watcher.join()
-    spent = os.times()
-    table()
-    print(f"wall clock {(time.monotonic() - begun) / 60:.1f} minutes, processor {(spent.children_user + spent.children_system) / 60:.1f} minutes")
+    try:
+        with open(sys.argv[1], "w") if len(sys.argv) > 1 else os.fdopen(os.dup(1), "w") as out:
+            gate = subprocess.run(["sh", "tools/gate.sh"], stdout=out, stderr=subprocess.STDOUT)
+    finally:
+        ended.set()
+        watcher.join()
+    line = totals(time.monotonic() - begun)
+    os.makedirs(os.path.dirname(TABLE), exist_ok=True)
+    with open(TABLE, "w") as f:
+        print(line, "", "Processor seconds, and from when to when in wall-clock seconds:", "", *table(), sep="\n", file=f)
+    print(line)
     return gate.returncode
 
 

@@ -1,20 +1,17 @@
 #!/bin/sh
 # A newcomer's run: clones the repository into a temporary folder, does each command of the README there, in order, and prints a
-# table of their times. Without options nothing is proved: what proves is left out. With --prove `rt run` builds the program, with
-# --gate `rt ci` is run too. PROGRAM names a program to take for `pdcgw` instead, such as one that was built before. The README's
-# PMU at 10.0.0.1 is played by `pdcgw simulate` on 127.0.0.1, and /run/pdcgw is a temporary folder. A command that never ends by
-# itself is ended after 5 seconds. Ports: 4712, 4800 and 9100. Status 1 where a command failed.
+# table of their times. The gate is left out but with --gate. PROGRAM names a program to take for `pdcgw` instead of the one that
+# `sh try.sh` builds. The README's PMU at 10.0.0.1 is played by `pdcgw simulate` on 127.0.0.1, and /run/pdcgw is a temporary folder.
+# A command that never ends by itself is ended after 5 seconds. Ports: 4712, 4800 and 9100. Status 1 where a command failed.
 set -eu
 top=$(cd "$(dirname "$0")/.." && pwd)
-prove= gate=
+gate=
 for word in "$@"; do
     case $word in
-    --prove) prove=yes ;;
     --gate) gate=yes ;;
-    *) echo "usage: sh tools/newcomer.sh [--prove] [--gate]" >&2; exit 2 ;;
+    *) echo "usage: sh tools/newcomer.sh [--gate]" >&2; exit 2 ;;
     esac
 done
-program=${PROGRAM:-}
 scratch=$(mktemp -d)
 started=
 cleanup() {
@@ -26,7 +23,7 @@ failed=0
 git -c advice.detachedHead=false clone -q "$top" "$scratch/clone"
 clone=$scratch/clone
 readme=$clone/README.md
-[ -z "$prove" ] || program=$clone/crates/pdcgw/out/pdcgw
+program=${PROGRAM:-$clone/pdcgw}
 
 # The setup of the README, with the keys of its section Operate.
 {
@@ -61,16 +58,6 @@ placed() {
 
 # COMMAND: one of the program's.
 program_command() {
-    if [ -z "$program" ]; then
-        case $1 in
-        "pdcgw check "*)
-            cp "$scratch/setup.toml" "$clone/crates/pdcgw/"
-            timed "$1" "cd '$clone/crates/pdcgw' && rt try -- check --setup setup.toml" 0
-            rm "$clone/crates/pdcgw/setup.toml" ;;
-        *) row - - "$1" "left out: no program; --prove builds one" ;;
-        esac
-        return
-    fi
     case $1 in
     "pdcgw run "*)
         $(placed "$1") < /dev/null > "$scratch/run" 2>&1 &
@@ -82,26 +69,17 @@ program_command() {
     esac
 }
 
-if [ -n "$program" ] && [ -z "$prove" ]; then
-    "$program" simulate --source 7 > "$scratch/simulate" 2>&1 &
-    started="$started $!"
-    sleep 1
-fi
 # The blocks of code that name no language.
 awk '/^```/ { inside = !inside; if (inside) plain = ($0 == "```"); next } inside && plain && NF' "$readme" > "$scratch/commands"
 while read -r command <&3; do
     case $command in
-    "rt try "*) timed "$command" "cd '$clone/crates/pdcgw_demo' && $command" 0 ;;
-    "rt run "*)
-        if [ -n "$prove" ]; then
-            timed "$command" "cd '$clone/crates/pdcgw' && $command" 0
-            "$program" simulate --source 7 > "$scratch/simulate" 2>&1 &
-            started="$started $!"
-        else
-            row - - "$command" "left out: it proves; --prove does it"
-        fi ;;
-    "rt ci")
-        if [ -n "$gate" ]; then timed "$command" "cd '$clone' && rt ci" 0; else row - - "$command" "left out: --gate does it"; fi ;;
+    "sh try.sh")
+        if [ -z "${PROGRAM:-}" ]; then timed "$command" "cd '$clone' && $command < /dev/null" 0; fi
+        "$program" simulate --source 7 > "$scratch/simulate" 2>&1 &
+        started="$started $!"
+        sleep 1 ;;
+    "sh tools/gate.sh")
+        if [ -n "$gate" ]; then timed "$command" "cd '$clone' && $command" 0; else row - - "$command" "left out: --gate does it"; fi ;;
     "pdcgw "*) program_command "$command" ;;
     *) row - - "$command" "FAILED: no command that this script knows"; failed=$((failed + 1)) ;;
     esac

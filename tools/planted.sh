@@ -1,42 +1,65 @@
 #!/bin/sh
-# Tries the wrong bodies that lie in crates/NAME/planted: the prover has to refuse each. They are the must-fail edits that the
-# gate does not try each time. It works on a copy of the repository in which they lie in must-fail/, by `rt ci NAME..`: so what the
-# gate has proved on this machine is not proved again, and as many edits are tried at once as there are processors.
+# Tries the wrong bodies in crates/NAME/planted: the prover has to refuse each. The gate tries only the edits in must-fail/.
 #
 #   sh tools/planted.sh [CRATE..]     all crates that have such a folder, or these
 #
-# It prints each edit that was not refused, those that were refused by a missing name alone (weak evidence), and the counts.
-# Status 1 where an edit was not refused. KEEP=FILE keeps what the prover said.
+# It works on a copy of the repository, in which these edits lie in must-fail/. A kit whose `rt ci` takes names proves nothing again that the
+# gate has proved on this machine, and tries several edits side by side. An older kit has `rt must-fail`, which proves the crates below
+# first, where `rt check` or `rt lib` has not built them here.
+#
+# It prints each edit that was not refused, each that was refused only by a missing name (weak evidence), and last the total. The status is 1
+# where an edit was not refused or not tried. KEEP=FILE keeps the prover's output.
 set -eu
 cd "$(dirname "$0")/.."
+top=$PWD
 room=$(mktemp -d)
 trap 'rm -rf "$room"' EXIT
-said=${KEEP:-$room/said}
-: > "$said"
-said=$(cd "$(dirname "$said")" && pwd)/$(basename "$said")
+output=${KEEP:-$room/output}
+: > "$output"
+output=$(cd "$(dirname "$output")" && pwd)/$(basename "$output")
+
+names=${*:-$(ls -d crates/*/planted | sed 's|crates/||; s|/planted||')}
+for name in $names; do
+    [ -d "crates/$name/planted" ] || { echo "planted.sh: there is no folder crates/$name/planted" >&2; exit 2; }
+done
 
 mkdir "$room/copy"
-# (a file that was taken away, and not yet by a commit, is listed too)
+# (git lists a file that was removed and not yet committed too)
 git ls-files -z --cached --others --exclude-standard |
     xargs -0 sh -c 'for it; do [ ! -e "$it" ] || cp --parents "$it" "$0"; done' "$room/copy"
 cd "$room/copy"
-names=${*:-$(ls -d crates/*/planted | sed 's|crates/||; s|/planted||')}
 planted=0
 for name in $names; do
     rm -rf "crates/$name/must-fail"
     mv "crates/$name/planted" "crates/$name/must-fail"
-    planted=$((planted + $(ls "crates/$name/must-fail" | grep -c '\.edit$')))
+    planted=$((planted + $(find "crates/$name/must-fail" -name '*.edit' | wc -l)))
 done
-rt ci $names > "$said" 2>&1 || true
-# (a kit whose `rt ci` knows no names proves what an edit stands on by `rt must-fail`)
-grep -q ' passed, [0-9]* failed' "$said" || rt must-fail $names > "$said" 2>&1 || true
+
+RT_JOBS=$(python3 "$top/tools/jobs.py" 4)
+export RT_JOBS
+# shellcheck disable=SC2086 # the names are words
+rt ci $names > "$output" 2>&1 || true
+if ! grep -q '^[0-9]* passed, [0-9]* failed$' "$output"; then
+    # (rt takes a library that was built here where its sources are the same)
+    for rlib in "$top"/crates/*/out/rlib; do
+        [ ! -f "$rlib/stamp" ] || (crate=$(basename "${rlib%/out/rlib}") && mkdir -p "crates/$crate/out" && cp -R "$rlib" "crates/$crate/out/")
+    done
+    # shellcheck disable=SC2086
+    rt must-fail $names > "$output" 2>&1 || true
+fi
 
 tried=$room/tried
 for name in $names; do
-    grep -h "^rt: must-fail $name/" "$said" || true
+    grep -h "^rt: must-fail $name/[^ ]*\.edit: " "$output" || true
 done | sort -u > "$tried"
 grep -v ': refused, as it must be' "$tried" || true
 grep 'says little of the contract' "$tried" || true
+total=$(wc -l < "$tried")
 refused=$(grep -c ': refused, as it must be' "$tried" || true)
-echo "$refused refused, $((planted - refused)) not"
+weak=$(grep -c 'says little of the contract' "$tried" || true)
+if [ "$total" -lt "$planted" ]; then
+    echo "the end of the prover's output, as not all were tried:"
+    tail -n 20 "$output"
+fi
+echo "$planted planted: $refused refused ($weak by a missing name alone), $((total - refused)) not refused, $((planted - total)) not tried"
 [ "$refused" -eq "$planted" ]

@@ -1,25 +1,19 @@
 #!/usr/bin/env python3
 """Writes the worked rows into data/: for each NAME a script, NAME.script, and the answers that it has to print, NAME.answers.
 
-The answers are made here from the fields of the frames that C37.118.2 and the gateway's rules ask for, never by the program.
+The answers are made here from the fields of the frames that C37.118.2 and the gateway's rules ask for, never by the program; those of the
+long runs by the plain gateway beside this file.
 Checks of frames that were computed elsewhere are asserted.
 """
+import itertools
 import pathlib
+
+from plain_gateway import Gateway, check
 
 DATA = pathlib.Path(__file__).resolve().parent / "data"
 
 
 # Frames, in upper case hexadecimal.
-
-def check(octets):
-    """CHK: CRC-CCITT over these bytes."""
-    total = 0xFFFF
-    for octet in octets:
-        total ^= octet << 8
-        for _ in range(8):
-            total = (total << 1 ^ 0x1021) & 0xFFFF if total & 0x8000 else total << 1 & 0xFFFF
-    return total
-
 
 assert check(b"123456789") == 0x29B1
 
@@ -250,6 +244,10 @@ row("counts-and-flush-2", stream_102(2, 4), of_sub(1, command(102, 5), DONE),
     drain(1, 1000, 1, 0, reply(0x32, 102, [counted(BLOCK_7, 2), counted(BLOCK_8, 2)])),
     of_pmu(7, MEASURED_7, DONE), ("revoke 1 8", MADE), of_sub(1, command(102, 5), DONE),
     drain(1, 1000, 2, 0, reply(0x32, 102, [counted(BLOCK_7, 3)]) + FILLED_102))
+row("order-of-blocks", done("addpmu 8", "addpmu 7", "addsub 1 4", "define 1 101 30 1000000 0 4 none 8 7", "grant 1 8", "grant 1 7", "connect 1"),
+    of_pmu(8, CONFIG_8, DONE), of_pmu(7, CONFIG_7, DONE), of_sub(1, command(101, 4), DONE), of_sub(1, command(101, 5), DONE),
+    drain(1, 1000, 2, 0, reply(0x22, 101, [counted(BLOCK_7, 2), counted(BLOCK_8, 2)])
+          + reply(0x32, 101, [counted(BLOCK_8, 2), counted(BLOCK_7, 2)])))
 EMPTY_101 = reply(0x32, 101, [])
 assert EMPTY_101[-4:] == "DFE6"
 row("count-wrap-and-empty-config", done("addpmu 7", "addsub 1 4", "define 1 101 30 1000000 0 4 none 7", "connect 1"),
@@ -268,7 +266,8 @@ row("header-and-quality-2", stream_102(9, 4), of_pmu(7, measured(7, SLOTS[0], DA
 row("ring-of-one", stream_101("addsub 1 1"), STARTED, at_7(0, MADE), at_7(1, MADE), at_7(2, MADE), queue(1, [(2, out_101(2))]),
     drain(1, 1, 1, 2, "AA"), at_7(3, MADE), drain(1, 200, 1, 0, out_101(2)[2:] + out_101(3)))
 row("replies-before-data", stream_101(), STARTED, [of_sub(1, command(101, 5), DONE)] * 8,
-    of_sub(1, command(101, 5), "refused 12 ReplyFull"), at_7(0, MADE), drain(1, 1000, 9, 0, CONFIG_101 * 8 + DATA_101))
+    of_sub(1, command(101, 5), "refused 12 ReplyFull"), at_7(0, MADE), drain(1, 1000, 9, 0, CONFIG_101 * 8 + DATA_101),
+    stats(1, " 12:1", made=1, handed=618, replies=8))
 row("hang-up-clears", stream_101(), STARTED, at_7(0, MADE), at_7(1, MADE), drain(1, 1, 1, 0, "AA"), ("hangup 1", DONE),
     stats(1, made=2, cleared=2, handed=1), ("connect 1", DONE), drain(1, 99, 0, 0, ""), at_7(2, DONE),
     of_sub(1, command(101, 2), DONE), at_7(3, MADE))
@@ -306,6 +305,17 @@ row("limits-and-refusals-1", ("addsub 1 4", DONE), done(*(f"addpmu {pmu}" for pm
         "30 1000000 60001 4 none 7", "30 1000000 0 4 none 7 7")])
 row("limits-and-refusals-2", done(*(f"addpmu {pmu}" for pmu in range(1, 257))), ("addpmu 257", "refused 25 PmusFull"),
     done(*(f"addsub {subscriber} 1" for subscriber in range(1, 65))), ("addsub 65 1", "refused 28 SubsFull"))
+
+row("registry-and-grants",
+    ("# What a subscriber may have: its stream lists the PMU once it is granted and announced, and no longer once it is revoked; each change counts.",),
+    [("addpmu 7", DONE), of_pmu(7, CONFIG_7, DONE)], done("addsub 1 4", "define 1 101 30 1000000 0 4 48656C6C6F 7", "connect 1"),
+    of_sub(1, command(101, 5), DONE), drain(1, 400, 1, 0, EMPTY_101),
+    ("grant 1 7", DONE), of_sub(1, command(101, 5), DONE), drain(1, 400, 1, 0, CONFIG_101),
+    of_sub(1, command(101, 2), DONE), of_pmu(7, MEASURED_7, MADE), drain(1, 400, 1, 0, DATA_101),
+    ("revoke 1 7", DONE), of_sub(1, command(101, 5), DONE), drain(1, 400, 1, 0, EMPTY_101), of_pmu(7, MEASURED_7, DONE),
+    ("grant 1 7", DONE), of_sub(1, command(101, 5), DONE), drain(1, 400, 1, 0, reply(0x32, 101, [counted(BLOCK_7, 3)])),
+    ("# A PMU that was dropped and added again has announced nothing.",),
+    done("droppmu 7", "addpmu 7"), of_pmu(7, MEASURED_7, "ignored 18 NoConfig"), ("pmustats 7", "pmustats taken 0"))
 
 
 def phasors(number):
@@ -347,7 +357,10 @@ row("link-refusals-and-triggers-2", ("addpmu 7", DONE), ("linkup 7", "send " + a
     of_pmu(7, LONG, "ignored 8 BadLength", "send " + asked(7, 5)), of_pmu(7, LONG, "ignored 8 BadLength"),
     of_pmu(7, CONFIG_7, DONE),
     of_pmu(7, measured(7, SLOTS[0], "0400" + DATA_7[4:]), DONE),
-    of_pmu(7, MEASURED_7, DONE, "send " + asked(7, 5)))
+    of_pmu(7, MEASURED_7, DONE, "send " + asked(7, 5)), ("linkstats 7", "linkstats taken 4 7:1 8:3 14:1 38:1"))
+row("link-breaks-and-resets", ("addpmu 7", DONE), ("linkup 7", "send " + asked(7, 5)),
+    ("pmu 7 " + CONFIG_7 + "0000AB", "ignored 5 BadCheck", "closed 2 BadFirst"), of_pmu(7, MEASURED_7, "closed 2 BadFirst"),
+    ("linkup 7", "send " + asked(7, 5)), of_pmu(7, CONFIG_7, DONE, "send " + asked(7, 2)), ("linkstats 7", "linkstats taken 1 5:1"))
 
 CONFIG_9 = configuration(0x32, 9, 100, 0, [BLOCK_7, BLOCK_8, BLOCK_11])
 MEASURED_9 = measured(9, SLOTS[0], DATA_7 + DATA_8 + DATA_11)
@@ -363,6 +376,12 @@ row("shared-frame-3", SHARED, ("grant 1 9/11", DONE), ("define 1 103 30 1000000 
     of_sub(1, command(101, 1), DONE), of_sub(1, command(103, 2), DONE), of_pmu(9, MEASURED_9, "done 2 2"),
     queue(1, [(0, sent(103, SLOTS[0], [DATA_7, DATA_11]))]),
     of_pmu(9, configuration(0x32, 9, 100, 0, [BLOCK_7, BLOCK_8, BLOCK_7]), "ignored 16 DuplicatePmu"))
+# A window of one: all blocks of a frame arrive before a slot leaves, so the frame opens a second slot.
+row("frame-opens-one-slot-more", done("addpmu 7", "addpmu 9/7", "addpmu 9/11", "addsub 1 4", "grant 1 7", "grant 1 9/7", "grant 1 9/11",
+                                      "define 1 102 30 1000000 9 1 none 7 9/7 9/11", "connect 1"),
+    of_pmu(7, CONFIG_7, DONE), of_pmu(9, CONFIG_9, DONE), of_sub(1, command(102, 2), DONE),
+    of_pmu(7, measured(7, 16_666, DATA_7), DONE), of_pmu(9, MEASURED_9, MADE), of_pmu(7, MEASURED_7, MADE),
+    queue(1, [(0, sent(102, 0, [DATA_7, FILLER_7, FILLER_7])), (0, sent(102, SLOTS[0], [DATA_7, DATA_7, DATA_11]))]))
 assert len(sent(103, SLOTS[0], [DATA_7, DATA_11])) == 2 * 36
 
 # Hostile bytes: prefixes of frames, frames with one byte changed, and sizes and bytes that promise too much.
@@ -396,6 +415,7 @@ row("hostile-bytes", two_subscribers(), path(2, 8, CONFIG_8, MEASURED_8),
         (f"sub 1 {octets}", *([noted] if noted else []), *([DONE] if noted and noted.startswith("closed") else [])),
         *([] if noted and noted.startswith("closed") else [("hangup 1", DONE)]))],
     ("linkstats 8", "linkstats taken 2"), ("sessionstats 2", "sessionstats taken 2"), ("pmustats 8", "pmustats taken 1"),
+    stats(2, made=1, replies=1),
     ("queue 2", "rest -", "reply " + reply(0x32, 101, [counted(BLOCK_8, 1)]), "frame 0 " + DATA_101_OF_8, "pending 0"),
     drain(2, 400, 2, 0, reply(0x32, 101, [counted(BLOCK_8, 1)]) + DATA_101_OF_8),
     ("linkup 7", "send " + asked(7, 5)), ("connect 1", DONE), of_pmu(7, CONFIG_7, DONE, "send " + asked(7, 2)),
@@ -435,6 +455,118 @@ row("forms-of-lines",
 row("lines-of-bytes",
     [("# \udcff",), ("addpmu 7 \udcff", BAD), ("addpmu\0 7", BAD), ("addpmu 7\r\r", BAD), ("addpmu 7\r", DONE)])
 row("last-line", [("addpmu 7", DONE), ("addpmu 8\r", BAD)])
+
+# A long run: 10,000 inputs of every kind, 32 PMUs of which sixteen share a source, three subscribers with streams of 1, 7 and 32 members
+# and wait 0, 2 and 5. What a subscriber is handed is what it is handed in the run without the inputs that name another one.
+
+INPUTS = 10_000
+SHARED, OWN = range(1, 17), range(17, 33)
+KEYS = [f"1/{pmu}" for pmu in SHARED] + [str(pmu) for pmu in OWN]
+
+
+def described(key):
+    """The line by which a PMU's source announces."""
+    source, _, pmu = key.rpartition("/")
+    pmus = SHARED if source else [int(pmu)]
+    source = int(source or pmu)
+    return f"pmu {source} {configuration(0x32, source, 100, 0, [configuration_block(f'PMU {it}', it) for it in pmus])}+"
+
+
+def reported(source, slot, status=0):
+    """A data frame of a source in this slot."""
+    soc, numerator = stamp(slot)
+    pmus = SHARED if source == 1 else [source]
+    return f"pmu {source} " + measured(source, numerator, "".join(f"{status:04X}{slot:04X}{pmu:04X}" for pmu in pmus), soc=soc) + "+"
+
+
+def defined(subscriber, place):
+    members, wait, header = [(KEYS[-subscriber:][:1], 0, "none"), (KEYS[12:19], 2, "48656C6C6F"), (KEYS, 5, "none")][place]
+    return f"define {subscriber} {101 + place} 30 1000000 {wait} 4 {header} {' '.join(members)}"
+
+
+def first_lines():
+    yield from (f"addpmu {key}" for key in KEYS)
+    yield from (f"linkup {source}" for source in (1, *OWN))
+    yield from (described(key) for key in KEYS[15:])
+    for subscriber in (1, 2, 3):
+        yield f"addsub {subscriber} 8 1000"
+        yield from (f"grant {subscriber} {key}" for key in KEYS)
+        yield from (defined(subscriber, place) for place in range(3))
+        yield f"connect {subscriber}"
+        yield from (of_sub(subscriber, command(stream, 2))[0] for stream in (101, 102, 103))
+
+
+def rare_lines(turn):
+    """What disturbs, and is mended some lines later."""
+    subscriber, key = turn % 3 + 1, KEYS[turn * 5 % 32]
+    source = key.partition("/")[0]
+    return [
+        f"hangup {subscriber}", f"connect {subscriber}",
+        f"revoke {subscriber} {key}", f"grant {subscriber} {key}",
+        f"droppmu {key}", f"addpmu {key}", described(key), *(f"grant {it} {key}" for it in (1, 2, 3)),
+        f"pmu {source} 00", f"linkup {source}", described(key),
+        f"remove {subscriber} 102", defined(subscriber, 1), defined(subscriber, 1),
+        f"sub {subscriber} AA4200120065000000640000000000050000", f"sub {subscriber} AB", f"connect {subscriber}",
+        *(of_sub(subscriber, command(stream, 2))[0] for stream in (101, 102, 103)),
+        f"linkstats {source}", f"sessionstats {subscriber}", f"pmustats {key}", f"queue {subscriber}", f"audit {subscriber} {turn % 64}",
+        reported(OWN[turn % 16], 3000), f"pmu {OWN[turn % 16]} AA02", f"linkup {OWN[turn % 16]}", described(KEYS[16 + turn % 16]),
+        f"pmu {OWN[turn % 16]} {frame(0x02, OWN[turn % 16], 100, 0, '00')}+",
+        f"tick {200 + turn}",
+        *([f"dropsub {subscriber}", f"addsub {subscriber} 4", f"connect {subscriber}", *(f"grant {subscriber} {it}" for it in KEYS),
+           *(defined(subscriber, place) for place in range(3)), of_sub(subscriber, command(103, 2))[0]] if turn == 3 else []),
+    ]
+
+
+def disturbances():
+    for turn in range(100):
+        yield from rare_lines(turn)
+
+
+def inputs():
+    """So many inputs by a fixed formula: first those by which all begins, then rounds of twenty."""
+    yield from first_lines()
+    rare = disturbances()
+    for turn in range(INPUTS):
+        slot, subscriber = 3001 + turn, turn % 3 + 1
+        for _ in range((turn % 2 == 0) + (turn % 10 == 0)):
+            yield reported(1, slot)
+        for place in range(8):
+            source = OWN[(turn * 8 + place) % 16]
+            yield reported(source, slot - place % 2, status=0x0400 if turn % 50 == place else 0)
+        yield f"tick {slot // 30}"
+        for it in (1, 2, 3):
+            yield f"drain {it} {turn * 7 % 150}"
+        yield of_sub(subscriber, command(101 + turn // 3 % 3, 2))[0]
+        yield of_sub(subscriber, command(101 + turn // 3 % 4, 3 + turn // 9 % 3))[0]
+        yield f"stats {subscriber}"
+        if turn % 20 == 0:
+            yield of_sub(subscriber, command(101 + turn // 20 % 2, 1))[0]
+        for _ in range(4):
+            yield next(rare)
+
+
+NAMED = {"sub", "connect", "hangup", "drain", "addsub", "dropsub", "grant", "revoke", "define", "remove", "stats", "audit", "queue",
+         "sessionstats"}
+
+
+def named(line):
+    """The subscriber that an input names."""
+    word, name, *_ = line.split()
+    return name if word in NAMED else None
+
+
+def answered(lines):
+    gateway = Gateway()
+    return [(line, *gateway.answers(line)) for line in lines]
+
+
+AMPLE = answered(itertools.islice(inputs(), INPUTS))
+row("ample-run", AMPLE)
+for subscriber in "123":
+    alone = answered(line for line, *_ in AMPLE if named(line) in (None, subscriber))
+    row(f"ample-run-of-{subscriber}", alone)
+    assert [it for it in AMPLE if named(it[0]) == subscriber] == [it for it in alone if named(it[0]) == subscriber]
+assert not any("NoMemory" in answer or answer.startswith("done") and len(set(answer.split()[1:])) > 1 for _, *answers in AMPLE for answer in answers)
 
 for name, pairs in ROWS.items():
     script = "".join(line + "\n" for line, *_ in pairs)

@@ -112,7 +112,8 @@ A setup file is TOML:
     silence                after so many seconds without an event its source is called again: 1 to 3600, or 0 for never;
                            10 where not given
     clock_ms               a measurement of its source that is further from this machine's clock is refused: 1 to 30000
-                           milliseconds; no such guard where not given. PMUs of one source that give it, or `silence`, agree
+                           milliseconds; where not given, one that is further than 30 seconds. PMUs of one source that give
+                           it, or `silence`, agree
   [[subscriber]]           a subscriber
     id                     its number: 1 to 65535
     port                   where it connects, 1 to 65535; nowhere where not given

@@ -1,9 +1,9 @@
 //! Setup files, checked for a person.
 
 use pg_check::{Trouble, check_setup};
+use pg_operator::{BoundBy, line_of_key};
 use pg_run::Failure;
 use pg_service::system_words;
-use pg_setup::{BoundBy, line_of_key};
 use pg_wire::Refusal;
 use pg_words::{Bound, not_bound, not_read};
 use std::alloc::{AllocError, Global};

@@ -1,6 +1,7 @@
 //! The program `pdcgw_rows`: replays the worked rows.
 //!
-//! A row is a script, `NAME.script`, and the lines that it has to print, `NAME.answers`. Both lie where the program runs.
+//! A row is a script, `NAME.script`, and the lines that it has to print, `NAME.answers`. Both lie where the program runs, or in the folder
+//! `data` there, as under `rt run` and `rt try -- data/*`.
 #![tactic(auto)]
 
 use pg_replay::{Fault, replay};
@@ -10,9 +11,10 @@ use std::rt::Files;
 use std::{fs, io};
 
 /// The rows.
-const ROWS: [&str; 37] = [
+const ROWS: [&str; 45] = [
     "first-path",
     "two-subscribers",
+    "registry-and-grants",
     "stored-run",
     "neighbours-change-nothing",
     "time-end",
@@ -21,6 +23,7 @@ const ROWS: [&str; 37] = [
     "wait-and-window-2",
     "counts-and-flush-1",
     "counts-and-flush-2",
+    "order-of-blocks",
     "count-wrap-and-empty-config",
     "header-and-quality-1",
     "header-and-quality-2",
@@ -41,13 +44,19 @@ const ROWS: [&str; 37] = [
     "counters-of-a-pmu",
     "link-refusals-and-triggers-1",
     "link-refusals-and-triggers-2",
+    "link-breaks-and-resets",
     "shared-frame-1",
     "shared-frame-2",
     "shared-frame-3",
+    "frame-opens-one-slot-more",
     "hostile-bytes",
     "forms-of-lines",
     "lines-of-bytes",
     "last-line",
+    "ample-run",
+    "ample-run-of-1",
+    "ample-run-of-2",
+    "ample-run-of-3",
 ];
 
 /// What a row comes to.
@@ -77,11 +86,21 @@ fn first_difference(one: &[u8], other: &[u8]) -> Option<usize> {
     Some(line)
 }
 
+/// The folder of the rows, with its slash. None: they are not here.
+fn folder_of_rows<R: Files + Alloc<A = Global>>(rt: &R) -> io::Result<Option<&'static str>> {
+    for folder in ["", "data/"] {
+        if fs::exists(rt, format!(in rt.alloc(); "{folder}{}.script", ROWS[0])?)? {
+            return Ok(Some(folder));
+        }
+    }
+    Ok(None)
+}
+
 /// Replays a row.
-fn replayed<R: Files + Alloc<A = Global>>(rt: &R, row: &str) -> io::Result<Outcome> {
+fn replayed<R: Files + Alloc<A = Global>>(rt: &R, folder: &str, row: &str) -> io::Result<Outcome> {
     let alloc = rt.alloc();
-    let script = fs::read(rt, format!(in alloc; "{row}.script")?)?;
-    let answers = fs::read(rt, format!(in alloc; "{row}.answers")?)?;
+    let script = fs::read(rt, format!(in alloc; "{folder}{row}.script")?)?;
+    let answers = fs::read(rt, format!(in alloc; "{folder}{row}.answers")?)?;
     let mut printed = Vec::new(alloc);
     if let Err(fault) = replay(alloc, script.as_slice(), &mut printed) {
         return Ok(Outcome::Ended(fault));
@@ -93,8 +112,12 @@ fn replayed<R: Files + Alloc<A = Global>>(rt: &R, row: &str) -> io::Result<Outco
 }
 
 /// Prints what a row comes to. False: it is not as written.
-fn print_row<R: Files + Print + Alloc<A = Global>>(rt: &R, row: &str) -> io::Result<bool> {
-    match replayed(rt, row)? {
+fn print_row<R: Files + Print + Alloc<A = Global>>(
+    rt: &R,
+    folder: &str,
+    row: &str,
+) -> io::Result<bool> {
+    match replayed(rt, folder, row)? {
         Outcome::AsWritten => {
             println!(rt; "{row}: as written")?;
             Ok(true)
@@ -110,16 +133,29 @@ fn print_row<R: Files + Print + Alloc<A = Global>>(rt: &R, row: &str) -> io::Res
     }
 }
 
-fn print_rows<R: Files + Print + Alloc<A = Global>>(rt: &R) -> io::Result<bool> {
+fn print_rows<R: Files + Print + Alloc<A = Global>>(rt: &R, folder: &str) -> io::Result<bool> {
     let mut all = true;
     for row in ROWS {
-        all &= print_row(rt, row)?;
+        all &= print_row(rt, folder, row)?;
     }
     Ok(all)
 }
 
+/// Finds the rows and prints what each comes to. False: one is not as written, or they are not here.
+fn run<R: Files + Print + Eprint + Alloc<A = Global>>(rt: &R) -> io::Result<bool> {
+    match folder_of_rows(rt)? {
+        Some(folder) => print_rows(rt, folder),
+        None => {
+            eprintln!(rt;
+                "pdcgw_rows: the rows are not here: run `rt try -- data/*` in crates/pdcgw_rows, or `sh tools/quick.sh` at the top"
+            )?;
+            Ok(false)
+        }
+    }
+}
+
 fn main(rt: HostRuntime) -> ExitCode {
-    match print_rows(&rt) {
+    match run(&rt) {
         Ok(true) => ExitCode::SUCCESS,
         Ok(false) => ExitCode::from(1),
         Err(error) => {

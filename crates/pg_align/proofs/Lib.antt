@@ -6,5 +6,4 @@ pub mod Arriving
 pub mod Numbers
 pub mod Histories
 pub mod Leaving
-pub mod Slow
 pub mod Rising

@@ -15,8 +15,3 @@ pub use laws::{
     all_flushed_in_steps, all_leaving_in_steps, few_stay_open, flushing_shows_history,
     leaving_repeats, leaving_shows_history, slots_rise,
 };
-
-#[cfg(test)]
-mod plain;
-#[cfg(test)]
-mod tests;

@@ -2,13 +2,15 @@
 
 use crate::report::{edit_name, reason, report_of};
 use pg_gateway::{Edit, Gate, Gateway, Reply};
-use pg_serve::event_of;
-use pg_setup::{read_setup, setup_faults};
+use pg_operator::{read_setup, setup_faults};
+use pg_shared::event_of;
 use pg_wire::Refusal;
 use std::alloc::Global;
+use thiserror::Error;
 
 /// Why a setup can't run.
-#[derive(Debug, Drop)]
+#[derive(Debug, Drop, Error)]
+#[error("{told}")]
 pub struct Trouble {
     /// The refusal that the program ends with.
     pub refusal: Refusal,
@@ -77,7 +79,11 @@ fn try_edits(alloc: Global, file: &str, edits: Vec<Edit>) -> Result<Option<Troub
         let reply = gateway.post(event_of(edit));
         if let Reply::Refused(refusal) = reply {
             let why = reason(refusal);
-            let line = format!(in alloc; "{file}: {}: refused {refusal}: {why}\n", name.as_str())?;
+            let line = format!(in alloc;
+                "{file}: {}: refused {}: {why}\n",
+                name.as_str(),
+                refusal.name()
+            )?;
             told.push_str(line.as_str())?;
             first = first.or(Some(refusal));
         }

@@ -1,7 +1,7 @@
 //! The words of a report.
 
 use pg_gateway::Edit;
-use pg_setup::{PortRules, Setup, SourceRules};
+use pg_operator::{PortRules, Setup, SourceRules};
 use pg_stream::Definition;
 use pg_wire::{PmuId, PmuKey, Refusal, SubId};
 use std::alloc::{AllocError, Global};

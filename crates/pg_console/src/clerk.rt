@@ -3,8 +3,8 @@
 use crate::console::{Console, Steering, answer_lines};
 use crate::seeing::seen_by;
 use crate::told::Told;
-use pg_serve::{Named, SharedGate};
 use pg_service::Watched;
+use pg_shared::{Named, SharedGate};
 use pg_status::{Answer, Histogram, Snapshot};
 use pg_window::Clerk;
 use std::alloc::{AllocError, Global};

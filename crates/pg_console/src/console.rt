@@ -1,16 +1,18 @@
 //! The console, where an operator's lines are answered.
 
 ghost use Rattle.std.specs.Prelude.{◌≡◌, IfOk, IfSome, IfNone, Some};
-ghost use Rattle.pg_serve.specs.Inputs.{edited, names};
+ghost use Rattle.pg_shared.specs.Edits.{edited};
+ghost use Rattle.pg_serve.specs.Inputs.{names};
 ghost use Rattle.pg_replay.specs.Lines.{asked_in, hands, nothing};
 
 use crate::seeing::seen_by;
 use crate::told::Told;
 use pg_gateway::{Edit, Gate, Reply};
-use pg_operator::{Steer, parse_steer};
+use pg_lines::{Steer, parse_steer};
 use pg_replay::{Fault, Line, NotPrinted, print_refusal, print_reply, read_line, without_end};
-use pg_serve::{Input as Handed, event_of};
+use pg_serve::Input as Handed;
 use pg_service::{Change, Notice, Watched};
+use pg_shared::event_of;
 use pg_status::print_status;
 use pg_wire::{PmuId, Refusal};
 use std::alloc::Global;

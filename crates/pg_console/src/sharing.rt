@@ -3,14 +3,14 @@
 ghost use Rattle.std.specs.Prelude.{◌≡◌, List, length, map, Option, Some, [], IfOk, IfErr, IfSome, vec_len};
 ghost use Rattle.atomic_table.specs.Seated.{TableId};
 ghost use Rattle.pg_ingest.specs.Runs.{event_posted};
-ghost use Rattle.pg_serve.specs.Gates.{said_at};
-ghost use Rattle.pg_serve.specs.Inputs.{edited};
+ghost use Rattle.pg_shared.specs.Gates.{said_at};
+ghost use Rattle.pg_shared.specs.Edits.{edited};
 ghost use Rattle.pg_service.specs.Setting.{PostsEdits};
 ghost use Rattle.pg_console.specs.Joining.{Place, Joins};
 
 use pg_gateway::{Edit, Gateway};
-use pg_serve::{Named, Seat, Shared, SharedGate, Work, run_workers};
 use pg_service::{Registered, post_edits};
+use pg_shared::{Named, Seat, Shared, SharedGate, Work, run_workers};
 use pg_wire::Refusal;
 use std::alloc::Global;
 use std::marker::Brand;

@@ -4,7 +4,7 @@ ghost use Rattle.std.specs.Prelude.{◌≡◌};
 use crate::asserts::same;
 use pg_console::{Seated, SetUp, serve_by, set_up};
 use pg_gateway::{Edit, Event, Gate, Gateway, Reply};
-use pg_serve::{Named, Seat, Shared, SharedGate, Work};
+use pg_shared::{Named, Seat, Shared, SharedGate, Work};
 use pg_wire::{PmuId, PmuKey, Refusal};
 use std::alloc::Global;
 use std::marker::Brand;

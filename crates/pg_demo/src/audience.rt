@@ -5,7 +5,7 @@ use crate::keyboard::Keyboard;
 use crate::stage::Stage;
 use pg_data::DataFrame;
 use pg_demo_core::Verdict;
-use pg_serve::{Named, Work};
+use pg_shared::{Named, Work};
 use pg_tools::{Audience, Stamp, Style, Watched, Watcher, watch_before};
 use pg_wire::PmuId;
 use std::alloc::{AllocError, Global};

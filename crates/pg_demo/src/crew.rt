@@ -13,11 +13,11 @@ use mio::net::TcpListener as PortListener;
 use pg_console::{Console, Counter, EditsAlone, Told};
 use pg_demo_core::{Course, SOURCES, demo_settings};
 use pg_limits::Allow;
-use pg_serve::{Named, Seat, Shared, SharedGate, Work};
 use pg_service::{
     Address, Dial, DoorRules, Mailbox, Neighbours, Port, PortOrder, PortWorker, SourceOrder,
     SourceWorker, Ticker, Waiting,
 };
+use pg_shared::{Named, Seat, Shared, SharedGate, Work};
 use pg_tools::{Simulator, Style};
 use pg_window::Window;
 use pg_wire::Refusal;

@@ -2,40 +2,18 @@
 
 use pg_wire::Refusal;
 use std::alloc::{AllocError, AllocFailed};
-use std::{fmt, io};
+use std::io;
+use thiserror::Error;
 
 /// What ends a demo before its time.
-#[derive(Debug, Drop)]
+#[derive(Debug, Drop, Error)]
 pub enum Fault {
     /// The gateway refuses what it is to serve, or there is no memory.
-    Refused(Refusal),
+    #[error("{} {}", .0.number(), .0.name())]
+    Refused(#[from] Refusal),
     /// A simulated source, or a subscriber, has ended by this.
-    Tool(pg_tools::Fault),
-}
-
-impl fmt::Display for Fault {
-    fn fmt<W: fmt::Write>(&self, f: &mut fmt::Formatter<W>) -> fmt::Result {
-        match self {
-            Fault::Refused(refusal) => {
-                let number = refusal.number();
-                let name = refusal.name();
-                write!(f, "{number} {name}")
-            }
-            Fault::Tool(fault) => write!(f, "{fault}"),
-        }
-    }
-}
-
-impl From<Refusal> for Fault {
-    fn from(refusal: Refusal) -> Fault {
-        Fault::Refused(refusal)
-    }
-}
-
-impl From<pg_tools::Fault> for Fault {
-    fn from(fault: pg_tools::Fault) -> Fault {
-        Fault::Tool(fault)
-    }
+    #[error(transparent)]
+    Tool(#[from] pg_tools::Fault),
 }
 
 impl From<io::Error> for Fault {

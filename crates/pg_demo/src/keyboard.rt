@@ -3,8 +3,8 @@
 use mio::unix::SourceFd;
 use mio::{Events, Interest, Poll, Token};
 use pg_console::{Console, EditsAlone, answer_lines};
-use pg_serve::{Named, SharedGate};
 use pg_service::Watched;
+use pg_shared::{Named, SharedGate};
 use std::alloc::{AllocError, Global};
 use std::io;
 use std::io::{BufRead, StdinLock};

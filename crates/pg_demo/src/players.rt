@@ -4,7 +4,7 @@ use crate::fault::Fault;
 use crate::setting::{FIRST_STREAM, SECOND_STREAM};
 use crate::stage::Stage;
 use pg_demo_core::{Course, Facts, Phase, frame_len};
-use pg_serve::Work;
+use pg_shared::Work;
 use pg_tools::{Happening, Moment, Simulator};
 use std::alloc::Global;
 use std::io::ErrorKind;

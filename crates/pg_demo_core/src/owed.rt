@@ -5,7 +5,7 @@ ghost use Rattle.pg_demo_core.specs.Owing.{ShowsOwed, Step, Whole, IsFirst, told
 
 use pg_tools::Stamp;
 use std::alloc::{AllocError, Global};
-use std::fmt;
+use thiserror::Error;
 
 /// A data frame of a stream, as it has to come: its stamp, and the blocks of its members as their sources sent them.
 #[derive(Debug, Drop)]
@@ -17,32 +17,20 @@ pub struct Frame {
 }
 
 /// What is wrong with a data frame that came.
-#[derive(Clone, Copy, Debug, PartialEq, Eq)]
+#[derive(Clone, Copy, Debug, PartialEq, Eq, Error)]
 pub enum Wrong {
     /// It is right, but this one, which was sent before it, has not come.
+    #[error("the frame {0} did not come")]
     Missing(Stamp),
     /// Its blocks are not those that were sent.
+    #[error("the frame {0} has other bytes than were sent")]
     Changed(Stamp),
     /// One of its blocks is a filler (STAT 0x8000), though the source sent that block.
+    #[error("the frame {0} has a filler in place of a block that was sent")]
     Filler(Stamp),
     /// No frame of this stamp was sent, or it has come already.
+    #[error("the frame {0} came twice, or was not sent")]
     Unsent(Stamp),
-}
-
-impl fmt::Display for Wrong {
-    fn fmt<W: fmt::Write>(&self, f: &mut fmt::Formatter<W>) -> fmt::Result {
-        match self {
-            Wrong::Missing(stamp) => write!(f, "the frame {stamp} did not come"),
-            Wrong::Changed(stamp) => write!(f, "the frame {stamp} has other bytes than were sent"),
-            Wrong::Filler(stamp) => {
-                write!(
-                    f,
-                    "the frame {stamp} has a filler in place of a block that was sent"
-                )
-            }
-            Wrong::Unsent(stamp) => write!(f, "the frame {stamp} came twice, or was not sent"),
-        }
-    }
 }
 
 /// What a subscriber is owed of one stream (own rule).

@@ -1,4 +1,4 @@
-//! Tests of pg_demo_core, as its callers see it. They stand in a crate of their own, so that the gate proves that crate
+//! Tests of pg_demo_core, and of the errors of pg_demo, as their callers see them. They stand in a crate of their own, so that the gate proves that crate
 //! once.
 #![tactic(auto)]
 
@@ -6,6 +6,8 @@
 mod asserts;
 #[cfg(test)]
 mod courses;
+#[cfg(test)]
+mod errors;
 #[cfg(test)]
 mod owing;
 #[cfg(test)]

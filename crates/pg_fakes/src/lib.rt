@@ -1,9 +1,12 @@
 //! A reader and a writer over memory, for tests: they tell their bytes, and can fail or block at one call. A gate that keeps what it
-//! was posted. And a hand that takes all memory.
+//! was posted, edits as text, and a hand that takes all memory.
 #![tactic(auto)]
 
 ghost use Rattle.std.specs.Prelude.{◌≡◌, ◌≤◌, length, drop, Some};
 
+mod lines;
+
+pub use crate::lines::edit_line;
 use pg_gateway::{Event, Gate, Reply};
 use pg_ring::Drained;
 use std::alloc::Global;

@@ -1,37 +1,46 @@
 use crate::asserts::same;
 use pg_command::*;
-use pg_wire::{PmuId, Refusal, check_bytewise, is_frame};
+use pg_wire::{PmuId, is_frame};
+use std::alloc::{AllocError, Global};
 use std::test::*;
 
-/// The start of a command frame of 18 bytes for stream 101 at SOC 100.
-const START: [u8; 14] = [
-    0xAA, 0x42, 0x00, 0x12, 0x00, 0x65, 0x00, 0x00, 0x00, 0x64, 0x00, 0x00, 0x00, 0x00,
-];
+/// Row breaks-and-sizes, and each word: a name, a frame with its CHK, and the stream, the word and the number of the word that is known
+/// by it, or the refusal.
+const ROWS: &str = "\
+word 1|aa4200120065000000640000000000018b7d|101 1 1\n\
+word 2|aa420012006500000064000000000002bb1e|101 2 2\n\
+word 3|aa420012006500000064000000000003ab3f|101 3 3\n\
+word 4|aa420012006500000064000000000004dbd8|101 4 4\n\
+word 5|aa420012006500000064000000000005cbf9|101 5 5\n\
+word 6|aa420012006500000064000000000006fb9a|101 6 6\n\
+no word|aa42001000650000006400000000e46a|BadLength\n\
+longer|aa4200140065000000640000000000020000e763|BadLength\n\
+extended|aa420014006500000064000000000008000020a2|101 8 8\n\
+no command|aa02001a00070000006400008235000010002000000000007fa7|WrongType";
+
+fn shown(alloc: Global, command: Command) -> Result<String, AllocError> {
+    let (stream, word) = (command.stream, command.word);
+    let known = match Word::of(word) {
+        Some(known) => known.number(),
+        None => 0,
+    };
+    format!(in alloc; "{stream} {word} {known}")
+}
 
 #[test]
 fn commands_read(rt: HostRuntime) {
-    let table = [
-        (1u16, [0x8B, 0x7D], Word::StopData),
-        (2, [0xBB, 0x1E], Word::StartData),
-        (3, [0xAB, 0x3F], Word::SendHeader),
-        (4, [0xDB, 0xD8], Word::SendCfgOne),
-        (5, [0xCB, 0xF9], Word::SendCfgTwo),
-        (6, [0xFB, 0x9A], Word::SendCfgThree),
-    ];
-    for (number, sum, word) in table {
-        let mut frame = Vec::new(rt.alloc());
-        frame.extend_from_slice(&START).expect(&rt, "memory");
-        frame
-            .extend_from_slice(&number.to_be_bytes())
-            .expect(&rt, "memory");
-        frame.extend_from_slice(&sum).expect(&rt, "memory");
+    let alloc = rt.alloc();
+    for row in ROWS.split('\n') {
+        let (name, row) = row.split_once('|').expect(&rt, "a name");
+        let (frame, wanted) = row.split_once('|').expect(&rt, "a frame");
+        let frame = hex::decode(alloc, frame.as_bytes()).expect(&rt, "digits");
         assert!(rt; is_frame(&frame));
-        let want = Command {
-            stream: 101,
-            word: number,
+        let came = match read_command(&frame) {
+            Ok(command) => shown(alloc, command),
+            Err(refusal) => String::from_str(alloc, refusal.name()),
         };
-        same(&rt, read_command(&frame), Ok(want));
-        same(&rt, Word::of(number), Some(word));
+        let came = came.expect(&rt, "memory");
+        assert!(rt; came.as_str() == wanted, "{name}: {came}");
     }
 }
 
@@ -56,46 +65,4 @@ fn commands_written(rt: HostRuntime) {
         write_command(source, 0, Word::StartData.number()),
         start_data,
     );
-}
-
-#[test]
-fn breaks_and_sizes(rt: HostRuntime) {
-    let empty = [
-        0xAA, 0x42, 0x00, 0x10, 0x00, 0x65, 0x00, 0x00, 0x00, 0x64, 0x00, 0x00, 0x00, 0x00, 0xE4,
-        0x6A,
-    ];
-    assert!(rt; is_frame(&empty));
-    same(&rt, read_command(&empty), Err(Refusal::BadLength));
-    // Two bytes more behind the word, and the right CHK.
-    for (word, want) in [
-        (2, Err(Refusal::BadLength)),
-        (
-            8,
-            Ok(Command {
-                stream: 101,
-                word: 8,
-            }),
-        ),
-    ] {
-        let mut frame = Vec::new(rt.alloc());
-        frame.extend_from_slice(&START).expect(&rt, "memory");
-        frame
-            .extend_from_slice(&[0, word, 0, 0])
-            .expect(&rt, "memory");
-        assert!(rt; frame.len() > 3);
-        frame[3] = 20;
-        let sum = check_bytewise(&frame);
-        frame
-            .extend_from_slice(&sum.to_be_bytes())
-            .expect(&rt, "memory");
-        assert!(rt; is_frame(&frame));
-        same(&rt, read_command(&frame), want);
-    }
-    // A data frame of source 7.
-    let measured = [
-        0xAA, 0x02, 0x00, 0x1A, 0x00, 0x07, 0x00, 0x00, 0x00, 0x64, 0x00, 0x00, 0x82, 0x35, 0x00,
-        0x00, 0x10, 0x00, 0x20, 0x00, 0x00, 0x00, 0x00, 0x00, 0x7F, 0xA7,
-    ];
-    assert!(rt; is_frame(&measured));
-    same(&rt, read_command(&measured), Err(Refusal::WrongType));
 }

@@ -1,20 +1,12 @@
-ghost use Rattle.std.specs.Prelude.{◌≤◌};
+//! Configurations: what is read of a frame, row by row, and what is written.
 
 use crate::asserts::same;
+use crate::rows::{ONE, THREE};
 use pg_config::*;
 use pg_wire::{Kind, Refusal, StreamId, check, is_frame};
 use std::alloc::{AllocError, Global};
 use std::process::Abort;
 use std::test::*;
-
-/// The CFG-2 of source 7 without its CHK: station `PMU 7`, one phasor `VA`, resolution 1,000,000, rate 30.
-const PMU7_CONFIG: [u8; 72] = [
-    0xAA, 0x32, 0x00, 0x4A, 0x00, 0x07, 0x00, 0x00, 0x00, 0x64, 0x00, 0x00, 0x00, 0x00, 0x00, 0x0F,
-    0x42, 0x40, 0x00, 0x01, 0x50, 0x4D, 0x55, 0x20, 0x37, 0x20, 0x20, 0x20, 0x20, 0x20, 0x20, 0x20,
-    0x20, 0x20, 0x20, 0x20, 0x00, 0x07, 0x00, 0x00, 0x00, 0x01, 0x00, 0x00, 0x00, 0x00, 0x56, 0x41,
-    0x20, 0x20, 0x20, 0x20, 0x20, 0x20, 0x20, 0x20, 0x20, 0x20, 0x20, 0x20, 0x20, 0x20, 0x00, 0x00,
-    0x00, 0x01, 0x00, 0x00, 0x00, 0x00, 0x00, 0x1E,
-];
 
 /// The CFG-2 of stream 101 with PMU 7's block and count 1, before any tick.
 const CONFIG_REPLY: [u8; 74] = [
@@ -47,155 +39,99 @@ fn read(rt: &impl Abort, alloc: Global, bytes: &[u8]) -> Result<Announced, Refus
     read_config(alloc, &frame)
 }
 
-/// The CFG-2 of a PMU with that many phasors.
-fn with_phasors(alloc: Global, phasors: u16) -> Result<Vec<u8>, AllocError>
-    requires { phasors ≤ 100 }
-{
-    let mut bytes = Vec::from_slice(alloc, &PMU7_CONFIG[..2])?;
-    bytes.extend_from_slice(&(54 + 20 * phasors).to_be_bytes())?;
-    bytes.extend_from_slice(&PMU7_CONFIG[4..40])?;
-    bytes.extend_from_slice(&phasors.to_be_bytes())?;
-    bytes.extend_from_slice(&[0; 4])?;
-    for _ in 0..phasors {
-        bytes.extend_from_slice(b"VA              ")?;
+/// A name, whose frame, which of its bytes are changed, and what is read: kind and source, then of each PMU its number, resolution, rate,
+/// and the sizes of its configuration block and its data block; or the refusal.
+const ROWS: &str = "\
+first-path|one||2 7 7/1000000/30/50/10\n\
+CFG-1|one|1=34|1 7 7/1000000/30/50/10\n\
+polar phasors|one|39=1|2 7 7/1000000/30/50/10\n\
+limits-and-refusals|one|39=2|FloatFormat\n\
+link-refusals-and-triggers|one|37=8|2 7 8/1000000/30/50/10\n\
+NUM_PMU 2|one|19=2|BadLength\n\
+NUM_PMU 0|one|19=0|BadCounts\n\
+TIME_BASE 0|one|15=0,16=0,17=0|BadTimeBase\n\
+no configuration|one|1=2|WrongType\n\
+source 0|one|5=0|WrongId\n\
+shared-frame|three||2 9 7/1000000/30/50/10 8/1000000/30/290/8 11/1000000/30/50/10\n\
+one PMU twice|three|377=7|DuplicatePmu";
+
+/// A frame without its CHK, with some of its bytes changed.
+fn changed(rt: &impl Abort, alloc: Global, whose: &str, changes: &str) -> Vec<u8> {
+    let text = if whose == "one" { ONE } else { THREE };
+    let mut bytes = hex::decode(alloc, text.as_bytes()).expect(rt, "digits");
+    for change in changes.split(',') {
+        if let Some((place, byte)) = change.split_once('=') {
+            let place = place.parse::<usize>().expect(rt, "a place");
+            assert!(rt; place < bytes.len());
+            bytes[place] = byte.parse::<u8>().expect(rt, "a byte");
+        }
     }
-    for _ in 0..phasors {
-        bytes.extend_from_slice(&[0, 0, 0, 1])?;
+    bytes
+}
+
+fn shown(alloc: Global, announced: &Announced) -> Result<String, AllocError> {
+    let kind = if matches!(announced.kind, Kind::CfgOne) {
+        1
+    } else {
+        2
+    };
+    let source = announced.config.source.get();
+    let mut text = format!(in alloc; "{kind} {source}")?;
+    for part in &announced.config.parts {
+        let (id, base, rate) = (part.id(), part.base, part.rate);
+        let (config, data) = (part.config_len(), part.block_len());
+        text.push_str(&format!(in alloc; " {id}/{base}/{rate}/{config}/{data}")?)?;
     }
-    bytes.extend_from_slice(&PMU7_CONFIG[66..])?;
-    Ok(bytes)
-}
-
-/// The CFG-2 of source 9 with PMU 7, PMU 8 (no phasor, one digital word) and a third one like PMU 7.
-fn of_three(alloc: Global, third: u8) -> Result<Vec<u8>, AllocError> {
-    let mut bytes = Vec::from_slice(alloc, &[0xAA, 0x32, 0x01, 0x9E, 0x00, 0x09])?;
-    bytes.extend_from_slice(&PMU7_CONFIG[6..18])?;
-    bytes.extend_from_slice(&[0, 3])?;
-    bytes.extend_from_slice(&PMU7_CONFIG[20..70])?;
-    bytes.extend_from_slice(b"PMU 8           ")?;
-    bytes.extend_from_slice(&[0, 8, 0, 0, 0, 0, 0, 0, 0, 1])?;
-    bytes.extend_from_slice(&[0x20; 256])?;
-    bytes.extend_from_slice(&[0, 0, 0xFF, 0xFF, 0, 0, 0, 0])?;
-    bytes.extend_from_slice(&PMU7_CONFIG[20..36])?;
-    bytes.extend_from_slice(&[0, third])?;
-    bytes.extend_from_slice(&PMU7_CONFIG[38..])?;
-    Ok(bytes)
+    Ok(text)
 }
 
 #[test]
-fn limits_and_refusals(rt: HostRuntime) {
+fn rows(rt: HostRuntime) {
     let alloc = rt.alloc();
-    let longest = read(&rt, alloc, &with_phasors(alloc, 98).expect(&rt, "memory")).expect(
-        &rt, "memory",
-    );
-    same(&rt, longest.config.parts.len(), 1);
-    same(&rt, longest.config.parts[0].phasors, 98);
-    same(&rt, longest.config.parts[0].config_len(), 1_990);
-    let longer = with_phasors(alloc, 99).expect(&rt, "memory");
-    assert!(rt; matches!(read(&rt, alloc, &longer), Err(Refusal::ConfigTooLarge)));
-    // FORMAT: polar phasors, and then phasors as floating point.
-    let mut bytes = PMU7_CONFIG;
-    bytes[39] = 1;
-    assert!(rt; read(&rt, alloc, &bytes).is_ok());
-    bytes[39] = 2;
-    assert!(rt; matches!(read(&rt, alloc, &bytes), Err(Refusal::FloatFormat)));
-}
-
-#[test]
-fn link_refusals_and_triggers(rt: HostRuntime) {
-    let alloc = rt.alloc();
-    // Which byte is changed to what.
-    for (place, byte, refusal) in [
-        (19, 2, Refusal::BadLength),
-        (19, 0, Refusal::BadCounts),
-        (1, 0x02, Refusal::WrongType),
-        (5, 0, Refusal::WrongId),
-    ] {
-        let mut bytes = PMU7_CONFIG;
-        bytes[place] = byte;
-        let answer = read(&rt, alloc, &bytes);
-        assert!(rt; matches!(answer, Err(e) if e == refusal), "at {place}");
+    for row in ROWS.split('\n') {
+        let (name, row) = row.split_once('|').expect(&rt, "a name");
+        let (whose, row) = row.split_once('|').expect(&rt, "a frame");
+        let (changes, wanted) = row.split_once('|').expect(&rt, "changes");
+        let came = match read(&rt, alloc, &changed(&rt, alloc, whose, changes)) {
+            Ok(announced) => shown(alloc, &announced),
+            Err(refusal) => String::from_str(alloc, refusal.name()),
+        };
+        let came = came.expect(&rt, "memory");
+        assert!(rt; came.as_str() == wanted, "{name}: {came}");
     }
-    let mut no_base = PMU7_CONFIG;
-    no_base[15] = 0;
-    no_base[16] = 0;
-    no_base[17] = 0;
-    assert!(rt; matches!(read(&rt, alloc, &no_base), Err(Refusal::BadTimeBase)));
-    let mut first = PMU7_CONFIG;
-    first[1] = 0x22;
-    assert!(rt;
-        matches!(
-            read(&rt, alloc, &first).expect(&rt, "memory").kind,
-            Kind::CfgOne
-        )
-    );
-    let mut other = PMU7_CONFIG;
-    other[37] = 8;
-    let announced = read(&rt, alloc, &other).expect(&rt, "memory");
-    same(&rt, announced.config.source.get(), 7);
-    same(&rt, announced.config.parts.len(), 1);
-    same(&rt, announced.config.parts[0].id(), 8);
 }
 
+// Rows first-path, count-wrap-and-empty-config and header-and-quality; and a frame in pieces: its start of 20 bytes, with room for the
+// whole frame, a block, its end.
 #[test]
-fn shared_frame(rt: HostRuntime) {
+fn frames_written(rt: HostRuntime) {
     let alloc = rt.alloc();
-    let announced = read(&rt, alloc, &of_three(alloc, 11).expect(&rt, "memory")).expect(
-        &rt, "memory",
-    );
-    same(&rt, announced.config.source.get(), 9);
-    same(&rt, announced.config.parts.len(), 3);
-    for (i, id, config_len, block_len) in [(0, 7, 50, 10), (1, 8, 290, 8), (2, 11, 50, 10)] {
-        let part = &announced.config.parts[i];
-        same(&rt, part.id(), id);
-        same(&rt, part.config_len(), config_len);
-        same(&rt, part.block_len(), block_len);
-    }
-    let twice = of_three(alloc, 7).expect(&rt, "memory");
-    assert!(rt; matches!(read(&rt, alloc, &twice), Err(Refusal::DuplicatePmu)));
-}
-
-#[test]
-fn first_path(rt: HostRuntime) {
-    let alloc = rt.alloc();
-    let announced = read(&rt, alloc, &PMU7_CONFIG).expect(&rt, "memory");
-    assert!(rt; matches!(announced.kind, Kind::CfgTwo));
-    same(&rt, announced.config.source.get(), 7);
-    same(&rt, announced.config.parts.len(), 1);
-    let part = &announced.config.parts[0];
-    same(&rt, part.base, 1_000_000);
-    same(&rt, part.rate, 30);
-    same(&rt, part.block.as_slice(), &PMU7_CONFIG[20..70]);
-    let stream = StreamId::new(101).expect(&rt, "reserved");
-    let parts = announced.config.parts.as_slice();
-    let reply = write_config(alloc, Kind::CfgTwo, stream, 0, 1_000_000, 30, 1, parts).expect(
-        &rt, "memory",
-    );
-    same(&rt, reply.as_slice(), CONFIG_REPLY.as_slice());
-    // Another CFGCNT, and then another station.
-    let mut bytes = PMU7_CONFIG;
-    bytes[69] = 5;
-    assert!(rt;
-        part.is_same_but_count(&read(&rt, alloc, &bytes).expect(&rt, "memory").config.parts[0])
-    );
-    bytes[25] = 0x39;
-    assert!(rt;
-        !part.is_same_but_count(&read(&rt, alloc, &bytes).expect(&rt, "memory").config.parts[0])
-    );
-}
-
-// A configuration frame in pieces: its start of 20 bytes, with room for the whole frame, a block, its end.
-#[test]
-fn frame_in_pieces(rt: HostRuntime) {
-    let alloc = rt.alloc();
-    let announced = read(&rt, alloc, &PMU7_CONFIG).expect(&rt, "memory");
+    let announced = read(&rt, alloc, &changed(&rt, alloc, "one", "")).expect(&rt, "a frame");
     same(&rt, announced.config.parts.len(), 1);
     let part = &announced.config.parts[0];
     same(&rt, part.config_len(), 50);
     let stream = StreamId::new(101).expect(&rt, "reserved");
-    let mut frame = start_config(alloc, Kind::CfgTwo, stream, 0, 1_000_000, 1, 50).expect(
-        &rt, "memory",
+    let parts = announced.config.parts.as_slice();
+    let reply = write_config(alloc, Kind::CfgTwo, stream, 0, 1_000_000, 30, 1, parts);
+    same(
+        &rt,
+        reply.expect(&rt, "memory").as_slice(),
+        CONFIG_REPLY.as_slice(),
     );
+    let reply = write_config(alloc, Kind::CfgTwo, stream, 0, 1_000_000, 30, 0, &[]);
+    same(
+        &rt,
+        reply.expect(&rt, "memory").as_slice(),
+        EMPTY_CONFIG.as_slice(),
+    );
+    let header = write_header(alloc, stream, 0, b"Hello");
+    same(
+        &rt,
+        header.expect(&rt, "memory").as_slice(),
+        HEADER.as_slice(),
+    );
+    let frame = start_config(alloc, Kind::CfgTwo, stream, 0, 1_000_000, 1, 50);
+    let mut frame = frame.expect(&rt, "memory");
     same(&rt, frame.as_slice(), &CONFIG_REPLY[..20]);
     assert!(rt; frame.capacity() >= 74);
     part.add_to(&mut frame, 1);
@@ -204,18 +140,16 @@ fn frame_in_pieces(rt: HostRuntime) {
     same(&rt, frame.as_slice(), CONFIG_REPLY.as_slice());
 }
 
+// Another CFGCNT, and then another station.
 #[test]
-fn count_wrap_and_empty_config(rt: HostRuntime) {
-    let stream = StreamId::new(101).expect(&rt, "reserved");
-    let reply = write_config(rt.alloc(), Kind::CfgTwo, stream, 0, 1_000_000, 30, 0, &[]).expect(
-        &rt, "memory",
-    );
-    same(&rt, reply.as_slice(), EMPTY_CONFIG.as_slice());
-}
-
-#[test]
-fn header_and_quality(rt: HostRuntime) {
-    let stream = StreamId::new(101).expect(&rt, "reserved");
-    let header = write_header(rt.alloc(), stream, 0, b"Hello").expect(&rt, "memory");
-    same(&rt, header.as_slice(), HEADER.as_slice());
+fn same_but_count(rt: HostRuntime) {
+    let alloc = rt.alloc();
+    let first = read(&rt, alloc, &changed(&rt, alloc, "one", "")).expect(&rt, "a frame");
+    same(&rt, first.config.parts.len(), 1);
+    for (changes, is_same) in [("69=5", true), ("69=5,25=57", false)] {
+        let other = read(&rt, alloc, &changed(&rt, alloc, "one", changes)).expect(&rt, "a frame");
+        same(&rt, other.config.parts.len(), 1);
+        let is_alike = first.config.parts[0].is_same_but_count(&other.config.parts[0]);
+        same(&rt, is_alike, is_same);
+    }
 }

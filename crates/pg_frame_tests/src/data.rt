@@ -71,33 +71,6 @@ fn one_part(
     Ok(Arc::new(alloc, config)?)
 }
 
-// The configuration of a source with three PMUs.
-fn three_parts(
-    rt: &impl Abort,
-    alloc: Global,
-    source: PmuId,
-    a: Arc<PmuConfig>,
-    b: Arc<PmuConfig>,
-    c: Arc<PmuConfig>,
-) -> Result<Arc<SourceConfig>, AllocError>
-    requires a { ((arc_value a).base ≡ 1000000) × ((arc_value a).rate ≡ pos 30) }
-    requires b { ((arc_value b).base ≡ 1000000) × ((arc_value b).rate ≡ pos 30) }
-    requires c { ((arc_value c).base ≡ 1000000) × ((arc_value c).rate ≡ pos 30) }
-    ensures { IfOk result (λ config. length (arc_value config).parts ≡ 3) }
-{
-    assert!(rt; source.get() != 0);
-    let (x, y, z) = (a.id(), b.id(), c.id());
-    assert!(rt; x != y);
-    assert!(rt; x != z);
-    assert!(rt; y != z);
-    let mut parts = Vec::with_capacity(alloc, 3)?;
-    parts.push_reserved(a);
-    parts.push_reserved(b);
-    parts.push_reserved(c);
-    let config = SourceConfig::new(alloc, source, parts)?;
-    Ok(Arc::new(alloc, config)?)
-}
-
 // The bytes with their check behind them.
 fn framed(alloc: Global, bytes: &[u8]) -> Result<Vec<u8>, AllocError> {
     let mut frame = Vec::from_slice(alloc, bytes)?;
@@ -150,42 +123,6 @@ fn block_8(alloc: Global) -> Result<Vec<u8>, AllocError> {
 }
 
 #[test]
-fn first_path(rt: HostRuntime) -> Result<(), Fail> {
-    let alloc = rt.alloc();
-    let config = config_7(&rt, alloc)?;
-    let bytes = framed(alloc, &DATA_7)?;
-    same(&rt, bytes.len(), 26);
-    same(&rt, &bytes[24..], [0x7F, 0xA7].as_slice());
-    let frame = read(&rt, alloc, &config, &bytes)?;
-    same(
-        &rt,
-        (frame.source.get(), frame.soc, frame.quality, frame.frac),
-        (7, 100, 0, 33_333),
-    );
-    same(
-        &rt,
-        frame.block(0),
-        [0, 0, 0x10, 0, 0x20, 0, 0, 0, 0, 0].as_slice(),
-    );
-    same(
-        &rt,
-        (
-            frame.count(),
-            frame.base(),
-            frame.stat(0),
-            frame.is_changed(),
-        ),
-        (1, 1_000_000, 0, false),
-    );
-    same(
-        &rt,
-        (frame.key(0).source.get(), frame.key(0).pmu.get()),
-        (7, 7),
-    );
-    Ok(())
-}
-
-#[test]
 fn check_past_a_block(rt: HostRuntime) -> Result<(), Fail> {
     let alloc = rt.alloc();
     let config = config_7(&rt, alloc)?;
@@ -217,144 +154,26 @@ fn alike(rt: &impl Abort, one: &Arc<DataFrame>, other: &Arc<DataFrame>) {
 fn frame_over_another(rt: HostRuntime) -> Result<(), Fail> {
     let alloc = rt.alloc();
     let config = config_7(&rt, alloc)?;
-    let first = framed(alloc, &DATA_7)?;
+    let first = framed(alloc, &DATA_7).expect(&rt, "memory");
     let mut second = DATA_7;
     second[9..14].copy_from_slice(&[101, 0x20, 0, 0, 1]);
     second[16..24].copy_from_slice(&[0x11, 2, 3, 4, 5, 6, 7, 8]);
-    let second = framed(alloc, &second)?;
-    let older = read(&rt, alloc, &config, &first)?;
-    let held = Arc::try_clone(&older)?;
-    let anew = read_over(&rt, alloc, &config, &second, older)?;
-    alike(&rt, &anew, &read(&rt, alloc, &config, &second)?);
-    alike(&rt, &held, &read(&rt, alloc, &config, &first)?);
-    let over = read_over(&rt, alloc, &config, &second, held)?;
+    let second = framed(alloc, &second).expect(&rt, "memory");
+    let older = read(&rt, alloc, &config, &first).expect(&rt, "memory");
+    let held = Arc::try_clone(&older).expect(&rt, "memory");
+    let anew = read_over(&rt, alloc, &config, &second, older).expect(&rt, "memory");
+    alike(
+        &rt,
+        &anew,
+        &read(&rt, alloc, &config, &second).expect(&rt, "memory"),
+    );
+    alike(
+        &rt,
+        &held,
+        &read(&rt, alloc, &config, &first).expect(&rt, "memory"),
+    );
+    let over = read_over(&rt, alloc, &config, &second, held).expect(&rt, "memory");
     alike(&rt, &over, &anew);
-    Ok(())
-}
-
-// CHK past a PMU's block, which stands from one place to another in the frame, is that of the bytes as far as its end.
-fn past(rt: &impl Abort, frame: &Arc<DataFrame>, i: usize, bytes: &[u8], place: (usize, usize)) {
-    let (start, end) = place;
-    assert!(rt; start <= bytes.len());
-    assert!(rt; end <= bytes.len());
-    assert!(rt; i < frame.count());
-    let block = SharedBlock::new(Arc::try_clone(frame).expect(rt, "memory"), i);
-    same(
-        rt,
-        block.check_past(check(&bytes[..start])),
-        check(&bytes[..end]),
-    );
-}
-
-// PMUs 7, 8 and 11 of source 9 in one frame of 44 bytes.
-#[test]
-fn shared_frame(rt: HostRuntime) {
-    let alloc = rt.alloc();
-    let mut pmu_11 = PMU_7;
-    pmu_11[17] = 11;
-    let source = PmuId::new(9).expect(&rt, "reserved");
-    let a = part(&rt, alloc, &PMU_7).expect(&rt, "memory");
-    let b = part(&rt, alloc, &block_8(alloc).expect(&rt, "memory")).expect(&rt, "memory");
-    let c = part(&rt, alloc, &pmu_11).expect(&rt, "memory");
-    let config = three_parts(&rt, alloc, source, a, b, c).expect(&rt, "memory");
-    let mut bytes = Vec::from_slice(
-        alloc,
-        &[
-            0xAA, 0x02, 0x00, 0x2C, 0x00, 0x09, 0x00, 0x00, 0x00, 0x64, 0x00, 0x00, 0x82, 0x35,
-        ],
-    )
-    .expect(&rt, "memory");
-    bytes
-        .extend_from_slice(&[0, 0, 0x10, 0, 0x20, 0, 0, 0, 0, 0])
-        .expect(&rt, "memory");
-    bytes
-        .extend_from_slice(&[0, 0, 0, 0, 0, 0, 0, 1])
-        .expect(&rt, "memory");
-    bytes
-        .extend_from_slice(&[0, 0, 0x30, 0, 0x40, 0, 0, 0, 0, 0])
-        .expect(&rt, "memory");
-    let mut bytes = framed(alloc, &bytes).expect(&rt, "memory");
-    same(&rt, bytes.len(), 44);
-    same(&rt, &bytes[42..], [0x74, 0xB9].as_slice());
-    let frame = read(&rt, alloc, &config, &bytes).expect(&rt, "memory");
-    same(
-        &rt,
-        frame.block(0),
-        [0, 0, 0x10, 0, 0x20, 0, 0, 0, 0, 0].as_slice(),
-    );
-    same(&rt, frame.block(1), [0, 0, 0, 0, 0, 0, 0, 1].as_slice());
-    same(
-        &rt,
-        frame.block(2),
-        [0, 0, 0x30, 0, 0x40, 0, 0, 0, 0, 0].as_slice(),
-    );
-    past(&rt, &frame, 1, &bytes, (24, 32));
-    past(&rt, &frame, 2, &bytes, (32, 42));
-    same(
-        &rt,
-        (frame.key(2).source.get(), frame.key(2).pmu.get()),
-        (9, 11),
-    );
-    assert!(rt; !frame.is_changed());
-    // Bit 10 of the last block's STAT alone is set.
-    bytes.truncate(42);
-    bytes[32] = 0x04;
-    let changed = framed(alloc, &bytes).expect(&rt, "memory");
-    assert!(rt;
-        read(&rt, alloc, &config, &changed)
-            .expect(&rt, "memory")
-            .is_changed()
-    );
-}
-
-// A data frame of source 7 by PMU 7's configuration: its IDCODE, numerator and body, and what is read.
-fn refused(
-    rt: &impl Abort,
-    alloc: Global,
-    id: u8,
-    frac: [u8; 3],
-    body: &[u8],
-) -> Result<Option<Refusal>, Fail> {
-    let config = config_7(rt, alloc)?;
-    assert!(rt; body.len() < 100);
-    let [high, low] = (16 + body.len() as u16).to_be_bytes();
-    let mut bytes = Vec::from_slice(
-        alloc,
-        &[
-            0xAA, 0x02, high, low, 0x00, id, 0x00, 0x00, 0x00, 0x64, 0x00, frac[0], frac[1],
-            frac[2],
-        ],
-    )?;
-    bytes.extend_from_slice(body)?;
-    let bytes = framed(alloc, &bytes)?;
-    Ok(read(rt, alloc, &config, &bytes).err())
-}
-
-#[test]
-fn order_of_refusals(rt: HostRuntime) -> Result<(), Fail> {
-    let alloc = rt.alloc();
-    let (below, base) = ([0x0F, 0x42, 0x3F], [0x0F, 0x42, 0x40]);
-    same(&rt, refused(&rt, alloc, 7, below, &[0; 10])?, None);
-    same(
-        &rt,
-        refused(&rt, alloc, 7, base, &[0; 10])?,
-        Some(Refusal::BadFraction),
-    );
-    same(
-        &rt,
-        refused(&rt, alloc, 7, base, &[0; 12])?,
-        Some(Refusal::BadLength),
-    );
-    same(
-        &rt,
-        refused(&rt, alloc, 7, below, &[0; 8])?,
-        Some(Refusal::BadLength),
-    );
-    same(
-        &rt,
-        refused(&rt, alloc, 8, base, &[0; 12])?,
-        Some(Refusal::WrongId),
-    );
     Ok(())
 }
 

@@ -11,4 +11,6 @@ mod config;
 #[cfg(test)]
 mod data;
 #[cfg(test)]
+mod rows;
+#[cfg(test)]
 mod wire;

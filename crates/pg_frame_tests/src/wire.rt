@@ -1,7 +1,9 @@
 use crate::asserts::same;
 use pg_wire::*;
+use std::alloc::{AllocError, Global};
 use std::io;
 use std::io::{ErrorKind, Read};
+use std::process::Abort;
 use std::test::*;
 
 /// The command frame of word 5 (send CFG-2) for stream 101 at SOC 100.
@@ -65,87 +67,84 @@ fn check_in_pieces(rt: HostRuntime) {
     }
 }
 
-#[test]
-fn deframer_pieces(rt: HostRuntime) {
-    let mut deframer = Deframer::new(rt.alloc()).expect(&rt, "memory");
-    for byte in &SEND_CONFIG[..17] {
-        assert!(rt; deframer.room() >= 1);
-        deframer.feed(&[*byte]);
-        assert!(rt; matches!(deframer.next(), Taken::More));
+/// A name, then steps: `reset`, or the size of the pieces that these bytes are fed in and, behind `=`, what is taken after each piece
+/// until more is needed (M), or twice once the stream is broken (B): whole frames (F) and skipped ones (S). With M the room at the end.
+const ROWS: &str = "\
+deframer-pieces|1 aa420012006500000064000000000005cbf9=M M M M M M M M M M M M M M M M M Faa420012006500000064000000000005cbf9 M 65535|45 aa420012006500000064000000000005cbf9aa420012006500000064000000000005cbf9aa4200120065000000=Faa420012006500000064000000000005cbf9 Faa420012006500000064000000000005cbf9 M 65526\n\
+wrong-check-then-break|36 aa420012006500000064000000000004cbf9aa420012006500000064000000000005cbf9=S5 Faa420012006500000064000000000005cbf9 M 65535|1 ab=B2 B2 |18 aa420012006500000064000000000005cbf9=B2 B2 |reset|18 aa420012006500000064000000000005cbf9=Faa420012006500000064000000000005cbf9 M 65535\n\
+breaks-and-sizes|4 aa42000f=B4 B4 |reset|2 aac2=B3 B3 |reset|16 aa42001000650000006400000000e46a=Faa42001000650000006400000000e46a M 65535|18 aa4300120065000000640000000000056505=S6 M 65535";
+
+/// What is taken until more is needed. Whether the stream goes on.
+fn taken(alloc: Global, deframer: &mut Deframer, text: &mut String) -> Result<bool, AllocError> {
+    let mut is_broken = false;
+    for _ in 0..9 {
+        match deframer.next() {
+            Taken::More => {
+                text.push_str("M ")?;
+                return Ok(true);
+            }
+            Taken::Frame(frame) => {
+                let digits = hex::encode(alloc, frame)?;
+                text.push_str(&format!(in alloc; "F{digits} ")?)?;
+            }
+            Taken::Skipped(refusal) => {
+                let number = refusal.number();
+                text.push_str(&format!(in alloc; "S{number} ")?)?;
+            }
+            Taken::Broken(refusal) => {
+                let number = refusal.number();
+                text.push_str(&format!(in alloc; "B{number} ")?)?;
+                if is_broken {
+                    break;
+                }
+                is_broken = true;
+            }
+        }
     }
-    assert!(rt; deframer.room() >= 1);
-    deframer.feed(&SEND_CONFIG[17..]);
-    assert!(rt; matches!(deframer.next(), Taken::Frame(frame) if frame == SEND_CONFIG.as_slice()));
-    assert!(rt; matches!(deframer.next(), Taken::More));
-    same(&rt, deframer.room(), CAPACITY);
-    // Two frames and nine bytes of a third, in one piece.
-    let mut piece = [0; 45];
-    for i in 0..piece.len() {
-        piece[i] = SEND_CONFIG[i % 18];
+    Ok(false)
+}
+
+/// What comes of a step.
+fn fed(
+    rt: &impl Abort,
+    alloc: Global,
+    deframer: &mut Deframer,
+    step: &str,
+) -> Result<String, AllocError> {
+    let (size, digits) = step.split_once(' ').expect(rt, "a size");
+    let size = size.parse::<usize>().expect(rt, "a size");
+    assert!(rt; 0 < size);
+    let bytes = hex::decode(alloc, digits.as_bytes()).expect(rt, "digits");
+    let mut text = String::new(alloc);
+    let mut goes_on = false;
+    for piece in bytes.chunks(size) {
+        assert!(rt; piece.len() <= deframer.room());
+        deframer.feed(piece);
+        goes_on = taken(alloc, deframer, &mut text)?;
     }
-    deframer.feed(&piece);
-    for _ in 0..2 {
-        assert!(rt;
-            matches!(deframer.next(), Taken::Frame(frame) if frame == SEND_CONFIG.as_slice())
-        );
+    if goes_on {
+        let room = deframer.room();
+        text.push_str(&format!(in alloc; "{room}")?)?;
     }
-    assert!(rt; matches!(deframer.next(), Taken::More));
-    same(&rt, deframer.room(), 65_526);
+    Ok(text)
 }
 
 #[test]
-fn wrong_check_then_break(rt: HostRuntime) {
-    let mut deframer = Deframer::new(rt.alloc()).expect(&rt, "memory");
-    let mut changed = SEND_CONFIG;
-    changed[15] = 4;
-    deframer.feed(&changed);
-    assert!(rt; deframer.room() >= 18);
-    deframer.feed(&SEND_CONFIG);
-    assert!(rt; matches!(deframer.next(), Taken::Skipped(Refusal::BadCheck)));
-    assert!(rt; matches!(deframer.next(), Taken::Frame(frame) if frame == SEND_CONFIG.as_slice()));
-    assert!(rt; deframer.room() >= 1);
-    deframer.feed(&[0xAB]);
-    for _ in 0..3 {
-        assert!(rt; matches!(deframer.next(), Taken::Broken(Refusal::BadFirst)));
+fn rows(rt: HostRuntime) {
+    let alloc = rt.alloc();
+    for row in ROWS.split('\n') {
+        let (name, steps) = row.split_once('|').expect(&rt, "a name");
+        let mut deframer = Deframer::new(alloc).expect(&rt, "memory");
+        for step in steps.split('|') {
+            match step.split_once('=') {
+                None => deframer.reset(),
+                Some((step, wanted)) => {
+                    let came = fed(&rt, alloc, &mut deframer, step).expect(&rt, "memory");
+                    assert!(rt; came.as_str() == wanted, "{name}: {step}: {came}");
+                }
+            }
+        }
     }
-    assert!(rt; deframer.room() >= 18);
-    deframer.feed(&SEND_CONFIG);
-    assert!(rt; matches!(deframer.next(), Taken::Broken(Refusal::BadFirst)));
-    deframer.reset();
-    assert!(rt; deframer.room() >= 18);
-    deframer.feed(&SEND_CONFIG);
-    assert!(rt; matches!(deframer.next(), Taken::Frame(frame) if frame == SEND_CONFIG.as_slice()));
-}
-
-#[test]
-fn breaks_and_sizes(rt: HostRuntime) {
-    let mut deframer = Deframer::new(rt.alloc()).expect(&rt, "memory");
-    deframer.feed(&[0xAA, 0x42, 0x00, 0x0F]);
-    assert!(rt; matches!(deframer.next(), Taken::Broken(Refusal::ShortSize)));
-    deframer.reset();
-    assert!(rt; deframer.room() >= 2);
-    deframer.feed(&[0xAA, 0xC2]);
-    assert!(rt; matches!(deframer.next(), Taken::Broken(Refusal::BadSecond)));
-    // A command frame with no word.
-    let empty = [
-        0xAA, 0x42, 0x00, 0x10, 0x00, 0x65, 0x00, 0x00, 0x00, 0x64, 0x00, 0x00, 0x00, 0x00, 0xE4,
-        0x6A,
-    ];
-    assert!(rt; is_frame(&empty));
-    deframer.reset();
-    assert!(rt; deframer.room() >= 16);
-    deframer.feed(&empty);
-    assert!(rt; matches!(deframer.next(), Taken::Frame(frame) if frame == empty.as_slice()));
-    // Version 3, with the CHK of these bytes.
-    let mut later = SEND_CONFIG;
-    later[1] = 0x43;
-    let [high, low] = check_bytewise(&later[..16]).to_be_bytes();
-    later[16] = high;
-    later[17] = low;
-    assert!(rt; !is_frame(&later));
-    assert!(rt; deframer.room() >= 18);
-    deframer.feed(&later);
-    assert!(rt; matches!(deframer.next(), Taken::Skipped(Refusal::BadVersion)));
 }
 
 /// A reader of these bytes, at most so many a read, whose read number `blocks_at` would block.

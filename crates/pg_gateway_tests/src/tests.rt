@@ -1,5 +1,5 @@
 use crate::asserts::same;
-use pg_audit::{PmuStats, Stats, What};
+use pg_audit::{Stats, What};
 use pg_command::Command;
 use pg_config::{SourceConfig, read_config};
 use pg_data::{DataFrame, read_data};
@@ -34,19 +34,12 @@ const BLOCK_8: [u8; 26] = *b"PMU 8           \x00\x08\x00\x00\x00\x00\x00\x00\x0
 
 const TAIL_8: [u8; 8] = [0x00, 0x00, 0xFF, 0xFF, 0x00, 0x00, 0x00, 0x00];
 
-// The data blocks of PMU 7 and of PMU 8.
+// The data block of PMU 7.
 const DATA_7: [u8; 10] = [0x00, 0x00, 0x10, 0x00, 0x20, 0x00, 0x00, 0x00, 0x00, 0x00];
 
-const DATA_8: [u8; 8] = [0x00, 0x00, 0x00, 0x00, 0x00, 0x00, 0x00, 0x01];
-
-// The heads of stream 101's CFG-2 with PMU 7 alone and with PMU 8 alone, and the whole one with no block, before any tick.
+// The head of stream 101's CFG-2 with PMU 7 alone, and the whole one with no block, before any tick.
 const REPLY_7: [u8; 20] = [
     0xAA, 0x32, 0x00, 0x4A, 0x00, 0x65, 0x00, 0x00, 0x00, 0x00, 0x0F, 0x00, 0x00, 0x00, 0x00, 0x0F,
-    0x42, 0x40, 0x00, 0x01,
-];
-
-const REPLY_8: [u8; 20] = [
-    0xAA, 0x32, 0x01, 0x3A, 0x00, 0x65, 0x00, 0x00, 0x00, 0x00, 0x0F, 0x00, 0x00, 0x00, 0x00, 0x0F,
     0x42, 0x40, 0x00, 0x01,
 ];
 
@@ -55,15 +48,10 @@ const EMPTY_REPLY: [u8; 24] = [
     0x42, 0x40, 0x00, 0x00, 0x00, 0x1E, 0xDF, 0xE6,
 ];
 
-// The data frame of stream 101 at SOC 100 and numerator 33,333 with PMU 7's block, and with PMU 8's.
+// The data frame of stream 101 at SOC 100 and numerator 33,333 with PMU 7's block.
 const FRAME_7: [u8; 26] = [
     0xAA, 0x02, 0x00, 0x1A, 0x00, 0x65, 0x00, 0x00, 0x00, 0x64, 0x00, 0x00, 0x82, 0x35, 0x00, 0x00,
     0x10, 0x00, 0x20, 0x00, 0x00, 0x00, 0x00, 0x00, 0x72, 0x76,
-];
-
-const FRAME_8: [u8; 24] = [
-    0xAA, 0x02, 0x00, 0x18, 0x00, 0x65, 0x00, 0x00, 0x00, 0x64, 0x00, 0x00, 0x82, 0x35, 0x00, 0x00,
-    0x00, 0x00, 0x00, 0x00, 0x00, 0x01, 0x1D, 0x19,
 ];
 
 // The parts with their CHK behind them.
@@ -269,13 +257,6 @@ fn stands(
     same(rt, standing(rt, gateway, sub, place).stream, Some(expected));
 }
 
-fn pmu_stats(rt: &impl Abort, gateway: &mut Gateway, pmu: u16) -> PmuStats {
-    match gateway.step(Event::PmuStats(key(rt, pmu))) {
-        Reply::PmuStats(stats) => stats,
-        _ => panic!(rt; "no counters"),
-    }
-}
-
 // A gateway with PMU 7, which announced this configuration.
 fn with_pmu_7(rt: &impl Abort, alloc: Global, config: &Arc<SourceConfig>) -> Gateway {
     let mut gateway = Gateway::new(alloc).expect(rt, "memory");
@@ -317,51 +298,6 @@ fn config_reply(rt: &impl Abort, alloc: Global, count: u8) -> Vec<u8> {
     framed(rt, alloc, &[&REPLY_7, &block, &RATE])
 }
 
-// What a PMU announces counts nothing; each of its blocks counts once, as taken or under its refusal, whoever is granted it.
-#[test]
-fn announcements_are_not_counted(rt: HostRuntime) {
-    let alloc = rt.alloc();
-    let config = source_7(&rt, alloc);
-    let mut gateway = with_pmu_7(&rt, alloc, &config);
-    same(&rt, pmu_stats(&rt, &mut gateway, 7).taken, 0);
-    done(&rt, &mut gateway, frame_7(&rt, alloc, &config), 0);
-    same(&rt, pmu_stats(&rt, &mut gateway, 7).taken, 1);
-    done(&rt, &mut gateway, Event::Announce(config), 0);
-    done(&rt, &mut gateway, Event::Tick(200), 0);
-    let announced = source_7(&rt, alloc);
-    let far = frame_7(&rt, alloc, &announced);
-    refused(&rt, &mut gateway, far, Refusal::FarClock);
-    let stats = pmu_stats(&rt, &mut gateway, 7);
-    same(&rt, stats.taken, 1);
-    same(&rt, stats.by_reason[21], 1);
-}
-
-// Row registry-and-grants.
-#[test]
-fn registry_and_grants(rt: HostRuntime) {
-    let alloc = rt.alloc();
-    let config = source_7(&rt, alloc);
-    let mut gateway = with_pmu_7(&rt, alloc, &config);
-    let sub = subscriber(&rt, 1);
-    done(&rt, &mut gateway, add_sub(&rt, 1, 4), 0);
-    define(&rt, &mut gateway, 1, stream(&rt, alloc, 101, 0, &[7]));
-    done(&rt, &mut gateway, Event::Connect(sub), 0);
-    lists(&rt, alloc, &mut gateway, &EMPTY_REPLY);
-    done(&rt, &mut gateway, Event::Grant(sub, key(&rt, 7)), 0);
-    let first = config_reply(&rt, alloc, 1);
-    assert!(rt; first.ends_with(&[0x75, 0xAF]));
-    lists(&rt, alloc, &mut gateway, &first);
-    command(&rt, &mut gateway, 1, 101, 2);
-    done(&rt, &mut gateway, frame_7(&rt, alloc, &config), 1);
-    drains(&rt, alloc, &mut gateway, 1, &FRAME_7, 0);
-    done(&rt, &mut gateway, Event::Revoke(sub, key(&rt, 7)), 0);
-    lists(&rt, alloc, &mut gateway, &EMPTY_REPLY);
-    done(&rt, &mut gateway, frame_7(&rt, alloc, &config), 0);
-    done(&rt, &mut gateway, Event::Grant(sub, key(&rt, 7)), 0);
-    let third = config_reply(&rt, alloc, 3);
-    lists(&rt, alloc, &mut gateway, &third);
-}
-
 // Row registry-and-grants: a block that was read under another configuration, or under none that is announced, is refused.
 #[test]
 fn other_configurations(rt: HostRuntime) {
@@ -377,40 +313,6 @@ fn other_configurations(rt: HostRuntime) {
     done(&rt, &mut gateway, Event::AddPmu(key(&rt, 7)), 0);
     let frame = frame_7(&rt, alloc, &config);
     refused(&rt, &mut gateway, frame, Refusal::NoConfig);
-}
-
-// Row two-subscribers.
-#[test]
-fn two_subscribers(rt: HostRuntime) {
-    let alloc = rt.alloc();
-    let first = source_7(&rt, alloc);
-    let second = source_8(&rt, alloc);
-    let mut gateway = Gateway::new(alloc).expect(&rt, "memory");
-    done(&rt, &mut gateway, Event::AddPmu(key(&rt, 7)), 0);
-    subscribe(&rt, alloc, &mut gateway, 1, 4, 101, 7);
-    let announced = Arc::try_clone(&first).expect(&rt, "memory");
-    done(&rt, &mut gateway, Event::Announce(announced), 0);
-    command(&rt, &mut gateway, 1, 101, 5);
-    command(&rt, &mut gateway, 1, 101, 2);
-    done(&rt, &mut gateway, frame_7(&rt, alloc, &first), 1);
-    done(&rt, &mut gateway, Event::AddPmu(key(&rt, 8)), 0);
-    subscribe(&rt, alloc, &mut gateway, 2, 4, 101, 8);
-    let frame = measured(&rt, alloc, &second, 100, 33_333, &DATA_8);
-    done(&rt, &mut gateway, Event::Announce(second), 0);
-    command(&rt, &mut gateway, 2, 101, 5);
-    command(&rt, &mut gateway, 2, 101, 2);
-    done(&rt, &mut gateway, frame, 1);
-    let frames = both(&rt, alloc, &config_reply(&rt, alloc, 1), &FRAME_7);
-    drains(&rt, alloc, &mut gateway, 1, &frames, 0);
-    let mut tail = TAIL_8;
-    tail[7] = 1;
-    let reply = framed(
-        &rt,
-        alloc,
-        &[&REPLY_8, &BLOCK_8, &[b' '; 256], &tail, &RATE],
-    );
-    let frames = both(&rt, alloc, &reply, &FRAME_8);
-    drains(&rt, alloc, &mut gateway, 2, &frames, 0);
 }
 
 // A gateway with PMU 7, which announced, and PMU 8, which did not; and subscriber 1, which is connected and granted both, with
@@ -535,128 +437,6 @@ fn standing_leaves_no_trace(rt: HostRuntime) {
         Reply::Audit(Some(entry)) => same(&rt, entry.what, What::Define),
         _ => panic!(&rt; "no entry"),
     }
-}
-
-// Row limits-and-refusals: of the registry and of the subscribers.
-#[test]
-fn registry_limits(rt: HostRuntime) {
-    let alloc = rt.alloc();
-    let mut gateway = Gateway::new(alloc).expect(&rt, "memory");
-    for number in 1..=256 {
-        done(&rt, &mut gateway, Event::AddPmu(key(&rt, number)), 0);
-    }
-    assert!(rt; gateway.is_full());
-    assert!(rt; gateway.has_source(key(&rt, 7).source));
-    refused(
-        &rt,
-        &mut gateway,
-        Event::AddPmu(key(&rt, 257)),
-        Refusal::PmusFull,
-    );
-    refused(
-        &rt,
-        &mut gateway,
-        Event::AddPmu(key(&rt, 7)),
-        Refusal::PmuExists,
-    );
-    refused(
-        &rt,
-        &mut gateway,
-        Event::DropPmu(key(&rt, 257)),
-        Refusal::NoSuchPmu,
-    );
-}
-
-#[test]
-fn subscribers_limit(rt: HostRuntime) {
-    let mut gateway = Gateway::new(rt.alloc()).expect(&rt, "memory");
-    for number in 1..=64 {
-        done(&rt, &mut gateway, add_sub(&rt, number, 4), 0);
-    }
-    assert!(rt; gateway.has_sub(subscriber(&rt, 64)));
-    assert!(rt; !gateway.is_connected(subscriber(&rt, 64)));
-    refused(&rt, &mut gateway, add_sub(&rt, 65, 4), Refusal::SubsFull);
-    refused(&rt, &mut gateway, add_sub(&rt, 1, 4), Refusal::SubExists);
-}
-
-// Row limits-and-refusals: of one subscriber. Another one may have a stream of the same number.
-#[test]
-fn subscriber_limits(rt: HostRuntime) {
-    let alloc = rt.alloc();
-    let mut gateway = Gateway::new(alloc).expect(&rt, "memory");
-    for number in 1..=33 {
-        done(&rt, &mut gateway, Event::AddPmu(key(&rt, number)), 0);
-    }
-    subscribe(&rt, alloc, &mut gateway, 1, 4, 108, 7);
-    subscribe(&rt, alloc, &mut gateway, 2, 4, 101, 7);
-    let sub = subscriber(&rt, 1);
-    let ninth = stream(&rt, alloc, 109, 0, &[7]);
-    refused(
-        &rt,
-        &mut gateway,
-        Event::Define(sub, ninth),
-        Refusal::StreamsFull,
-    );
-    for number in 1..=32 {
-        done(&rt, &mut gateway, Event::Grant(sub, key(&rt, number)), 0);
-    }
-    refused(
-        &rt,
-        &mut gateway,
-        Event::Grant(sub, key(&rt, 33)),
-        Refusal::GrantsFull,
-    );
-    refused(
-        &rt,
-        &mut gateway,
-        Event::Revoke(sub, key(&rt, 33)),
-        Refusal::NotGranted,
-    );
-}
-
-// Row limits-and-refusals: SOCs that are more than 30 seconds off the last tick's.
-#[test]
-fn far_clocks(rt: HostRuntime) {
-    let alloc = rt.alloc();
-    let config = source_7(&rt, alloc);
-    let mut gateway = with_pmu_7(&rt, alloc, &config);
-    done(&rt, &mut gateway, Event::Tick(100), 0);
-    for soc in [130, 70] {
-        let frame = measured(&rt, alloc, &config, soc, 33_333, &DATA_7);
-        done(&rt, &mut gateway, frame, 0);
-    }
-    for soc in [131, 69] {
-        let frame = measured(&rt, alloc, &config, soc, 33_333, &DATA_7);
-        refused(&rt, &mut gateway, frame, Refusal::FarClock);
-    }
-}
-
-// Row limits-and-refusals: definitions.
-#[test]
-fn bad_definitions(rt: HostRuntime) {
-    let alloc = rt.alloc();
-    let mut gateway = Gateway::new(alloc).expect(&rt, "memory");
-    done(&rt, &mut gateway, add_sub(&rt, 1, 4), 0);
-    for (rate, base, wait, window) in [
-        (0, 1_000_000, 0, 4),
-        (121, 1_000_000, 0, 4),
-        (30, 29, 0, 4),
-        (30, 1_000_000, 0, 0),
-        (30, 1_000_000, 0, 65),
-        (30, 1_000_000, 60_001, 4),
-    ] {
-        let definition = Definition {
-            rate,
-            base,
-            window,
-            ..stream(&rt, alloc, 101, wait, &[7])
-        };
-        let event = Event::Define(subscriber(&rt, 1), definition);
-        refused(&rt, &mut gateway, event, Refusal::BadDefinition);
-    }
-    let twice = stream(&rt, alloc, 101, 0, &[7, 7]);
-    let event = Event::Define(subscriber(&rt, 1), twice);
-    refused(&rt, &mut gateway, event, Refusal::BadDefinition);
 }
 
 // Row fan-out-of-512.

@@ -36,124 +36,9 @@ const START_DATA: [u8; 18] = [
     0x42, 0xDD,
 ];
 
-// An event by its kind, and the number of its refusal.
-#[derive(Clone, Copy, Debug, PartialEq, Eq)]
-enum Seen {
-    Announced,
-    Measured,
-    Ignored(u8),
-    Ended(u8),
-    More,
-}
-
-fn next_seen(link: &mut Link) -> Seen {
-    match link.next_event() {
-        LinkEvent::Announce(_) => Seen::Announced,
-        LinkEvent::Measure(_) => Seen::Measured,
-        LinkEvent::Ignored(refusal) => Seen::Ignored(refusal.number()),
-        LinkEvent::Ended(refusal) => Seen::Ended(refusal.number()),
-        LinkEvent::More => Seen::More,
-    }
-}
-
-fn link_7(alloc: Global) -> Result<Link, Fail> {
-    let source = PmuId::new(7).ok_or("reserved")?;
-    Ok(Link::new(alloc, source)?)
-}
-
 fn feed(rt: &impl Abort, link: &mut Link, bytes: &[u8]) {
     assert!(rt; bytes.len() <= link.room());
     link.feed(bytes);
-}
-
-// A whole frame with the right check gives this, and the source is owed this command behind it.
-fn gives(rt: &impl Abort, link: &mut Link, frame: &[u8], want: Seen, owed: Option<[u8; 18]>) {
-    feed(rt, link, frame);
-    feed(rt, link, &check(frame).to_be_bytes());
-    same(rt, next_seen(link), want);
-    same(rt, next_seen(link), Seen::More);
-    same(rt, link.next_out(), owed);
-    assert!(rt; link.next_out().is_none());
-}
-
-#[test]
-fn data_waits_for_configuration(rt: HostRuntime) -> Result<(), Fail> {
-    let mut link = link_7(rt.alloc())?;
-    same(&rt, link.next_out(), Some(SEND_CONFIG));
-    gives(&rt, &mut link, &DATA_7, Seen::Ignored(18), None);
-    // A block's IDCODE may be any.
-    let mut other_block = CONFIG_7;
-    other_block[37] = 8;
-    gives(
-        &rt,
-        &mut link,
-        &other_block,
-        Seen::Announced,
-        Some(START_DATA),
-    );
-    Ok(())
-}
-
-#[test]
-fn refusals_and_triggers(rt: HostRuntime) -> Result<(), Fail> {
-    let alloc = rt.alloc();
-    let mut link = link_7(alloc)?;
-    same(&rt, link.next_out(), Some(SEND_CONFIG));
-    let (mut two, mut none, mut no_base, mut first) = (CONFIG_7, CONFIG_7, CONFIG_7, CONFIG_7);
-    two[19] = 2;
-    none[19] = 0;
-    no_base[15] = 0;
-    no_base[16] = 0;
-    no_base[17] = 0;
-    first[1] = 0x22;
-    for (frame, number) in [(two, 8), (none, 14), (no_base, 38), (first, 7)] {
-        gives(&rt, &mut link, &frame, Seen::Ignored(number), None);
-    }
-    gives(&rt, &mut link, &CONFIG_7, Seen::Announced, Some(START_DATA));
-    // 28 bytes with its check.
-    let mut longer = Vec::from_slice(alloc, &DATA_7)?;
-    longer.extend_from_slice(&[0, 0])?;
-    assert!(rt; longer.len() > 3);
-    longer[3] = 28;
-    gives(&rt, &mut link, &longer, Seen::Ignored(8), Some(SEND_CONFIG));
-    gives(&rt, &mut link, &longer, Seen::Ignored(8), None);
-    gives(&rt, &mut link, &CONFIG_7, Seen::Announced, None);
-    let mut changing = DATA_7;
-    changing[14] = 4;
-    gives(&rt, &mut link, &changing, Seen::Measured, None);
-    gives(&rt, &mut link, &DATA_7, Seen::Measured, Some(SEND_CONFIG));
-    let reasons = link.stats().by_reason;
-    same(
-        &rt,
-        (
-            link.stats().taken,
-            reasons[7],
-            reasons[8],
-            reasons[14],
-            reasons[38],
-        ),
-        (4, 1, 3, 1, 1),
-    );
-    Ok(())
-}
-
-// Skipped frames answer, a break is told again and again and not counted, and a reset starts anew but for the counters.
-#[test]
-fn breaks_and_resets(rt: HostRuntime) -> Result<(), Fail> {
-    let mut link = link_7(rt.alloc())?;
-    feed(&rt, &mut link, &CONFIG_7);
-    feed(&rt, &mut link, &[0, 0, 0xAB]);
-    same(&rt, next_seen(&mut link), Seen::Ignored(5));
-    same(&rt, next_seen(&mut link), Seen::Ended(2));
-    feed(&rt, &mut link, &DATA_7);
-    same(&rt, next_seen(&mut link), Seen::Ended(2));
-    same(&rt, link.next_out(), Some(SEND_CONFIG));
-    link.reset();
-    same(&rt, link.next_out(), Some(SEND_CONFIG));
-    gives(&rt, &mut link, &CONFIG_7, Seen::Announced, Some(START_DATA));
-    let reasons = link.stats().by_reason;
-    same(&rt, (link.stats().taken, reasons[2], reasons[5]), (1, 0, 1));
-    Ok(())
 }
 
 // These frames with their checks.
@@ -194,7 +79,7 @@ fn burst_in_the_memory_of_the_last(rt: HostRuntime) {
     let alloc = rt.alloc();
     let mut link = Link::new(alloc, PmuId::new(7).expect(&rt, "reserved")).expect(&rt, "memory");
     feed(&rt, &mut link, &framed(&rt, alloc, &[&CONFIG_7]));
-    same(&rt, next_seen(&mut link), Seen::Announced);
+    assert!(&rt; matches!(link.next_event(), LinkEvent::Announce(_)));
     let bytes = framed(&rt, alloc, &[&DATA_7, &DATA_7, &DATA_7]);
     feed(&rt, &mut link, &bytes);
     burst(&rt, &mut link);
@@ -202,7 +87,7 @@ fn burst_in_the_memory_of_the_last(rt: HostRuntime) {
     let held = all_memory(alloc).expect(&rt, "a list of it");
     burst(&rt, &mut link);
     drop(held);
-    same(&rt, next_seen(&mut link), Seen::More);
+    assert!(&rt; matches!(link.next_event(), LinkEvent::More));
 }
 
 // A gate that tells what it was posted, so that what `run_link` ensures of the posts is no empty word. Nobody is there for a
@@ -435,52 +320,4 @@ fn gate_hands_out_chunks(rt: HostRuntime) {
         }
     }
     same(&rt, (gate.drains, gate.calls.len()), (3, 3));
-}
-
-// What a reset link first tells of these bytes, and how it goes on.
-fn first_two(rt: &impl Abort, link: &mut Link, bytes: &[u8]) -> (Seen, Seen) {
-    link.reset();
-    feed(rt, link, bytes);
-    (next_seen(link), next_seen(link))
-}
-
-// Every prefix of a frame is taken as one that has begun, and every byte that is changed is seen: it breaks the stream, makes
-// the frame longer, or is found by the check.
-#[test]
-fn hostile_bytes(rt: HostRuntime) {
-    let alloc = rt.alloc();
-    let mut link = Link::new(alloc, PmuId::new(7).expect(&rt, "reserved")).expect(&rt, "memory");
-    for body in [&CONFIG_7[..], &DATA_7[..]] {
-        let mut frame = framed(&rt, alloc, &[body]);
-        for i in 0..frame.len() {
-            assert!(rt; i < frame.len());
-            same(
-                &rt,
-                first_two(&rt, &mut link, &frame[..i]),
-                (Seen::More, Seen::More),
-            );
-            frame[i] ^= 0x80;
-            let want = match i {
-                0 => (Seen::Ended(2), Seen::Ended(2)),
-                1 => (Seen::Ended(3), Seen::Ended(3)),
-                2 | 3 => (Seen::More, Seen::More),
-                _ => (Seen::Ignored(5), Seen::More),
-            };
-            assert_eq!(rt; first_two(&rt, &mut link, &frame), want, "byte {i}");
-            frame[i] ^= 0x80;
-        }
-    }
-    let longest = [0xAA, 0x32, 0xFF, 0xFF];
-    same(
-        &rt,
-        first_two(&rt, &mut link, &longest),
-        (Seen::More, Seen::More),
-    );
-    let mut flood = Vec::new(alloc);
-    flood.resize(65_535, 0xAA).expect(&rt, "memory");
-    same(
-        &rt,
-        first_two(&rt, &mut link, &flood),
-        (Seen::Ended(3), Seen::Ended(3)),
-    );
 }

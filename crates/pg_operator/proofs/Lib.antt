@@ -1,6 +1,5 @@
-pub mod NoVerb
-pub mod Cutting
-pub mod Numerals
-pub mod Digits
-pub mod Counts
-pub mod HexLanes
+pub mod Keys
+pub mod Lists
+pub mod Plans
+pub mod Labels
+pub mod Sources

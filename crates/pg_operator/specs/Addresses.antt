@@ -1,41 +1,49 @@
--- Addresses, as lines and the setup file write them.
-use Rattle.std.specs.Prelude.{ℕ, [], ◌∷◌, Option, option_map, option_and_then}
-use Rattle.std.specs.Int.{w32, from_be_bytes}
-use Rattle.std.specs.Net.Addr.{ipv4_bits}
-use Rattle.std.specs.Net.Socket.{v4_ip, v4_port}
-use Rattle.std.specs.declared.net.socket_addr.SocketAddrV4.{SocketAddrV4}
-use Rattle.pg_operator.specs.Words.{Text, number_in, halves}
+-- Names of hosts, addresses and networks, as the setup file writes them.
+use Rattle.std.specs.Prelude.{ℕ, ◌-◌, ◌==◌, ◌&&◌, ◌||◌, Bool, false, not, List, [], ◌∷◌, length, Option, Some, None, is_some, option_map, option_and_then, nat_lt, nat_le, slice_index}
+use Rattle.std.specs.Char.{is_ascii_alphanumeric, is_ascii_digit}
+use Rattle.std.specs.List.{list_all, slice_split}
+use Rattle.std.specs.Option.{option_map_or}
+use Rattle.pg_limits.specs.Hosts.{Net}
+use Rattle.pg_lines.specs.Words.{Text, number_in, halves}
+use Rattle.pg_lines.specs.Addresses.{host_in}
 
--- ---- `A.B.C.D`
+-- ---- names of hosts
 
--- one of its four numbers
-abbrev pub part_in : Text → Option ℕ
-part_in = number_in 0 255
+-- letters, digits and the hyphen (45)
+abbrev pub is_label_byte : ℕ → Bool
+is_label_byte b = is_ascii_alphanumeric b || b == 45
 
--- the address as a number of 32 bits, of which the first part is the highest
-abbrev pub bits_of : ℕ → ℕ → ℕ → ℕ → ℕ
-bits_of a b c d = from_be_bytes w32 (a ∷ b ∷ c ∷ d ∷ [])
+-- one to 63 of these, of which neither the first nor the last is a hyphen
+abbrev pub is_label : Text → Bool
+is_label w =
+    (nat_lt 0 (length w) && nat_le (length w) 63) && (not (slice_index w 0 == 45) && (not (slice_index w (length w - 1) == 45) && list_all is_label_byte w))
 
-abbrev pub parts_in : Text → Text → Text → Text → Option ℕ
-parts_in v w x y =
-    option_and_then (λ a. option_and_then (λ b. option_and_then (λ c. option_map (bits_of a b c) (part_in y)) (part_in x)) (part_in w)) (part_in v)
+-- what stands between dots
+abbrev pub labels_of : Text → List Text
+labels_of w = slice_split (λ b. b == 46) w
 
--- the dot is 46
-abbrev pub host_in : Text → Option ℕ
-host_in w =
-    option_and_then (λ a. option_and_then (λ b. option_and_then (λ c. parts_in a.0 b.0 c.0 c.1) (halves 46 b.1)) (halves 46 a.1)) (halves 46 w)
+abbrev pub last_of : List Text → Text
+last_of [] = []
+last_of (w ∷ []) = w
+last_of (w ∷ x ∷ ws) = last_of (x ∷ ws)
 
--- ---- `A.B.C.D:PORT` as its host, a number of 32 bits, and its port; the colon is 58
+-- labels joined by dots, at most 253 bytes, of which the last is not digits alone
+abbrev pub is_name : Text → Bool
+is_name w = nat_le (length w) 253 && (list_all is_label (labels_of w) && not (list_all is_ascii_digit (last_of (labels_of w))))
 
-abbrev pub Endpoint : Type 0
-Endpoint = ℕ × ℕ
+-- ---- `A.B.C.D:PORT` and `NAME:PORT`; the colon is 58
 
-abbrev pub port_in : Text → Option ℕ
-port_in = number_in 1 65535
+abbrev pub is_address : Text → Bool
+is_address w = option_map_or (λ p. (is_some (host_in p.0) || is_name p.0) && is_some (number_in 1 65535 p.1)) (halves 58 w) false
 
-abbrev pub endpoint_in : Text → Option Endpoint
-endpoint_in w = option_and_then (λ p. option_and_then (λ host. option_map (λ port. (host, port)) (port_in p.1)) (host_in p.0)) (halves 58 w)
+-- ---- `A.B.C.D/BITS`, or `A.B.C.D` alone, which is one host; the slash is 47
 
--- the same, of an address that was read
-abbrev pub endpoint : SocketAddrV4 → Endpoint
-endpoint a = (ipv4_bits (v4_ip a), v4_port a)
+abbrev pub net_of : ℕ → ℕ → Net
+net_of address bits = record { address = address; bits = bits }
+
+abbrev pub network_by : Text → Option (Text × Text) → Option Net
+network_by w None = option_map (λ address. net_of address 32) (host_in w)
+network_by w (Some p) = option_and_then (λ address. option_map (net_of address) (number_in 0 32 p.1)) (host_in p.0)
+
+abbrev pub network_in : Text → Option Net
+network_in w = network_by w (halves 47 w)

@@ -1,8 +1,3 @@
--- Definitions that the contracts of lines cite, in the order in which to read them.
-pub mod Words
-pub mod Verbs
-pub mod Lines
+-- Definitions that the contracts of the setup file cite, in the order in which to read them.
 pub mod Addresses
-pub mod Steers
--- only private contracts and proofs use these
-pub mod HexLanes
+pub mod Setups

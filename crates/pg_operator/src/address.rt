@@ -1,58 +1,135 @@
-//! Addresses, as lines and the setup file write them (own rules).
-ghost use Rattle.std.specs.Prelude.{◌≡◌, option_map};
+//! Names of hosts, addresses and networks, as the setup file writes them (own rules).
+ghost use Rattle.std.specs.Prelude.{◌≡◌, Some, None, option_map};
+ghost use Rattle.std.specs.Char.{is_ascii_digit};
+ghost use Rattle.std.specs.List.{list_all};
 ghost use Rattle.std.specs.Net.Addr.{ipv4_bits};
-ghost use Rattle.pg_operator.specs.Addresses.{endpoint, endpoint_in, host_in, part_in, parts_in, port_in};
+ghost use Rattle.toml.specs.View.{view};
+ghost use Rattle.pg_lines.specs.Addresses.{endpoint};
+ghost use Rattle.pg_operator.specs.Addresses.{is_address, is_label, is_label_byte, is_name, labels_of, last_of, network_by, network_in};
+ghost use Rattle.pg_operator.specs.Setups.{address_in, endpoint_text_in, host_text_in, network_text_in};
 
-use crate::words;
+use pg_limits::Network;
+use pg_lines::address::{endpoint, host};
+use pg_lines::words;
 use std::net::{Ipv4Addr, SocketAddrV4};
+use toml::Value;
 
-/// One of the four numbers of an address.
-fn part(word: &str) -> Option<u8>
-    ensures { result ≡ part_in word.now }
+/// The most bytes of a host's name, and of a label in it.
+const NAME_LIMIT: usize = 253;
+
+const LABEL_LIMIT: usize = 63;
+
+/// A letter, a digit or a hyphen.
+fn is_label_byte(byte: u8) -> bool
+    ensures { result ≡ is_label_byte byte }
 {
-    match words::number(word, 0, 255) {
-        Some(number) => Some(number as u8),
-        None => None,
+    byte.is_ascii_alphanumeric() || byte == b'-'
+}
+
+fn all_label_bytes(label: &[u8]) -> bool
+    ensures { result ≡ list_all is_label_byte label.now }
+{
+    label.iter().all(|byte| is_label_byte(*byte))
+}
+
+/// One to 63 letters, digits and hyphens, with no hyphen at either end.
+fn is_label(label: &str) -> bool
+    ensures { result ≡ is_label label.now }
+{
+    let bytes = label.as_bytes();
+    if bytes.is_empty() || bytes.len() > LABEL_LIMIT {
+        return false;
+    }
+    if bytes[0] == b'-' || bytes[bytes.len() - 1] == b'-' {
+        return false;
+    }
+    all_label_bytes(bytes)
+}
+
+/// Whether labels stand between the dots.
+fn all_labels(word: &str) -> bool
+    ensures { result ≡ list_all is_label (labels_of word.now) }
+{
+    word.split('.').all(|label| is_label(label))
+}
+
+/// Whether nothing but digits stands behind the last dot, or in the whole text where there is none.
+fn ends_in_digits(bytes: &[u8]) -> bool
+    ensures { result ≡ list_all is_ascii_digit (last_of (labels_of bytes.now)) }
+{
+    let mut digits = true;
+    'bytes: for byte in bytes {
+        digits = *byte == b'.' || (digits && byte.is_ascii_digit());
+    }
+    digits
+}
+
+/// The name of a host: labels joined by dots, of which the last is not digits alone.
+fn is_name(word: &str) -> bool
+    ensures { result ≡ is_name word.now }
+{
+    word.len() <= NAME_LIMIT && all_labels(word) && !ends_in_digits(word.as_bytes())
+}
+
+/// `A.B.C.D:PORT` or `NAME:PORT`.
+fn is_address(word: &str) -> bool
+    ensures { result ≡ is_address word.now }
+{
+    let Some((name, port)) = words::halves(word, ':') else {
+        return false;
+    };
+    (host(name).is_some() || is_name(name)) && words::number(port, 1, 65535).is_some()
+}
+
+/// The text of an address that is called.
+pub(crate) fn called(value: &Value) -> Option<&str>
+    ensures { option_map (λ s. s.now) result ≡ address_in (view value.now) }
+{
+    match value {
+        Value::String(text) if is_address(text.as_str()) => Some(text.as_str()),
+        _ => None,
     }
 }
 
-/// The address of four numbers.
-fn of_parts(a: &str, b: &str, c: &str, d: &str) -> Option<Ipv4Addr>
-    ensures { option_map (λ h. ipv4_bits h) result ≡ parts_in a.now b.now c.now d.now }
+/// The address of this machine that a port is bound on.
+pub(crate) fn bound(value: &Value) -> Option<Ipv4Addr>
+    ensures { option_map (λ h. ipv4_bits h) result ≡ host_text_in (view value.now) }
 {
-    let a = part(a)?;
-    let b = part(b)?;
-    let c = part(c)?;
-    let d = part(d)?;
-    Some(Ipv4Addr::new(a, b, c, d))
-}
-
-/// `A.B.C.D`: four numbers, each 0 to 255.
-pub fn host(word: &str) -> Option<Ipv4Addr>
-    ensures { option_map (λ h. ipv4_bits h) result ≡ host_in word.now }
-{
-    let (a, rest) = words::halves(word, '.')?;
-    let (b, rest) = words::halves(rest, '.')?;
-    let (c, d) = words::halves(rest, '.')?;
-    of_parts(a, b, c, d)
-}
-
-/// A port: 1 to 65535.
-pub fn port(word: &str) -> Option<u16>
-    ensures { result ≡ port_in word.now }
-{
-    match words::number(word, 1, 65535) {
-        Some(number) => Some(number as u16),
-        None => None,
+    match value {
+        Value::String(text) => host(text.as_str()),
+        _ => None,
     }
 }
 
-/// `A.B.C.D:PORT`, as `host` and `port` read them.
-pub fn endpoint(word: &str) -> Option<SocketAddrV4>
-    ensures { option_map (λ a. endpoint a) result ≡ endpoint_in word.now }
+/// The address of this machine that a page is served on.
+pub(crate) fn served(value: &Value) -> Option<SocketAddrV4>
+    ensures { option_map (λ a. endpoint a) result ≡ endpoint_text_in (view value.now) }
 {
-    let (name, number) = words::halves(word, ':')?;
-    let host = host(name)?;
-    let port = port(number)?;
-    Some(SocketAddrV4::new(host, port))
+    match value {
+        Value::String(text) => endpoint(text.as_str()),
+        _ => None,
+    }
+}
+
+/// `A.B.C.D/BITS`, or `A.B.C.D` alone.
+fn network_of(word: &str) -> Option<Network>
+    ensures { result ≡ network_in word.now }
+{
+    let Some((address, bits)) = words::halves(word, '/') else {
+        let address = host(word)?;
+        return Some(Network::new(address, 32));
+    };
+    let address = host(address)?;
+    let bits = words::number(bits, 0, 32)?;
+    Some(Network::new(address, bits as u8))
+}
+
+/// A network of hosts that may connect.
+pub(crate) fn network(value: &Value) -> Option<Network>
+    ensures { result ≡ network_text_in (view value.now) }
+{
+    match value {
+        Value::String(text) => network_of(text.as_str()),
+        _ => None,
+    }
 }

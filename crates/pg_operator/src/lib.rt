@@ -1,13 +1,24 @@
-//! What an operator writes: lines, one edit each, and the words of lines and of the setup file.
+//! What an operator writes: lines, and the setup file with what it asks for and what is wrong with it. Lines are read by pg_lines,
+//! whose names stand here too; a program that needs no setup file stands on that crate alone.
 #![tactic(auto)]
 
-pub mod address;
-mod define;
-mod line;
-mod steer;
-mod verb;
-pub mod words;
+mod address;
+mod door;
+mod faults;
+mod general;
+mod kind;
+mod place;
+mod pmu;
+mod setup;
+mod source;
+mod stream;
+mod table;
 
-pub use define::Numbers;
-pub use line::{parse_line, words_of};
-pub use steer::{Steer, parse_steer};
+pub use door::PortRules;
+pub use faults::{Fault, Wrong, setup_faults};
+pub use general::LogLevel;
+pub use kind::{Found, Heading, Kind, Misfit};
+pub use pg_lines::{Steer, parse_line, parse_steer, words_of};
+pub use place::{BoundBy, line_of_key};
+pub use setup::{Setup, read_setup};
+pub use source::SourceRules;

@@ -98,7 +98,8 @@ fn checked_setups(rt: HostRuntime) {
             same(&rt, trouble.refusal, Refusal::BadSetup);
             let told =
                 "s.toml:1: tick_ms: is the number 0; it has to be a whole number from 1 to 1000\n";
-            same(&rt, trouble.told.as_str(), told);
+            let printed = format!(in alloc; "{trouble}").expect(&rt, "memory");
+            same(&rt, printed.as_str(), told);
         }
     }
 }

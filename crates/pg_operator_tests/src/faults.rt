@@ -2,7 +2,7 @@
 //! parted by a line of hyphens. Where nothing stands behind `=>` the file is right.
 
 use crate::asserts::same;
-use pg_setup::{Fault, read_setup, setup_faults};
+use pg_operator::{Fault, read_setup, setup_faults};
 use pg_wire::Refusal;
 use std::alloc::Global;
 use std::process::Abort;

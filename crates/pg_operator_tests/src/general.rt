@@ -2,7 +2,7 @@
 
 use crate::asserts::same;
 use crate::tests::keys_in_lines;
-use pg_setup::{LogLevel, Setup, read_setup};
+use pg_operator::{LogLevel, Setup, read_setup};
 use pg_wire::Refusal;
 use std::alloc::{AllocError, Global};
 use std::process::Abort;

@@ -1,4 +1,4 @@
-//! Tests of pg_operator, pg_setup and pg_check, as their callers see them. They stand in a crate of their own, so that the gate proves each of these once.
+//! Tests of pg_operator, pg_operator and pg_check, as their callers see them. They stand in a crate of their own, so that the gate proves each of these once.
 #![tactic(auto)]
 
 #[cfg(test)]

@@ -1,6 +1,6 @@
 //! The lines of the keys of a setup file that ask to bind.
 
-use pg_setup::{BoundBy, line_of_key};
+use pg_operator::{BoundBy, line_of_key};
 use pg_wire::SubId;
 use std::process::Abort;
 use std::test::*;

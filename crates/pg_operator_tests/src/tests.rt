@@ -1,51 +1,12 @@
 use crate::asserts::same;
-use pg_gateway::Edit;
-use pg_operator::{parse_line, words};
-use pg_setup::{Setup, read_setup};
-use pg_wire::{PmuKey, Refusal};
+use pg_fakes::edit_line;
+use pg_lines::words;
+use pg_operator::{Setup, parse_line, read_setup};
+use pg_wire::Refusal;
 use std::alloc::{AllocError, Global};
 use std::net::Ipv4Addr;
 use std::process::Abort;
 use std::test::*;
-
-/// A key as it is written.
-fn key(alloc: Global, key: &PmuKey) -> Result<String, AllocError> {
-    format!(in alloc; "{}/{}", key.source.get(), key.pmu.get())
-}
-
-/// An edit as a line, with each key as `S/P`, the limit in bytes, and the header as the number of its bytes.
-fn told(alloc: Global, edit: &Edit) -> Result<String, AllocError> {
-    match edit {
-        Edit::AddPmu(pmu) => format!(in alloc; "addpmu {}", key(alloc, pmu)?),
-        Edit::DropPmu(pmu) => format!(in alloc; "droppmu {}", key(alloc, pmu)?),
-        Edit::AddSub(id, size, bytes) => {
-            format!(in alloc; "addsub {} {} {}", id.get(), size.get(), bytes.get())
-        }
-        Edit::DropSub(id) => format!(in alloc; "dropsub {}", id.get()),
-        Edit::Grant(id, pmu) => format!(in alloc; "grant {} {}", id.get(), key(alloc, pmu)?),
-        Edit::Revoke(id, pmu) => format!(in alloc; "revoke {} {}", id.get(), key(alloc, pmu)?),
-        Edit::Define(id, made) => {
-            let mut text = format!(in alloc;
-                "define {} {} {} {} {} {} {}",
-                id.get(),
-                made.stream.get(),
-                made.rate,
-                made.base,
-                made.wait,
-                made.window,
-                made.header.as_slice().len()
-            )?;
-            for pmu in made.members.as_slice() {
-                text = format!(in alloc; "{} {}", text, key(alloc, pmu)?)?;
-            }
-            Ok(text)
-        }
-        Edit::Remove(id, stream) => format!(in alloc; "remove {} {}", id.get(), stream.get()),
-        Edit::Stats(id) => format!(in alloc; "stats {}", id.get()),
-        Edit::PmuStats(pmu) => format!(in alloc; "pmustats {}", key(alloc, pmu)?),
-        Edit::Audit(id, index) => format!(in alloc; "audit {} {}", id.get(), index),
-    }
-}
 
 /// Lines, each with what it asks for behind ` => `; nothing stands there where it is `BadLine`. The worked rows come first, then
 /// words and spaces, numbers, keys, rings, the other verbs, and definitions, whose limits are not looked at.
@@ -112,9 +73,9 @@ stats => \n\
 audit 1 0 => audit 1 0\n\
 audit 1 63 => audit 1 63\n\
 audit 1 64 => \n\
-define 1 101 30 1000000 0 4 none 7 => define 1 101 30 1000000 0 4 0 7/7\n\
-define 1 101 255 4294967295 4294967295 4294967295 00fF 7 7/7 3/8 => define 1 101 255 4294967295 4294967295 4294967295 2 7/7 7/7 3/8\n\
-define 1 101 0 0 0 0 80 7 => define 1 101 0 0 0 0 1 7/7\n\
+define 1 101 30 1000000 0 4 none 7 => define 1 101 30 1000000 0 4 none 7/7\n\
+define 1 101 255 4294967295 4294967295 4294967295 00fF 7 7/7 3/8 => define 1 101 255 4294967295 4294967295 4294967295 00FF 7/7 7/7 3/8\n\
+define 1 101 0 0 0 0 80 7 => define 1 101 0 0 0 0 80 7/7\n\
 define 1 101 256 1 0 4 none 7 => \n\
 define 1 101 30 4294967296 0 4 none 7 => \n\
 define 1 101 30 1000000 0 4 none => \n\
@@ -131,7 +92,7 @@ fn lines_and_setup_lines(rt: HostRuntime) -> Result<(), Fail> {
     for row in LINES.split('\n') {
         let (line, want) = row.split_once(" => ").ok_or("a row")?;
         let got = match parse_line(rt.alloc(), line) {
-            Ok(edit) => told(rt.alloc(), &edit)?,
+            Ok(edit) => edit_line(rt.alloc(), &edit)?,
             Err(refusal) => {
                 same(&rt, refusal, Refusal::BadLine);
                 String::new(rt.alloc())
@@ -150,7 +111,7 @@ const SETUP: &str =
 fn setup_told(alloc: Global, setup: &Setup) -> Result<String, AllocError> {
     let mut text = String::new(alloc);
     for edit in setup.edits.as_slice() {
-        text = format!(in alloc; "{}{}; ", text, told(alloc, edit)?)?;
+        text = format!(in alloc; "{}{}; ", text, edit_line(alloc, edit)?)?;
     }
     for link in setup.links.as_slice() {
         text = format!(in alloc; "{}link {} {}; ", text, link.0.get(), link.1)?;
@@ -173,7 +134,7 @@ fn lines_and_setup_file(rt: HostRuntime) -> Result<(), Fail> {
     same(
         &rt,
         got.as_str(),
-        "addpmu 7/7; addsub 1 64 16777216; grant 1 7/7; define 1 101 30 1000000 2 4 0 7/7; link 7 127.0.0.1:4712; port 1 4800; 10 1 1",
+        "addpmu 7/7; addsub 1 64 16777216; grant 1 7/7; define 1 101 30 1000000 2 4 none 7/7; link 7 127.0.0.1:4712; port 1 4800; 10 1 1",
     );
     Ok(())
 }
@@ -541,7 +502,7 @@ wait=0\n\
 window=4\n\
 members=[7, \"3/8\"]\n\
 header=\"ab\"\n\
-=>addpmu 7/7; addsub 1 4 16777216; grant 1 7/7; define 1 1 30 100 0 4 2 7/7 3/8; 10 1 1\n\
+=>addpmu 7/7; addsub 1 4 16777216; grant 1 7/7; define 1 1 30 100 0 4 6162 7/7 3/8; 10 1 1\n\
 ====\n\
 [[pmu]]\n\
 id=7\n\

@@ -6,11 +6,11 @@ use mathlib.Core.List.{IsPrefix}
 use Rattle.pg_turn.specs.Turns.{IsLonger}
 use Rattle.pg_gateway.specs.State.{opening}
 use Rattle.pg_gateway.specs.Histories.{Legal}
-use Rattle.pg_serve.specs.Both.{DeliversIn, IsServed}
-use Rattle.pg_serve.specs.Delivery.{Delivers, HasHeard}
-use Rattle.pg_serve.specs.Sharing.{Call, history_of}
-use Rattle.pg_serve.specs.Gates.{said_at}
-use Rattle.pg_serve.specs.Onward.{GoesOn, calls_in}
+use Rattle.pg_shared.specs.Both.{DeliversIn, IsServed}
+use Rattle.pg_shared.specs.Delivery.{Delivers, HasHeard}
+use Rattle.pg_shared.specs.Sharing.{Call, history_of}
+use Rattle.pg_shared.specs.Gates.{said_at}
+use Rattle.pg_shared.specs.Onward.{GoesOn, calls_in}
 use Rattle.pg_proof_service.specs.Since.{going_on}
 use Rattle.pg_proof_service.specs.Threads.{Seat, beside}
 

@@ -5,8 +5,8 @@ use Rattle.pg_gateway.specs.Occurrences.{Occurrence, occurrence}
 use Rattle.pg_gateway.specs.State.{SharedMachine, opening}
 use Rattle.pg_gateway.specs.Laws.{after}
 use Rattle.pg_gateway.specs.Views.{Seen, takes, part, shared_step, shared_run, view}
-use Rattle.pg_serve.specs.Sharing.{Call}
-use Rattle.pg_serve.specs.Delivery.{events_in}
+use Rattle.pg_shared.specs.Sharing.{Call}
+use Rattle.pg_shared.specs.Delivery.{events_in}
 use Rattle.pg_proof_service.specs.Since.{SeesNoConnect, ConnectsLast}
 
 events_more : (a b : List Call) → events_in (a ++ b) ≡ events_in a ++ events_in b

@@ -10,9 +10,9 @@ use Rattle.pg_gateway.specs.State.{opening}
 use Rattle.pg_gateway.specs.Histories.{Legal}
 use Rattle.pg_gateway.specs.Laws.{after, answers_of}
 use Rattle.pg_gateway.specs.Views.{Seen, takes, view, AllLossless}
-use Rattle.pg_serve.specs.Sharing.{Call, history_of}
-use Rattle.pg_serve.specs.Onward.{calls_in}
-use Rattle.pg_serve.specs.Delivery.{events_in, OwnDrains, Delivers, HasHeard}
+use Rattle.pg_shared.specs.Sharing.{Call, history_of}
+use Rattle.pg_shared.specs.Onward.{calls_in}
+use Rattle.pg_shared.specs.Delivery.{events_in, OwnDrains, Delivers, HasHeard}
 
 -- a seat once others made these calls, and then it made this one
 abbrev pub going_on : Known Event Reply → List Call → Call → Known Event Reply

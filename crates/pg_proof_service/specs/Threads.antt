@@ -6,7 +6,7 @@ use Rattle.pg_gateway.specs.declared.event.Event.{Event}
 use Rattle.pg_gateway.specs.declared.event.Reply.{Reply}
 use Rattle.pg_gateway.specs.State.{opening}
 use Rattle.pg_gateway.specs.Histories.{Legal}
-use Rattle.pg_serve.specs.Sharing.{history_of}
+use Rattle.pg_shared.specs.Sharing.{history_of}
 
 abbrev pub Seat : Type 0
 Seat = Known Event Reply

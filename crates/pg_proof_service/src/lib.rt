@@ -4,23 +4,23 @@
 
 ghost use Rattle.std.specs.Prelude.{◌≡◌, ℕ, List, [], Option, Some, IfOk, IfErr};
 ghost use Rattle.pg_session.specs.Commands.{Hearing, Item, ShowsHearing};
-ghost use Rattle.pg_serve.specs.Both.{DeliverAlike, IsServed};
-ghost use Rattle.pg_serve.specs.Delivery.{Delivers, Hears, HasHeard};
-ghost use Rattle.pg_serve.specs.Gates.{said_at};
-ghost use Rattle.pg_serve.specs.Onward.{GoesOn};
-ghost use Rattle.pg_serve.specs.Serving.{Served as ServedSo};
-ghost use Rattle.pg_serve.specs.Telling.{Tells, HasTold};
+ghost use Rattle.pg_shared.specs.Both.{DeliverAlike, IsServed};
+ghost use Rattle.pg_shared.specs.Delivery.{Delivers, Hears, HasHeard};
+ghost use Rattle.pg_shared.specs.Gates.{said_at};
+ghost use Rattle.pg_shared.specs.Onward.{GoesOn};
+ghost use Rattle.pg_shared.specs.Serving.{Served as ServedSo};
+ghost use Rattle.pg_shared.specs.Telling.{Tells, HasTold};
 ghost use Rattle.pg_proof_service.specs.Fed.{IsFed};
 ghost use Rattle.pg_proof_service.specs.Since.{Connects, SinceConnect, ViewsDecide};
 ghost use Rattle.pg_proof_service.specs.Threads.{TwoThreads};
 
 use pg_gateway::{Event, Gate};
 use pg_ingest::{End, Link, run_link};
-use pg_serve::{
+use pg_session::Session;
+use pg_shared::{
     Named, Seat, Shared, SharedGate, deliveries_agree, deliveries_go_on, links_tell_on,
     serve_session,
 };
-use pg_session::Session;
 use pg_wire::{PmuId, Refusal, SubId};
 use std::alloc::Global;
 use std::io::{Read, Write};

@@ -5,7 +5,7 @@ use Rattle.std.proofs.lemmas.List.Folds.{list_any-append}
 use Rattle.std.specs.Prelude.{if◌then◌else◌, ◌==◌, ◌&&◌, ◌||◌, nat_eq}
 use Rattle.std.specs.Option.{option_eq}
 use Rattle.std.specs.List.{cons_option, filter_map, list_any}
-use Rattle.pg_setup.specs.declared.source.SourceRules.{SourceRules}
+use Rattle.pg_operator.specs.declared.source.SourceRules.{SourceRules}
 use Rattle.pg_reload.specs.declared.orders.Call.{Call}
 use Rattle.pg_reload.specs.declared.ports.Port.{Port}
 use Rattle.pg_limits.specs.Hosts.{Net}

@@ -3,7 +3,7 @@ use Rattle.std.specs.Prelude.{◌≡◌, true, false, ℕ, ◌==◌, ◌&&◌, �
 use Rattle.std.specs.List.{list_any, filter_map}
 use Rattle.std.specs.Option.{option_eq, unwrap_or}
 use Rattle.std.specs.Str.{bytes_eq}
-use Rattle.pg_setup.specs.declared.source.SourceRules.{SourceRules}
+use Rattle.pg_operator.specs.declared.source.SourceRules.{SourceRules}
 use Rattle.pg_reload.specs.declared.orders.Call.{Call}
 use Rattle.pg_reload.specs.Ports.{Opened, is_open, opened_of}
 use Rattle.pg_reload.specs.declared.orders.Order.{Order}

@@ -3,7 +3,7 @@ use Rattle.std.specs.Prelude.{ℕ, ◌==◌, ◌&&◌, Bool, true, false, List, 
 use Rattle.std.specs.Cmp.Lexicographic.{pointwise}
 use Rattle.std.specs.List.{list_any, filter_map}
 use Rattle.pg_limits.specs.Hosts.{Net}
-use Rattle.pg_setup.specs.Setups.{Door, door_of}
+use Rattle.pg_operator.specs.Setups.{Door, door_of}
 use Rattle.pg_reload.specs.declared.ports.Port.{Port}
 
 -- a subscriber's port, and its rules

@@ -2,9 +2,9 @@
 use Rattle.std.specs.Prelude.{ℕ, ◌==◌, ◌&&◌, ◌++◌, Bool, List, [], ◌∷◌, Option, option_map, if◌then◌else◌, string_bytes}
 use Rattle.std.specs.Option.{option_eq}
 use Rattle.std.specs.Str.{bytes_eq}
-use Rattle.pg_setup.specs.declared.setup.Setup.{Setup}
-use Rattle.pg_operator.specs.Addresses.{Endpoint, endpoint}
-use Rattle.pg_operator.specs.Words.{Text}
+use Rattle.pg_operator.specs.declared.setup.Setup.{Setup}
+use Rattle.pg_lines.specs.Addresses.{Endpoint, endpoint}
+use Rattle.pg_lines.specs.Words.{Text}
 use Rattle.pg_reload.specs.declared.restarts.Restart.{Restart}
 use Rattle.pg_reload.specs.declared.restarts.Restart.TheVariants.{TickMs, Ingest, Serve, Control, Status}
 

@@ -6,14 +6,14 @@ ghost use Rattle.pg_reload.specs.Edits.{edits_between};
 ghost use Rattle.pg_reload.specs.Leading.{IsSound, LeadsFrom};
 ghost use Rattle.pg_reload.specs.Orders.{SameCalls, SamePorts, calls_by, is_about, is_of, orders_between, port_orders_between, told};
 ghost use Rattle.pg_reload.specs.Ports.{ports_by};
-ghost use Rattle.pg_setup.specs.Setups.{door_of};
+ghost use Rattle.pg_operator.specs.Setups.{door_of};
 ghost use Rattle.pg_reload.specs.Restarts.{keys_of, restarts_between};
 
 use crate::orders::{self, Order};
 use crate::restarts::{self, Restart};
 use crate::{ports, steps};
 use pg_gateway::Edit;
-use pg_setup::Setup;
+use pg_operator::Setup;
 use pg_wire::Refusal;
 use std::alloc::Global;
 

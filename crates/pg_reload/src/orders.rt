@@ -4,7 +4,7 @@ ghost use Rattle.std.specs.List.{filter_map, list_any};
 ghost use Rattle.pg_reload.specs.Orders.{begun, called_by, called_eq, called_of, calls_by, ended, orders_between, rules_eq, rules_for, told};
 
 use crate::ports::Port;
-use pg_setup::{Setup, SourceRules};
+use pg_operator::{Setup, SourceRules};
 use pg_wire::{PmuId, Refusal, SubId};
 use std::alloc::Global;
 

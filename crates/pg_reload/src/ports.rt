@@ -1,13 +1,13 @@
 //! Ports that are open by one setup and not, or otherwise, by another.
 ghost use Rattle.std.specs.Prelude.{◌≡◌, ◌++◌, IfOk, IfErr, OnOk, find, map, option_map, ◌==◌, if◌then◌else◌, Some, None};
 ghost use Rattle.std.specs.List.{filter_map, list_any};
-ghost use Rattle.pg_setup.specs.Setups.{door_of};
+ghost use Rattle.pg_operator.specs.Setups.{door_of};
 ghost use Rattle.pg_reload.specs.Orders.{closed, listened_of, port_orders_between, told};
 ghost use Rattle.pg_reload.specs.Ports.{allow_eq, door_eq, opened_by, opened_eq, opened_of, ports_by};
 
 use crate::orders::Order;
 use pg_limits::Allow;
-use pg_setup::{PortRules, Setup};
+use pg_operator::{PortRules, Setup};
 use pg_wire::{Refusal, SubId};
 use std::alloc::Global;
 

@@ -2,10 +2,10 @@
 ghost use Rattle.std.specs.Prelude.{◌≡◌, ◌++◌, IfErr, OnOk, IfOk, option_map, string_bytes};
 ghost use Rattle.std.specs.Option.{option_eq};
 ghost use Rattle.std.specs.Str.{bytes_eq};
-ghost use Rattle.pg_operator.specs.Addresses.{endpoint};
+ghost use Rattle.pg_lines.specs.Addresses.{endpoint};
 ghost use Rattle.pg_reload.specs.Restarts.{endpoint_eq, keys_of, restarts_between, told_unless};
 
-use pg_setup::Setup;
+use pg_operator::Setup;
 use pg_wire::Refusal;
 use std::alloc::Global;
 use std::net::SocketAddrV4;

@@ -1,8 +1,8 @@
 use crate::asserts::same;
+use pg_fakes::edit_line;
 use pg_gateway::{Edit, Event, Gate, Gateway, Reply};
+use pg_operator::{Setup, read_setup};
 use pg_reload::{Changes, Order, Port, Restart, changes_between};
-use pg_setup::{Setup, read_setup};
-use pg_wire::PmuKey;
 use std::alloc::{AllocError, Global};
 use std::process::Abort;
 use std::test::*;
@@ -27,7 +27,7 @@ tick_ms = 10 => tick_ms = 10 ==> \n\
 { id = 8 } => { id = 8 }, { id = 9, source = 8 } ==> addpmu 8/9; \n\
 { id = 8 }, => | [7, 8] => [7] ==> droppmu 8/8; \n\
 { id = 9, source = 7 } => { id = 9 } | \"7/9\" => 9 ==> droppmu 7/9; addpmu 9/9; grant 3 9/9; \n\
-[\"7/9\"] } => [\"7/9\"] }, { id = 4, ring = 1, bytes = 16, grants = [8], stream = [{ id = 101, rate = 1, base = 1, wait = 0, window = 1, header = \"A\", members = [8] }] } ==> addsub 4 1 16; grant 4 8/8; define 4 101 1 1 0 1 A 8/8; \n\
+[\"7/9\"] } => [\"7/9\"] }, { id = 4, ring = 1, bytes = 16, grants = [8], stream = [{ id = 101, rate = 1, base = 1, wait = 0, window = 1, header = \"A\", members = [8] }] } ==> addsub 4 1 16; grant 4 8/8; define 4 101 1 1 0 1 41 8/8; \n\
 { id = 2, ring = 4, bytes = 1000, grants = [7] },  => ==> dropsub 2; \n\
 id = 2, => id = 5, ==> dropsub 2; addsub 5 4 1000; grant 5 7/7; \n\
 [7, 8] => [7] ==> revoke 1 8/8; \n\
@@ -35,16 +35,16 @@ id = 2, => id = 5, ==> dropsub 2; addsub 5 4 1000; grant 5 7/7; \n\
 [7, 8] => [7, 8, \"7/9\"] ==> grant 1 7/9; \n\
 [7, 8] => [\"7/9\", 8] ==> revoke 1 7/7; grant 1 7/9; \n\
 { id = 101, rate = 30, base = 1000000, wait = 2, window = 4, members = [7] },  => ==> remove 1 101; \n\
-members = [7] } => members = [7] }, { id = 103, rate = 5, base = 90, wait = 1, window = 3, members = [8] } ==> define 1 103 5 90 1 3 - 8/8; \n\
-id = 101, => id = 111, ==> remove 1 101; define 1 111 30 1000000 2 4 - 7/7; \n\
-rate = 30 => rate = 31 ==> remove 1 101; define 1 101 31 1000000 2 4 - 7/7; \n\
-30, base = 1000000 => 30, base = 1000001 ==> remove 1 101; define 1 101 30 1000001 2 4 - 7/7; \n\
-wait = 2, window = 4, members => wait = 3, window = 4, members ==> remove 1 101; define 1 101 30 1000000 3 4 - 7/7; \n\
-window = 4, members => window = 5, members ==> remove 1 101; define 1 101 30 1000000 2 5 - 7/7; \n\
-header = \"AB\" => header = \"AC\" ==> remove 1 102; define 1 102 10 1000000 2 4 AC 8/8 7/7; \n\
-members = [8, 7] => members = [7, 8] ==> remove 1 102; define 1 102 10 1000000 2 4 AB 7/7 8/8; \n\
-members = [8, 7] => members = [8] ==> remove 1 102; define 1 102 10 1000000 2 4 AB 8/8; \n\
-ring = 64 => ring = 65 ==> dropsub 1; addsub 1 65 16777216; grant 1 7/7; grant 1 8/8; define 1 101 30 1000000 2 4 - 7/7; define 1 102 10 1000000 2 4 AB 8/8 7/7; \n\
+members = [7] } => members = [7] }, { id = 103, rate = 5, base = 90, wait = 1, window = 3, members = [8] } ==> define 1 103 5 90 1 3 none 8/8; \n\
+id = 101, => id = 111, ==> remove 1 101; define 1 111 30 1000000 2 4 none 7/7; \n\
+rate = 30 => rate = 31 ==> remove 1 101; define 1 101 31 1000000 2 4 none 7/7; \n\
+30, base = 1000000 => 30, base = 1000001 ==> remove 1 101; define 1 101 30 1000001 2 4 none 7/7; \n\
+wait = 2, window = 4, members => wait = 3, window = 4, members ==> remove 1 101; define 1 101 30 1000000 3 4 none 7/7; \n\
+window = 4, members => window = 5, members ==> remove 1 101; define 1 101 30 1000000 2 5 none 7/7; \n\
+header = \"AB\" => header = \"AC\" ==> remove 1 102; define 1 102 10 1000000 2 4 4143 8/8 7/7; \n\
+members = [8, 7] => members = [7, 8] ==> remove 1 102; define 1 102 10 1000000 2 4 4142 7/7 8/8; \n\
+members = [8, 7] => members = [8] ==> remove 1 102; define 1 102 10 1000000 2 4 4142 8/8; \n\
+ring = 64 => ring = 65 ==> dropsub 1; addsub 1 65 16777216; grant 1 7/7; grant 1 8/8; define 1 101 30 1000000 2 4 none 7/7; define 1 102 10 1000000 2 4 4142 8/8 7/7; \n\
 bytes = 1000 => bytes = 1001 ==> dropsub 2; addsub 2 4 1001; grant 2 7/7; \n\
 bytes = 1000, grants = [7] => bytes = 1001, grants = [8] ==> dropsub 2; addsub 2 4 1001; grant 2 8/8; \n\
 [7, 8] => [8, 7] | { id = 8 }, { id = 9, source = 7 } => { id = 9, source = 7 }, { id = 8 } ==> \n\
@@ -62,7 +62,7 @@ serve = 1 => serve = 3 | ingest = 1 => ingest = 2 | tick_ms = 10 => tick_ms = 11
 , connect => , silence = 60, connect ==> undial 7; dial 7 10.0.0.1:4712 60 -; \n\
 , connect => , clock_ms = 90, connect ==> undial 7; dial 7 10.0.0.1:4712 10 90; \n\
 { id = 8 } => { id = 8, silence = 60 } ==> \n\
-{ id = 8 }, => { id = 6, connect = \"10.0.0.6:4712\" }, | tick_ms = 10 => tick_ms = 30 | [7, 8] => [6, 7] | { id = 2, ring = 4, bytes = 1000, grants = [7] },  => | [\"7/9\"] }] => [\"7/9\", 6] }, { id = 9, ring = 1 }] | rate = 30 => rate = 60 ==> dropsub 2; droppmu 8/8; addpmu 6/6; addsub 9 1 16777216; grant 1 6/6; grant 3 6/6; remove 1 101; define 1 101 60 1000000 2 4 - 7/7; dial 6 10.0.0.6:4712 10 -; restart tick_ms; ";
+{ id = 8 }, => { id = 6, connect = \"10.0.0.6:4712\" }, | tick_ms = 10 => tick_ms = 30 | [7, 8] => [6, 7] | { id = 2, ring = 4, bytes = 1000, grants = [7] },  => | [\"7/9\"] }] => [\"7/9\", 6] }, { id = 9, ring = 1 }] | rate = 30 => rate = 60 ==> dropsub 2; droppmu 8/8; addpmu 6/6; addsub 9 1 16777216; grant 1 6/6; grant 3 6/6; remove 1 101; define 1 101 60 1000000 2 4 none 7/7; dial 6 10.0.0.6:4712 10 -; restart tick_ms; ";
 
 /// A setup of two ports.
 const PORTS: &str = "\
@@ -141,50 +141,6 @@ const BARE_ROWS: &str = "\
 # status => status | # control => control ==> restart control; restart status; \n\
 # status => status | # control => control | tick_ms = 10 => tick_ms = 20 | # log = \"info\" => log = \"debug\" ==> restart tick_ms; restart control; restart status; ";
 
-/// A key as it is written.
-fn key(alloc: Global, key: &PmuKey) -> Result<String, AllocError> {
-    format!(in alloc; "{}/{}", key.source.get(), key.pmu.get())
-}
-
-/// An edit of a reload as a line, with each key as `S/P` and the header's text, or `-` for an empty one.
-fn edit_told(alloc: Global, edit: &Edit) -> Result<String, AllocError> {
-    match edit {
-        Edit::AddPmu(pmu) => format!(in alloc; "addpmu {}", key(alloc, pmu)?),
-        Edit::DropPmu(pmu) => format!(in alloc; "droppmu {}", key(alloc, pmu)?),
-        Edit::AddSub(id, size, bytes) => {
-            format!(in alloc; "addsub {} {} {}", id.get(), size.get(), bytes.get())
-        }
-        Edit::DropSub(id) => format!(in alloc; "dropsub {}", id.get()),
-        Edit::Grant(id, pmu) => format!(in alloc; "grant {} {}", id.get(), key(alloc, pmu)?),
-        Edit::Revoke(id, pmu) => format!(in alloc; "revoke {} {}", id.get(), key(alloc, pmu)?),
-        Edit::Define(id, made) => {
-            let mut header = String::new(alloc);
-            for byte in made.header.as_slice() {
-                header.push(char::from(*byte))?;
-            }
-            if header.is_empty() {
-                header.push('-')?;
-            }
-            let mut text = format!(in alloc;
-                "define {} {} {} {} {} {} {}",
-                id.get(),
-                made.stream.get(),
-                made.rate,
-                made.base,
-                made.wait,
-                made.window,
-                header
-            )?;
-            for pmu in made.members.as_slice() {
-                text = format!(in alloc; "{} {}", text, key(alloc, pmu)?)?;
-            }
-            Ok(text)
-        }
-        Edit::Remove(id, stream) => format!(in alloc; "remove {} {}", id.get(), stream.get()),
-        _ => String::from_str(alloc, "no edit of a reload"),
-    }
-}
-
 /// A port as a line: its subscriber, its number, its address, how many networks may connect or `-` for every host, and the rest.
 fn port_told(alloc: Global, port: &Port) -> Result<String, AllocError> {
     let networks = match &port.rules.allow.networks {
@@ -233,7 +189,7 @@ fn order_told(alloc: Global, order: &Order) -> Result<String, AllocError> {
 fn told(alloc: Global, changes: &Changes) -> Result<String, AllocError> {
     let mut text = String::new(alloc);
     for edit in changes.edits.as_slice() {
-        text = format!(in alloc; "{}{}; ", text, edit_told(alloc, edit)?)?;
+        text = format!(in alloc; "{}{}; ", text, edit_line(alloc, edit)?)?;
     }
     for order in changes.orders.as_slice() {
         text = format!(in alloc; "{}{}; ", text, order_told(alloc, order)?)?;

@@ -3,4 +3,3 @@ mod NoKind
 pub mod PrintLaws
 pub mod ReplayLaws
 pub mod LineLaws
-mod SourceLaws

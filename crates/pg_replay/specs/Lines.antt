@@ -3,9 +3,10 @@ use Rattle.std.specs.Prelude.{ℕ, ◌==◌, Bool, false, List, [], ◌∷◌, O
 use Rattle.std.specs.Str.{bytes_eq, is_utf8}
 use Rattle.pg_session.specs.Events.{connect, hangup, drain}
 use Rattle.pg_gateway.specs.Occurrences.{asks, tick}
-use Rattle.pg_serve.specs.Inputs.{Fact, fact, link_up, pmu_bytes, sub_bytes, names, edited}
-use Rattle.pg_operator.specs.Words.{Text, number_in, pmu_id_in, subscriber_in, frame_in}
-use Rattle.pg_operator.specs.Lines.{words_of, one, two, edit_of}
+use Rattle.pg_shared.specs.Edits.{edited}
+use Rattle.pg_serve.specs.Inputs.{Fact, fact, link_up, pmu_bytes, sub_bytes, names}
+use Rattle.pg_lines.specs.Words.{Text, number_in, pmu_id_in, subscriber_in, frame_in}
+use Rattle.pg_lines.specs.Lines.{words_of, one, two, edit_of}
 use Rattle.pg_replay.specs.declared.lines.Kind.{Kind}
 use Rattle.pg_replay.specs.declared.lines.Kind.TheVariants as kind
 use Rattle.pg_replay.specs.declared.lines.Line.{Line}

@@ -16,13 +16,16 @@ use pg_wire::Refusal;
 use std::alloc::Global;
 use std::io;
 use std::io::Write;
+use thiserror::Error;
 
 /// Why an answer was not printed.
-#[derive(Clone, Copy, Debug, PartialEq, Eq)]
+#[derive(Clone, Copy, Debug, PartialEq, Eq, Error)]
 pub enum NotPrinted {
     /// There was no memory for its text.
+    #[error("there is no memory for an answer")]
     NoMemory,
     /// It can't be written.
+    #[error("an answer can't be written")]
     Write,
 }
 

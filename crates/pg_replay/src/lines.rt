@@ -1,13 +1,12 @@
 //! The lines of a script.
-ghost use Rattle.std.specs.Prelude.{◌≡◌, ◌≢◌, ◌⊎◌, ◌<◌, length, take, slice_index, IfOk, IfErr, IfSome, Some, None, map, option_map};
-ghost use Rattle.pg_operator.specs.Words.{number_in, pmu_id_in, subscriber_in};
-ghost use Rattle.pg_operator.specs.Lines.{one, two};
+ghost use Rattle.std.specs.Prelude.{◌≡◌, ◌≢◌, ◌⊎◌, IfOk, IfErr, Some, None, map, option_map};
+ghost use Rattle.pg_lines.specs.Words.{number_in, pmu_id_in, subscriber_in};
+ghost use Rattle.pg_lines.specs.Lines.{one, two};
 ghost use Rattle.pg_replay.specs.Replaying.{without_end};
-ghost use Rattle.pg_serve.specs.Inputs.{pmu_bytes};
-ghost use Rattle.pg_replay.specs.Lines.{asked_in, asked, hands, is_comment, kind_of, line_by, text_asks};
+ghost use Rattle.pg_replay.specs.Lines.{asked_in, asked, is_comment, kind_of, line_by, text_asks};
 
-use pg_operator::words::{self, frame_bytes, read_frame};
-use pg_operator::{parse_line, words_of};
+use pg_lines::words::{self, frame_bytes};
+use pg_lines::{parse_line, words_of};
 use pg_serve::Input;
 use pg_wire::{PmuId, Refusal, SubId};
 use std::alloc::Global;
@@ -92,43 +91,6 @@ pub fn read_line(alloc: Global, line: &[u8]) -> Result<Line, Refusal>
         return Err(Refusal::BadLine);
     };
     read_text(alloc, text)
-}
-
-/// The source of a line `pmu S HEX` with just one space between its words, and its bytes into a vector whose memory is kept: the
-/// line that comes once for each frame. `None` is answered for each other line, and for one that asks for nothing that a line may.
-pub(crate) fn source_line(line: &[u8], bytes: &mut Vec<u8>) -> Result<Option<PmuId>, Refusal>
-    ensures found { IfOk result (λ o. IfSome o (λ source. asked_in line.now ≡ Some (hands (pmu_bytes source bytes.new.items)))) }
-    ensures refused { IfErr result (λ r. r ≡ Refusal.NoMemory) }
-{
-    let [b'p', b'm', b'u', b' ', rest @ ..] = line else {
-        return Ok(None);
-    };
-    let Some((source, end)) = source_before_space(rest) else {
-        return Ok(None);
-    };
-    match read_frame(&rest[end + 1..], bytes) {
-        Ok(()) => Ok(Some(source)),
-        Err(Refusal::NoMemory) => Err(Refusal::NoMemory),
-        Err(_) => Ok(None),
-    }
-}
-
-/// The source whose number stands before the first space, and the place of that space. `None` is answered too where the number has
-/// a zero in front.
-fn source_before_space(bytes: &[u8]) -> Option<(PmuId, usize)>
-    ensures found { IfSome result (λ p. (p.1 < length bytes.now) × (slice_index bytes.now p.1 ≡ 32) × (pmu_id_in (take p.1 bytes.now) ≡ Some p.0)) }
-{
-    let mut number = 0u32;
-    let mut end = 0;
-    // a number with a digit behind one of 6554 or more is no source's
-    while end < bytes.len() && end < 5 && number < 6554 && bytes[end].is_ascii_digit() {
-        number = 10 * number + u32::from(bytes[end] - b'0');
-        end += 1;
-    }
-    if end == bytes.len() || bytes[end] != b' ' || bytes[0] == b'0' || number > 65534 {
-        return None;
-    }
-    Some((PmuId::new(number as u16)?, end))
 }
 
 /// Whether the first word begins with `#`.

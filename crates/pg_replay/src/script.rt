@@ -2,7 +2,7 @@
 
 ghost use Rattle.std.specs.Prelude.{◌≡◌, Some, OnOk};
 ghost use Rattle.std.specs.Io.KnownBytes.{Appends};
-ghost use Rattle.pg_serve.specs.Inputs.{fact, pmu_bytes};
+ghost use Rattle.pg_serve.specs.Inputs.{fact};
 ghost use Rattle.pg_serve.specs.Shown.{queue_shown, link_counted};
 ghost use Rattle.pg_replay.specs.Faults.{told_as, fault_of};
 ghost use Rattle.pg_replay.specs.Lines.{asked, hands};
@@ -10,22 +10,26 @@ ghost use Rattle.pg_replay.specs.Replaying.{Prints, queue_text, link_text};
 ghost use Rattle.pg_replay.specs.Answering.{AnswersAll, AnswersLine, PrintsSession, DoesAsked};
 
 use crate::answers::{NotPrinted, print_counters, print_output, print_queue, print_refusal};
-use crate::lines::{Line, read_line, source_line, without_end};
+use crate::lines::{Line, read_line, without_end};
 use crate::reading::read_line_bytes;
 use pg_serve::{Input, Output, World};
 use pg_wire::{PmuId, Refusal, SubId};
 use std::alloc::Global;
+use std::io;
 use std::io::{BufRead, BufReader, Read, Write};
-use std::{io, mem};
+use thiserror::Error;
 
 /// What ends the program.
-#[derive(Clone, Copy, Debug, PartialEq, Eq)]
+#[derive(Clone, Copy, Debug, PartialEq, Eq, Error)]
 pub enum Fault {
     /// There was no memory.
+    #[error("there is no memory")]
     NoMemory,
     /// The input can't be read.
+    #[error("the input can't be read")]
     Read,
     /// The output can't be written.
+    #[error("the output can't be written")]
     Write,
 }
 
@@ -58,7 +62,6 @@ impl From<NotPrinted> for Fault {
 struct Script {
     alloc: Global,
     world: World,
-    bytes: Vec<u8>,
     output: Output,
 }
 
@@ -79,7 +82,6 @@ pub fn replay<R: Read + Drop, W: Write>(alloc: Global, reader: R, out: &mut W) -
     let mut script = Script {
         alloc,
         world,
-        bytes: Vec::new(alloc),
         output: Output::new(alloc),
     };
     script.answer_all(&mut reader, out)?;
@@ -88,14 +90,6 @@ pub fn replay<R: Read + Drop, W: Write>(alloc: Global, reader: R, out: &mut W) -
         Err(_) => return Err(Fault::Write),
     }
     Ok(())
-}
-
-/// The bytes of an input, for their memory.
-fn bytes_of(alloc: Global, input: Input) -> Vec<u8> {
-    match input {
-        Input::PmuBytes(_, bytes) => bytes,
-        _ => Vec::new(alloc),
-    }
 }
 
 impl Script {
@@ -118,31 +112,6 @@ impl Script {
 
     /// Prints the answer to a line.
     fn answer<W: Write>(&mut self, line: &[u8], out: &mut W) -> Result<(), Fault>
-        ensures answers { OnOk result (AnswersLine self.old.world line.now (W.contents out.old) (W.contents out.new) self.new.world) }
-    {
-        match source_line(line, &mut self.bytes) {
-            Ok(Some(source)) => self.take_bytes(source, out)?,
-            Ok(None) => self.answer_other(line, out)?,
-            Err(_) => return Err(Fault::NoMemory),
-        }
-        Ok(())
-    }
-
-    /// Hands the world the bytes that were read, and prints what they come to. Their memory is kept for the next line.
-    fn take_bytes<W: Write>(&mut self, source: PmuId, out: &mut W) -> Result<(), Fault>
-        ensures does { OnOk result (DoesAsked self.old.world (Some (hands (pmu_bytes source self.old.bytes.items))) (W.contents out.old) (W.contents out.new) self.new.world) }
-    {
-        let bytes = mem::replace(&mut self.bytes, Vec::new(self.alloc));
-        let input = Input::PmuBytes(source, bytes);
-        let done = self.run(&input, out);
-        self.bytes = bytes_of(self.alloc, input);
-        done
-    }
-
-    /// Prints the answer to a line that is not in the form of `source_line`. It is a function of its own, so that nothing of what it
-    /// needs is made ready for a data frame.
-    #[inline(never)]
-    fn answer_other<W: Write>(&mut self, line: &[u8], out: &mut W) -> Result<(), Fault>
         ensures answers { OnOk result (AnswersLine self.old.world line.now (W.contents out.old) (W.contents out.new) self.new.world) }
     {
         match read_line(self.alloc, line) {

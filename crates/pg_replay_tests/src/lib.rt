@@ -4,4 +4,6 @@
 #[cfg(test)]
 mod asserts;
 #[cfg(test)]
+mod errors;
+#[cfg(test)]
 mod runs;

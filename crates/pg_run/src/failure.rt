@@ -1,17 +1,20 @@
 //! Why the service does not run.
 
-use pg_setup::BoundBy;
+use pg_operator::BoundBy;
 use pg_wire::Refusal;
 use std::io;
 use std::io::ErrorKind;
 use std::net::SocketAddr;
+use thiserror::Error;
 
 /// Why the service does not run, or has ended.
-#[derive(Clone, Copy, Debug, PartialEq, Eq)]
+#[derive(Clone, Copy, Debug, PartialEq, Eq, Error)]
 pub enum Failure {
     /// It is refused.
-    Refused(Refusal),
+    #[error("{} {}", .0.number(), .0.name())]
+    Refused(#[from] Refusal),
     /// What a key of the setup names can't be bound.
+    #[error("what a key of the setup names can't be bound")]
     NotBound {
         /// Which key.
         by: BoundBy,
@@ -32,12 +35,6 @@ impl Failure {
                 _ => Refusal::ReadFault,
             },
         }
-    }
-}
-
-impl From<Refusal> for Failure {
-    fn from(refusal: Refusal) -> Failure {
-        Failure::Refused(refusal)
     }
 }
 

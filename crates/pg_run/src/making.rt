@@ -8,12 +8,12 @@ use crate::reloading::InForce;
 use crate::serving::{Plan, Waits};
 use crate::workers::{Worker, share_ports, share_sources, told_as};
 use pg_console::{Counter, Told};
-use pg_serve::{Named, Seat, Shared, SharedGate};
+use pg_operator::Setup;
 use pg_service::{
     Detail, Dial, Entry, Finder, Journal, Logger, Neighbours, Notice, Port, PortWorker,
     SourceWorker, Ticker, Waiting, Whom,
 };
-use pg_setup::Setup;
+use pg_shared::{Named, Seat, Shared, SharedGate};
 use pg_window::Window;
 use pg_wire::Refusal;
 use std::alloc::Global;

@@ -2,8 +2,8 @@
 
 use crate::failure::{Failure, not_bound};
 use mio::net::{TcpListener as PortListener, UnixListener};
+use pg_operator::BoundBy;
 use pg_service::{Detail, Entry, Journal, Notice, Whom};
-use pg_setup::BoundBy;
 use pg_window::{Clerk, Window, listen_at};
 use std::io;
 use std::net::{Net, SocketAddr, SocketAddrV4, TcpListener, TcpStream};

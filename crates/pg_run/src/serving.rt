@@ -8,11 +8,11 @@ use crate::opening::Openings;
 use crate::operator::Desk;
 use crate::workers::{Worker, mailbox, mailboxes};
 use pg_console::{Told, serve_by};
-use pg_serve::{Named, Seat, Shared};
 use pg_service::{
     Board, Dial, Journal, Lookup, Mailbox, Neighbours, Port, PortOrder, Registered, SourceOrder,
     Waiting,
 };
+use pg_shared::{Named, Seat, Shared};
 use pg_wire::Refusal;
 use std::alloc::Global;
 use std::io::StdinLock;

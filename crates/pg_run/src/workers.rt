@@ -7,10 +7,10 @@ ghost use Rattle.pg_run.specs.Kinds.{Gives};
 use crate::operator::Operator;
 use crate::reloading::InForce;
 use pg_console::{Counter, Seated};
-use pg_serve::{Named, Seat, Work};
 use pg_service::{
     Dial, Finder, Logger, Mailbox, Port, PortWorker, Rota, SourceWorker, Ticker, Waiting,
 };
+use pg_shared::{Named, Seat, Work};
 use pg_window::Window;
 use pg_wire::Refusal;
 use std::alloc::Global;

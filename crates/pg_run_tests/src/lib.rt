@@ -6,6 +6,8 @@ mod asserts;
 #[cfg(test)]
 mod chain;
 #[cfg(test)]
+mod errors;
+#[cfg(test)]
 mod peers;
 #[cfg(test)]
 mod reloads;

@@ -24,7 +24,8 @@ use Rattle.pg_serve.specs.Inputs.{Fact, link_up, pmu_bytes, sub_bytes, names}
 use Rattle.pg_serve.specs.Dues.{Due, posts, ignores_frame, closes, refuses, Deed, answered, ignored_frame, closed_at, refused, due_of, notes_of, pairs_of, told_due, link_due, close}
 use Rattle.pg_serve.specs.Moments.{SourceLinkPast, Moment, opening, Turn, Turns, ToldOf, Posts, Makes, LegalTurn, LegalTurns, after_turn, after_turns, all_outcomes, inputs_of, history_of, telling, lines_by, lines_named, has_source, new_source_link, gone_up, gives_all, fed_line, words_given, put_line, line_after, all_given}
 use Rattle.pg_serve.specs.Full.{full_deeds, told_more, told_dues, full_told, dues_of, full_turn, full_turns, moment_of, events_made, events_at, answers_made, NotesLossless, OutcomesLossless}
-use Rattle.pg_serve.proofs.Lines.{told_gave, no_frames}
+use Rattle.pg_shared.proofs.Opening.{no_frames}
+use Rattle.pg_serve.proofs.Lines.{told_gave}
 
 -- ---- deeds
 

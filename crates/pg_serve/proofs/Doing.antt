@@ -15,13 +15,10 @@ use Rattle.pg_gateway.specs.Occurrences.{Occurrence, Answer}
 use Rattle.pg_gateway.specs.State.{SharedMachine, next}
 use Rattle.pg_gateway.specs.Histories.{Legal, state_after}
 use Rattle.pg_gateway.specs.Shown.{GatewayValue, GatewayShows, Goes}
+use Rattle.pg_shared.proofs.Opening.{state_after-append}
 use Rattle.pg_serve.specs.Inputs.{Noted, replied, ignored, closed}
 use Rattle.pg_serve.specs.Dues.{Due, posts, ignores_frame, closes, answered, ignored_frame, closed_at, due_of, note_of, notes_of, pairs_by, pairs_of, item_due, told_due, link_due, telling_so}
 use Rattle.pg_serve.specs.Feeding.{Did, Tells, TellsAll, TakesPiece, Hears, HearsAll}
-
-pub state_after-append : (S : SharedMachine) (h k : List (Occurrence × Answer)) → state_after S (h ++ k) ≡ state_after (state_after S h) k
-state_after-append S [] k = refl
-state_after-append S (x ∷ xs) k = state_after-append (next S x.0 x.1) xs k
 
 pub Legal-append : (S : SharedMachine) (h k : List (Occurrence × Answer)) → Legal S h → Legal (state_after S h) k → Legal S (h ++ k)
 Legal-append S [] k legal more = more

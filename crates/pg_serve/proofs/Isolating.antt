@@ -24,7 +24,8 @@ use Rattle.pg_serve.specs.Dues.{Deed, answered, ignored_frame, closed_at, refuse
 use Rattle.pg_serve.specs.Moments.{SourceLinkPast, Moment, opening, has_source, Turns, LegalTurns, after_turn, after_turns, all_outcomes, history_of}
 use Rattle.pg_serve.specs.Shown.{SourceLinkShows, SessionShows, WorldValue, link_counted, session_counted}
 use Rattle.pg_serve.specs.Full.{full_turns, events_made, full_outcomes, handed_over, view_of, NotesLossless, OutcomesLossless, HasAnswered, OwnShows, queue_of, moment_of, events_at, link_counts_of, session_counts_of, is_connected, Headline, InputsIsolate, SharedFrame}
-use Rattle.pg_serve.proofs.Doing.{state_after-append, Legal-append}
+use Rattle.pg_shared.proofs.Opening.{state_after-append}
+use Rattle.pg_serve.proofs.Doing.{Legal-append}
 use Rattle.pg_serve.proofs.Determined.{IsFull, full_lookup, lines_are_full, turns_are_full, answers_are_full, state_is_full, events-more}
 use Rattle.pg_serve.proofs.Belonging.{belongs}
 use Rattle.pg_serve.proofs.Handing.{outputs_hand}

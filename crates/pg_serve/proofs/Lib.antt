@@ -13,9 +13,3 @@ pub mod Apart
 pub mod Handing
 pub mod Isolating
 pub mod Besides
-pub mod Legally
-pub mod Sessions
-pub mod Gating
-pub mod Delivering
-pub mod Links
-pub mod Both

@@ -14,6 +14,7 @@ use Rattle.pg_ingest.specs.Shown as ingest
 use Rattle.pg_ingest.specs.Shown.{LinkPast, IsAllTold, beginning, renewed, feeding}
 use Rattle.pg_gateway.specs.State.{SharedMachine}
 use Rattle.pg_gateway.specs.Shown.{GatewayValue}
+use Rattle.pg_shared.proofs.Opening.{no_frames, none_told}
 use Rattle.pg_serve.specs.declared.source_link.SourceLink.{SourceLink}
 use Rattle.pg_serve.specs.Inputs.{Outcome}
 use Rattle.pg_serve.specs.Dues.{words_due, frames_of, gave}
@@ -34,13 +35,6 @@ told_gave (asks w ∷ acts) words = told_gave acts words
 still_told : (past : LinkPast) (words : List Word) → IsAllTold past → IsAllTold (gave past words)
 still_told past words told =
     subst (λ items. AreTold past.source (reverse (frames_in past.stream)) (reverse items)) (sym (told_gave past.acts words)) told
-
-pub no_frames : frames_in [] ≡ []
-unfolding frames_in cut.frames_by
-no_frames = refl
-
-pub none_told : (source : ℕ) → AreTold source (reverse (frames_in [])) []
-none_told source = subst (λ frames. AreTold source (reverse frames) []) (sym no_frames) tt
 
 pub line_new : (v : Linking) (s : ℕ) → ingest.ShowsLink v (beginning s) → SourceLinkShows (record { link = v; is_up = false }) (new_source_link s)
 line_new v s shows = record { shows = shows; told = none_told s; is_up = refl }

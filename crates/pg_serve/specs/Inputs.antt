@@ -2,9 +2,8 @@
 use Rattle.std.specs.Prelude.{ℕ, List, map}
 use Rattle.pg_wire.specs.declared.refusal.Refusal.{Refusal}
 use Rattle.pg_session.specs.Events as session
-use Rattle.pg_gateway.specs.declared.edit.Edit.{Edit}
-use Rattle.pg_gateway.specs.declared.edit.Edit.TheVariants as edit
-use Rattle.pg_gateway.specs.Occurrences.{Occurrence, add_pmu, drop_pmu, add_sub, drop_sub, grant, asks, tick, stats, pmu_stats, audit, Answer, told}
+use Rattle.pg_gateway.specs.Occurrences.{Occurrence, asks, tick, Answer, told}
+use Rattle.pg_shared.specs.Edits.{edited}
 use Rattle.pg_serve.specs.declared.input.Input.{Input}
 use Rattle.pg_serve.specs.declared.input.Input.TheVariants as input
 use Rattle.pg_serve.specs.declared.input.Note.{Note}
@@ -19,20 +18,6 @@ pub data Fact : Type 0 where
   sub_bytes : ℕ → List ℕ → Fact
   -- the event of the input's name
   names : Occurrence → Fact
-
--- the event that an edit is
-abbrev pub edited : Edit → Occurrence
-edited (edit.AddPmu key) = add_pmu key
-edited (edit.DropPmu key) = drop_pmu key
-edited (edit.AddSub u size bytes) = add_sub u size bytes
-edited (edit.DropSub u) = drop_sub u
-edited (edit.Grant u key) = grant u key
-edited (edit.Revoke u key) = asks u (session.revoke key)
-edited (edit.Define u definition) = asks u (session.define definition)
-edited (edit.Remove u number) = asks u (session.remove number)
-edited (edit.Stats u) = stats u
-edited (edit.PmuStats key) = pmu_stats key
-edited (edit.Audit u index) = audit u index
 
 -- what an input says
 abbrev pub fact : Input → Fact

@@ -8,16 +8,6 @@ pub mod Full
 pub mod Others
 pub mod Framed
 pub mod Beside
--- A shared gateway, its gates, and the loop of a session.
-pub mod Sharing
-pub mod Gates
-pub mod Onward
-pub mod Serving
-pub mod Delivery
-pub mod Telling
-pub mod Both
 -- only private contracts and proofs use these
 pub mod Feeding
 pub mod Taking
-pub mod Continuing
-pub mod Turned

@@ -2,7 +2,7 @@
 
 ghost use Rattle.std.specs.Prelude.{◌≡◌, IfOk};
 ghost use Rattle.pg_gateway.specs.Occurrences.{occurrence};
-ghost use Rattle.pg_serve.specs.Inputs.{edited};
+ghost use Rattle.pg_shared.specs.Edits.{edited};
 
 use pg_gateway::{Edit, Event};
 use pg_stream::{Definition, HeaderText, Members};

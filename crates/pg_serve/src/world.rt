@@ -52,6 +52,7 @@ impl World {
                 gateway: Gateway::new(alloc)?,
                 lines: IndexMap::new(alloc),
                 sessions: IndexMap::new(alloc),
+                buffer: Vec::new(alloc),
             },
             failed: false,
         })

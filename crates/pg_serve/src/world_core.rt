@@ -7,7 +7,8 @@ ghost use Rattle.pg_gateway.specs.Occurrences.{occurrence, asks, add_pmu, drop_p
 ghost use Rattle.pg_gateway.specs.State.{SharedMachine, slot_of, refusal};
 ghost use Rattle.pg_gateway.specs.Shown.{GatewayShows};
 ghost use Rattle.pg_serve.specs.Moments.{Moment, has_source, new_source_link, is_done, absence};
-ghost use Rattle.pg_serve.specs.Inputs.{fact, link_up, pmu_bytes, sub_bytes, names, noted, replied, edited, outcome};
+ghost use Rattle.pg_shared.specs.Edits.{edited};
+ghost use Rattle.pg_serve.specs.Inputs.{fact, link_up, pmu_bytes, sub_bytes, names, noted, replied, outcome};
 ghost use Rattle.pg_serve.specs.Shown.{MomentShows, SourceLinkShows, SessionShows};
 ghost use Rattle.pg_serve.specs.Taking.{held, Takes, TakesInput, Spares, Ends};
 
@@ -20,6 +21,7 @@ use pg_gateway::{Edit, Event, Gateway, Reply};
 use pg_session::Session;
 use pg_wire::{PmuId, PmuKey, Refusal, SubId};
 use std::alloc::{AllocError, Global};
+use std::mem;
 
 /// The gateway, a line for each source that has a registered PMU, and a session for each connected subscriber.
 #[derive(Drop)]
@@ -28,6 +30,8 @@ pub(crate) struct Core {
     pub(crate) gateway: Gateway,
     pub(crate) lines: IndexMap<PmuId, SourceLink>,
     pub(crate) sessions: IndexMap<SubId, Session>,
+    /// The buffer of the last drain, which the next one takes.
+    pub(crate) buffer: Vec<u8>,
 }
 
 /// An answer of one note.
@@ -64,9 +68,19 @@ impl Core {
     pub(crate) fn take(&mut self, input: &Input, output: &mut Output) -> Result<(), AllocError>
         ensures takes { IfOk result (λ _. TakesInput (held self.old) (fact input.now) (outcome output.new) (held self.new)) }
     {
+        self.keep_buffer(output);
         match input {
             Input::PmuBytes(source, bytes) => self.take_source(*source, bytes.as_slice(), output),
             _ => self.answer_anew(input, output),
+        }
+    }
+
+    /// Keeps the buffer of the drain that the output reports, for the next drain.
+    fn keep_buffer(&mut self, output: &mut Output)
+        ensures held { held self.new ≡ held self.old }
+    {
+        if let Some(Note::Replied(Reply::Drained { buf, .. })) = output.notes.last_mut() {
+            mem::swap(buf, &mut self.buffer);
         }
     }
 
@@ -222,11 +236,12 @@ impl Core {
         Ok(output(self.alloc, Note::Replied(reply))?)
     }
 
-    /// What waits for a subscriber is handed out into a new buffer.
+    /// What waits for a subscriber is handed out into the buffer that is kept. What an earlier drain left in it says nothing.
     fn drain(&mut self, sub: SubId, size: u16) -> Result<Output, AllocError>
         ensures takes { IfOk result (λ o. TakesInput (held self.old) (names (asks sub (events.drain size))) (outcome o) (held self.new)) }
     {
-        let buffer = vec![in self.alloc; 0; usize::from(size)]?;
+        let mut buffer = mem::replace(&mut self.buffer, Vec::new(self.alloc));
+        buffer.resize(usize::from(size), 0)?;
         self.answer(Event::Drain(sub, buffer))
     }
 

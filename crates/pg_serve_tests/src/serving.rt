@@ -1,6 +1,5 @@
 //! Sessions over memory: their subscribers' bytes come from a slice, and a gateway or a seat at a shared one takes their posts.
 use crate::asserts::same;
-use pg_audit::Stats;
 use pg_command::Command;
 use pg_fakes::{FakeReader, FakeWriter};
 use pg_gateway::{Event, Gate, Gateway, Reply};
@@ -314,49 +313,6 @@ fn no_drain_at_an_end(rt: HostRuntime) {
         );
         same(&rt, out.taken.len(), written);
     }
-}
-
-// A subscriber's counters.
-fn counters(rt: &impl Abort, gate: &mut impl Gate, number: u16) -> Stats {
-    match gate.post(Event::Stats(subscriber(rt, number))) {
-        Reply::Stats(stats) => stats,
-        _ => panic!(rt; "no counters"),
-    }
-}
-
-// Subscriber 1 connects, sends these bytes, and hangs up.
-fn send(rt: &impl Abort, alloc: Global, gate: &mut impl Gate, bytes: &[u8]) {
-    let mut session = session(rt, alloc);
-    let mut input = reader(bytes, 4096, 0, ErrorKind::Other);
-    let mut out = writer(alloc, 0, ErrorKind::Other);
-    let end = serve_session(&mut session, &mut input, &mut out, gate, 100);
-    assert!(rt; matches!(end, End::Closed | End::Fault(2..=4)));
-    done(rt, gate, Event::Connect(subscriber(rt, 1)));
-}
-
-// Each prefix of a command frame, the frame with each byte changed in turn, a frame of 65,535 bytes and 65,535 bytes that are
-// none: another subscriber's counters stay, and so does what waits for it.
-#[test]
-fn hostile_bytes(rt: HostRuntime) {
-    let alloc = rt.alloc();
-    let mut gate = Gateway::new(alloc).expect(&rt, "memory");
-    let _link = set_up(&rt, alloc, &mut gate, 2);
-    ask_for_config(&rt, &mut gate, 2);
-    let before = counters(&rt, &mut gate, 2);
-    for place in 0..18 {
-        send(&rt, alloc, &mut gate, &COMMANDS[..place]);
-        let mut changed = COMMANDS;
-        changed[place] ^= 0xFF;
-        send(&rt, alloc, &mut gate, &changed[..18]);
-    }
-    let mut long = vec![in alloc; 0xAA; 65_535].expect(&rt, "memory");
-    send(&rt, alloc, &mut gate, &long);
-    for (byte, first) in long.iter_mut().zip([0xAA, 0x42, 0xFF, 0xFF]) {
-        *byte = first;
-    }
-    send(&rt, alloc, &mut gate, &long);
-    same(&rt, counters(&rt, &mut gate, 2), before);
-    same(&rt, drained(&rt, alloc, &mut gate, 2), 74);
 }
 
 // The commands of a subscriber come, and its configuration is handed out.

@@ -7,7 +7,7 @@ use Rattle.pg_gateway.specs.Occurrences.{Answer}
 use Rattle.pg_gateway.specs.Posting.{Posted, Notes}
 use Rattle.pg_ingest.specs.Runs.{event_posted}
 use Rattle.pg_ingest.proofs.Known.{notes_more}
-use Rattle.pg_serve.specs.Inputs.{edited}
+use Rattle.pg_shared.specs.Edits.{edited}
 use Rattle.pg_service.specs.Setting.{PostsEdits}
 
 -- What holds where it is Ok holds of a fault.

@@ -6,7 +6,7 @@ use Rattle.pg_session.specs.Commands.{Hearing, Item, ShowsHearing}
 use Rattle.pg_gateway.specs.Posting.{Posted, Notes}
 use Rattle.pg_ingest.specs.declared.run.End.{End}
 use Rattle.pg_ingest.proofs.Known.{notes_nil, notes_more}
-use Rattle.pg_serve.specs.Serving.{Call, happening_of, posted_by, ServedFrom, Served}
+use Rattle.pg_shared.specs.Serving.{Call, happening_of, posted_by, ServedFrom, Served}
 use Rattle.pg_session.specs.Events.{Happening}
 use Rattle.pg_service.specs.Posts.{IsOf, OwnOnly, Asks}
 use Rattle.pg_service.specs.Visits.{HasHeard}

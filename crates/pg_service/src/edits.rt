@@ -4,12 +4,12 @@ ghost use Rattle.std.specs.Prelude.{◌≡◌, ◌∷◌, [], List, IfOk};
 ghost use Rattle.pg_gateway.specs.declared.edit.Edit.{Edit as EditValue};
 ghost use Rattle.pg_gateway.specs.Occurrences.{Answer};
 ghost use Rattle.pg_gateway.specs.Posting.{Notes};
-ghost use Rattle.pg_serve.specs.Inputs.{edited};
+ghost use Rattle.pg_shared.specs.Edits.{edited};
 ghost use Rattle.pg_service.specs.Setting.{PostsEdits};
 
 use crate::registered::{Change, Registered};
 use pg_gateway::{Edit, Gate, Reply};
-use pg_serve::event_of;
+use pg_shared::event_of;
 use pg_wire::Refusal;
 
 /// Posts the edits of a setup in their order, until one is refused, and keeps which PMUs are registered by them (own rule). It is for

@@ -3,7 +3,7 @@
 use crate::journal::Journal;
 use crate::mail::{Mailbox, SourceOrder};
 use crate::waiting::{PATIENCE_MS, Waiting};
-use pg_serve::Work;
+use pg_shared::Work;
 use pg_wire::PmuId;
 use std::alloc::Global;
 use std::net::{Net, SocketAddr, ToSocketAddrs};

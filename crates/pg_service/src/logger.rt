@@ -5,7 +5,7 @@ use crate::journal::{Detail, Entry, Journal, Notice, Whom};
 use crate::outlet::Outlet;
 use jiff_core::Timestamp;
 use jiff_fmt::temporal::DateTimePrinter;
-use pg_serve::Work;
+use pg_shared::Work;
 use std::alloc::Global;
 use std::net::Net;
 use std::rt::Clock;

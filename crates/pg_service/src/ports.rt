@@ -20,7 +20,7 @@ use mio::net::{TcpListener, TcpStream};
 use mio::{Interest, Poll, Token};
 use pg_gateway::{Event, Gate, Reply};
 use pg_limits::Budget;
-use pg_serve::{Named, SharedGate, Work};
+use pg_shared::{Named, SharedGate, Work};
 use pg_status::Histogram;
 use pg_wire::SubId;
 use std::alloc::Global;

@@ -17,7 +17,7 @@ use mio::{Interest, Poll, Token};
 use pg_audit::PmuStats;
 use pg_gateway::Gate;
 use pg_limits::{Budget, ClockGuard};
-use pg_serve::{Named, SharedGate, Work};
+use pg_shared::{Named, SharedGate, Work};
 use pg_wire::{PmuId, Refusal};
 use std::alloc::{AllocError, Global};
 use std::io::ErrorKind;

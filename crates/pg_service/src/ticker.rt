@@ -6,7 +6,7 @@ use crate::journal::Notice;
 use crate::sources::Neighbours;
 use crate::watched::Watched;
 use pg_gateway::{Event, Gate};
-use pg_serve::{Named, SharedGate, Work};
+use pg_shared::{Named, SharedGate, Work};
 use std::marker::Model;
 use std::rt::Clock;
 use std::sync::Wait;

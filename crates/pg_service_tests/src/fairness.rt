@@ -10,11 +10,11 @@ use crate::turns::{comes, here, is_over, rules};
 use mio::net::TcpListener as PortListener;
 use pg_gateway::{Event, Gateway, Reply};
 use pg_limits::{Allow, Network};
-use pg_serve::{Named, Seat, Shared, SharedGate, Work};
 use pg_service::{
     Address, Board, Dial, DoorRules, Journal, Lookup, Mailbox, Neighbours, Notice, Port, PortOrder,
     PortWorker, SourceWorker, Waiting,
 };
+use pg_shared::{Named, Seat, Shared, SharedGate, Work};
 use std::alloc::Global;
 use std::io::Write;
 use std::marker::Brand;

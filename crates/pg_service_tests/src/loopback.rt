@@ -8,11 +8,11 @@ use mio::net::TcpListener as PortListener;
 use pg_gateway::{Event, Gateway};
 use pg_limits::Allow;
 use pg_ring::{RingBytes, RingSize};
-use pg_serve::{Named, Seat, Shared, SharedGate, Work, run_workers};
 use pg_service::{
     Address, Board, Dial, DoorRules, Entry, Journal, Lookup, Mailbox, Neighbours, Notice, Port,
     PortOrder, PortWorker, SourceOrder, SourceWorker, Waiting, Whom,
 };
+use pg_shared::{Named, Seat, Shared, SharedGate, Work, run_workers};
 use pg_stream::{Definition, HeaderText, Members};
 use pg_wire::{PmuKey, StreamId};
 use std::alloc::Global;

@@ -8,11 +8,11 @@ use crate::loopback::set_up;
 use mio::net::TcpListener as PortListener;
 use pg_gateway::Gateway;
 use pg_limits::Allow;
-use pg_serve::{Named, Seat, Shared, SharedGate, Work};
 use pg_service::{
     Address, Board, Dial, DoorRules, Journal, Lookup, Mailbox, Neighbours, Notice, Port, PortOrder,
     PortWorker, SourceOrder, SourceWorker, Waiting,
 };
+use pg_shared::{Named, Seat, Shared, SharedGate, Work};
 use std::alloc::Global;
 use std::io::{ErrorKind, Read, Write};
 use std::marker::Brand;

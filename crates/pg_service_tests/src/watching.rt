@@ -4,9 +4,9 @@ use crate::frames::{COMMANDS_101, CONFIG_7, DATA_7, data_of, done, gateway, sour
 use pg_fakes::{FakeReader, FakeWriter};
 use pg_gateway::{Event, Gate, Gateway, Reply};
 use pg_ingest::{Link, run_link};
-use pg_serve::serve_session;
 use pg_service::{Switches, Watched};
 use pg_session::Session;
+use pg_shared::serve_session;
 use std::alloc::Global;
 use std::io::ErrorKind;
 use std::process::Abort;

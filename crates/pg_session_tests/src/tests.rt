@@ -32,14 +32,8 @@ const BLOCK_8: [u8; 26] = *b"PMU 8           \x00\x08\x00\x00\x00\x00\x00\x00\x0
 // DATA_RATE of both.
 const RATE: [u8; 2] = [0x00, 0x1E];
 
-// The data block of PMU 7, and that of PMU 8.
+// The data block of PMU 7.
 const DATA_7: [u8; 10] = [0x00, 0x00, 0x10, 0x00, 0x20, 0x00, 0x00, 0x00, 0x00, 0x00];
-
-const DATA_8: [u8; 8] = [0x00, 0x00, 0x00, 0x00, 0x00, 0x00, 0x00, 0x01];
-
-// The header frame of stream 101 with the text `Hello`, before any tick.
-const HEADER_REPLY: [u8; 21] =
-    *b"\xAA\x12\x00\x15\x00\x65\x00\x00\x00\x00\x0F\x00\x00\x00Hello\x17\x45";
 
 // The data frame of stream 102 at SOC 100 and numerator 33,333 with PMU 7's block and a filler for PMU 8's.
 const WITH_FILLER: [u8; 34] =
@@ -162,68 +156,8 @@ fn done(rt: &impl Abort, reply: PrivateReply, frames: u64) {
     }
 }
 
-// The reply is this refusal.
-fn refused(rt: &impl Abort, reply: PrivateReply, expected: Refusal) {
-    match reply {
-        PrivateReply::Refused(refusal) => same(rt, refusal, expected),
-        PrivateReply::Drained {
-            out: Err(refusal),
-            ..
-        } => same(rt, refusal, expected),
-        _ => panic!(rt; "not refused"),
-    }
-}
-
 fn command(stream: u16, word: u16) -> PrivateEvent<'static> {
     PrivateEvent::Command(Command { stream, word })
-}
-
-// Rows command-refusals and header-and-quality.
-#[test]
-fn command_refusals(rt: HostRuntime) {
-    let alloc = rt.alloc();
-    let mut sub = subscriber(&rt, alloc).expect(&rt, "memory");
-    let definition = stream(alloc, 101, 0, 4, &[key(7).expect(&rt, "memory")]).expect(
-        &rt, "memory",
-    );
-    done(
-        &rt,
-        give(&rt, &mut sub, PrivateEvent::Define(definition)),
-        0,
-    );
-    for word in [1, 1, 2, 2] {
-        done(&rt, give(&rt, &mut sub, command(101, word)), 0);
-    }
-    refused(
-        &rt,
-        give(&rt, &mut sub, command(101, 6)),
-        Refusal::Unsupported,
-    );
-    refused(
-        &rt,
-        give(&rt, &mut sub, command(101, 7)),
-        Refusal::UnknownCommand,
-    );
-    refused(
-        &rt,
-        give(&rt, &mut sub, command(999, 6)),
-        Refusal::NoSuchStream,
-    );
-    done(&rt, give(&rt, &mut sub, command(101, 3)), 0);
-    same(&rt, sub.queue().reply_at(0), Some(&HEADER_REPLY[..]));
-    refused(
-        &rt,
-        give(&rt, &mut sub, PrivateEvent::Connect),
-        Refusal::Busy,
-    );
-    done(&rt, give(&rt, &mut sub, PrivateEvent::Hangup), 0);
-    let buffer = Vec::from_slice(alloc, &[0; 5]).expect(&rt, "memory");
-    refused(
-        &rt,
-        give(&rt, &mut sub, PrivateEvent::Drain(buffer)),
-        Refusal::NotConnected,
-    );
-    same(&rt, sub.queue().replies(), 0);
 }
 
 // A subscriber with stream 102 of PMUs 7 and 8, granted, announced and on.
@@ -268,44 +202,6 @@ fn with_two(
     );
     done(rt, give(rt, &mut sub, command(102, 2)), 0);
     Ok(sub)
-}
-
-// Rows filler-after-wait and time-end.
-#[test]
-fn filler_after_wait(rt: HostRuntime) {
-    let alloc = rt.alloc();
-    let first = source_7(&rt, alloc).expect(&rt, "memory");
-    let second = source_8(&rt, alloc).expect(&rt, "memory");
-    let mut sub = with_two(&rt, alloc, &first, &second, 2, 4).expect(&rt, "memory");
-    let frame = measured(&rt, alloc, &first, 100, 33_333, &DATA_7).expect(&rt, "memory");
-    done(
-        &rt,
-        give(&rt, &mut sub, PrivateEvent::Measure(&frame, &[0])),
-        0,
-    );
-    done(&rt, give(&rt, &mut sub, PrivateEvent::Tick(100)), 0);
-    done(&rt, give(&rt, &mut sub, PrivateEvent::Tick(100)), 1);
-    match sub.queue().frame_at(0) {
-        Some((bytes, gap)) => {
-            same(&rt, bytes, &WITH_FILLER[..]);
-            same(&rt, gap, 0);
-        }
-        None => panic!(rt; "no frame"),
-    }
-    let late = measured(&rt, alloc, &second, 100, 33_333, &DATA_8).expect(&rt, "memory");
-    done(
-        &rt,
-        give(&rt, &mut sub, PrivateEvent::Measure(&late, &[0])),
-        0,
-    );
-    same(&rt, sub.stats().late, 1);
-    let past = measured(&rt, alloc, &first, u32::MAX, 983_334, &DATA_7).expect(&rt, "memory");
-    done(
-        &rt,
-        give(&rt, &mut sub, PrivateEvent::Measure(&past, &[0])),
-        0,
-    );
-    same(&rt, sub.stats().by_reason[20], 1);
 }
 
 // How stream 102 stands, of two members, and how many frames and bytes wait.
@@ -378,118 +274,6 @@ fn take_without_memory(rt: HostRuntime) {
         Some((bytes, _)) => same(&rt, bytes, &WITH_FILLER[..]),
         None => panic!(&rt; "no frame"),
     }
-}
-
-// Row wait-and-window, and the joined quality of row header-and-quality.
-#[test]
-fn wait_and_window(rt: HostRuntime) {
-    let alloc = rt.alloc();
-    let first = source_7(&rt, alloc).expect(&rt, "memory");
-    let second = source_8(&rt, alloc).expect(&rt, "memory");
-    let mut at_once = with_two(&rt, alloc, &first, &second, 0, 4).expect(&rt, "memory");
-    let frame = measured(&rt, alloc, &first, 100, 33_333, &DATA_7).expect(&rt, "memory");
-    done(
-        &rt,
-        give(&rt, &mut at_once, PrivateEvent::Measure(&frame, &[0])),
-        1,
-    );
-    let mut sub = with_two(&rt, alloc, &first, &second, 9, 1).expect(&rt, "memory");
-    let later = measured(&rt, alloc, &first, 100, 0x2400_8235, &DATA_7).expect(&rt, "memory");
-    done(
-        &rt,
-        give(&rt, &mut sub, PrivateEvent::Measure(&later, &[0])),
-        0,
-    );
-    let earlier = measured(&rt, alloc, &first, 100, 16_666, &DATA_7).expect(&rt, "memory");
-    done(
-        &rt,
-        give(&rt, &mut sub, PrivateEvent::Measure(&earlier, &[0])),
-        1,
-    );
-    let other = measured(&rt, alloc, &second, 100, 0x4300_8235, &DATA_8).expect(&rt, "memory");
-    done(
-        &rt,
-        give(&rt, &mut sub, PrivateEvent::Measure(&other, &[0])),
-        1,
-    );
-    match (sub.queue().frame_at(0), sub.queue().frame_at(1)) {
-        (Some((earlier, _)), Some((both, _))) => {
-            // Slot 3000 is SOC 100, numerator 0; the filler stands behind PMU 7's block.
-            same(&rt, earlier.len(), 34);
-            same(&rt, &earlier[6..14], &[0, 0, 0, 100, 0, 0, 0, 0]);
-            same(&rt, &earlier[24..26], &[0x80, 0x00]);
-            same(&rt, both.len(), 34);
-            same(&rt, both[10], 0x64);
-        }
-        _ => panic!(rt; "no frames"),
-    }
-}
-
-// The reply at this place is a configuration of this many bytes and PMUs, of which PMU 7 is the first, with this CFGCNT.
-fn lists(rt: &impl Abort, sub: &Subscriber, place: usize, size: usize, pmus: u8, count: u8) {
-    match sub.queue().reply_at(place) {
-        Some(bytes) => {
-            same(rt, bytes.len(), size);
-            assert!(rt; bytes.len() >= 74);
-            same(rt, &bytes[18..20], &[0, pmus]);
-            same(rt, &bytes[36..38], &[0, 7]);
-            same(rt, &bytes[68..70], &[0, count]);
-        }
-        None => panic!(rt; "no reply"),
-    }
-}
-
-// Row counts-and-flush, a grant: what PMU 7 announced before it stands in CFG-1, with count 1.
-#[test]
-fn grant_brings_what_was_announced(rt: HostRuntime) {
-    let alloc = rt.alloc();
-    let source = source_7(&rt, alloc).expect(&rt, "memory");
-    let mut sub = subscriber(&rt, alloc).expect(&rt, "memory");
-    let definition = stream(alloc, 101, 0, 4, &[key(7).expect(&rt, "memory")]).expect(
-        &rt, "memory",
-    );
-    done(
-        &rt,
-        give(&rt, &mut sub, PrivateEvent::Define(definition)),
-        0,
-    );
-    let grant = PrivateEvent::Grant(key(7).expect(&rt, "memory"), source.parts.first());
-    done(&rt, give(&rt, &mut sub, grant), 0);
-    done(&rt, give(&rt, &mut sub, command(101, 4)), 0);
-    lists(&rt, &sub, 0, 74, 1, 1);
-}
-
-// Row counts-and-flush: the count is 2 when both have announced. With PMU 7's slot open a revoke of PMU 8 makes a frame, and
-// the count is then 3.
-#[test]
-fn counts_and_flush(rt: HostRuntime) {
-    let alloc = rt.alloc();
-    let first = source_7(&rt, alloc).expect(&rt, "memory");
-    let second = source_8(&rt, alloc).expect(&rt, "memory");
-    let mut sub = with_two(&rt, alloc, &first, &second, 2, 4).expect(&rt, "memory");
-    done(&rt, give(&rt, &mut sub, command(102, 5)), 0);
-    lists(&rt, &sub, 0, 364, 2, 2);
-    let frame = measured(&rt, alloc, &first, 100, 33_333, &DATA_7).expect(&rt, "memory");
-    done(
-        &rt,
-        give(&rt, &mut sub, PrivateEvent::Measure(&frame, &[0])),
-        0,
-    );
-    done(
-        &rt,
-        give(
-            &rt,
-            &mut sub,
-            PrivateEvent::Revoke(key(8).expect(&rt, "memory")),
-        ),
-        1,
-    );
-    match sub.queue().frame_at(0) {
-        Some((bytes, _)) => same(&rt, bytes, &WITH_FILLER[..]),
-        None => panic!(rt; "no frame"),
-    }
-    done(&rt, give(&rt, &mut sub, command(102, 5)), 0);
-    lists(&rt, &sub, 1, 74, 1, 3);
 }
 
 // Row wrong-check-then-break: a command with a wrong CHK is ignored, the one after it is taken, and a wrong byte breaks.

@@ -1,78 +1,10 @@
 //! State and history as JSON, for the page.
 
-use crate::history::History;
-use crate::snapshot::{Call, Ignored, Presence, Snapshot, SourceState, SubscriberState};
-use pg_wire::SubId;
-use serde::Serialize;
+use crate::history::{History, Past};
+use crate::snapshot::{
+    Call, Ignored, Presence, Snapshot, SourceState, StreamState, SubscriberState,
+};
 use std::alloc::{AllocError, Global};
-
-/// The word of a source's connection.
-#[derive(Clone, Copy, Drop, Serialize)]
-#[serde(rename_all = "snake_case")]
-enum CallWord {
-    Up,
-    Calling,
-    Pause,
-    Rests,
-}
-
-#[derive(Drop, Serialize)]
-struct IgnoredRow {
-    reason: String,
-    count: u64,
-}
-
-#[derive(Drop, Serialize)]
-struct SourceRow {
-    source: u16,
-    address: Option<String>,
-    call: CallWord,
-    pause: Option<u32>,
-    frames: u64,
-    events: u64,
-    ignored: Vec<IgnoredRow>,
-    last: Option<u64>,
-}
-
-#[derive(Drop, Serialize)]
-struct SecondsRow {
-    handed: Vec<u64>,
-    dropped: Vec<u64>,
-}
-
-#[derive(Drop, Serialize)]
-struct SubscriberRow {
-    subscriber: u16,
-    port: Option<u16>,
-    address: Option<String>,
-    waiting: Option<u64>,
-    made: u64,
-    dropped: u64,
-    lost: u64,
-    late: u64,
-    twice: u64,
-    handed: u64,
-    gaps: u64,
-    queue_frames: u64,
-    queue_bytes: u64,
-    seconds: SecondsRow,
-}
-
-#[derive(Drop, Serialize)]
-struct StreamRow {
-    subscriber: u16,
-    stream: u16,
-    on: bool,
-    effective: u32,
-    members: u32,
-}
-
-#[derive(Drop, Serialize)]
-struct State {
-    sources: Vec<SourceRow>,
-    subscribers: Vec<SubscriberRow>,
-    streams: Vec<StreamRow>,
-}
 
 /// A snapshot and what is remembered of its subscribers, as one JSON text (own rule): an object with the lists `sources`,
 /// `subscribers` and `streams`. The members are named as the fields of the states; what is not there is `null`. `call` is one of
@@ -87,114 +19,213 @@ pub fn state_json(
     snapshot: &Snapshot,
     history: &History,
 ) -> Result<String, AllocError> {
-    let state = state_of(alloc, snapshot, history)?;
-    match serde_json::to_string(alloc, &state) {
-        Ok(text) => Ok(text),
-        // Numbers, texts and lists of them are always JSON, so that memory alone can be missing.
+    let mut json = String::new(alloc);
+    match put_state(alloc, &mut json, snapshot, history) {
+        Ok(()) => Ok(json),
+        Err(error) => Err(error),
+    }
+}
+
+fn put_state(
+    alloc: Global,
+    json: &mut String,
+    snapshot: &Snapshot,
+    history: &History,
+) -> Result<(), AllocError> {
+    put_sources(alloc, json, snapshot.sources.as_slice())?;
+    put_subscribers(alloc, json, snapshot.subscribers.as_slice(), history)?;
+    put_streams(alloc, json, snapshot.streams.as_slice())
+}
+
+/// What stands before an element of a list: a comma, but before the first.
+fn comma(place: usize) -> &'static str {
+    if place == 0 { "" } else { "," }
+}
+
+/// Puts numbers, each behind what names it. What is not there is `null`.
+fn put_numbers(
+    alloc: Global,
+    json: &mut String,
+    numbers: &[(&str, Option<u64>)],
+) -> Result<(), AllocError> {
+    for (name, number) in numbers {
+        json.push_str(name)?;
+        match number {
+            Some(number) => json.push_str(&format!(in alloc; "{number}")?)?,
+            None => json.push_str("null")?,
+        }
+    }
+    Ok(())
+}
+
+/// Puts a text, behind what names it.
+fn put_text(alloc: Global, json: &mut String, name: &str, text: &str) -> Result<(), AllocError> {
+    json.push_str(name)?;
+    match serde_json::to_string(alloc, &text) {
+        Ok(text) => json.push_str(&text),
+        // A text is always JSON, so that memory alone can be missing.
         Err(_) => Err(AllocError),
     }
 }
 
-fn state_of(alloc: Global, snapshot: &Snapshot, history: &History) -> Result<State, AllocError> {
-    let mut sources = Vec::with_capacity(alloc, snapshot.sources.len())?;
-    for source in &snapshot.sources {
-        sources.push(source_row(alloc, source)?)?;
-    }
-    let mut subscribers = Vec::with_capacity(alloc, snapshot.subscribers.len())?;
-    for subscriber in &snapshot.subscribers {
-        subscribers.push(subscriber_row(alloc, subscriber, history)?)?;
-    }
-    let mut streams = Vec::with_capacity(alloc, snapshot.streams.len())?;
-    for stream in &snapshot.streams {
-        streams.push(StreamRow {
-            subscriber: stream.sub.get(),
-            stream: stream.stream.get(),
-            on: stream.on,
-            effective: stream.effective,
-            members: stream.members,
-        })?;
-    }
-    Ok(State {
-        sources,
-        subscribers,
-        streams,
-    })
-}
-
-fn copy_of(alloc: Global, text: &Option<String>) -> Result<Option<String>, AllocError> {
-    match text {
-        Some(text) => Ok(Some(String::from_str(alloc, text.as_str())?)),
-        None => Ok(None),
+/// Puts an address, behind what names it.
+fn put_address(alloc: Global, json: &mut String, address: Option<&str>) -> Result<(), AllocError> {
+    match address {
+        Some(address) => put_text(alloc, json, ",\"address\":", address),
+        None => json.push_str(",\"address\":null"),
     }
 }
 
-fn source_row(alloc: Global, source: &SourceState) -> Result<SourceRow, AllocError> {
-    let (call, pause) = match source.call {
-        Call::Up => (CallWord::Up, None),
-        Call::Calling => (CallWord::Calling, None),
-        Call::Pause(seconds) => (CallWord::Pause, Some(seconds)),
-        Call::Rests => (CallWord::Rests, None),
-    };
-    Ok(SourceRow {
-        source: source.source.get(),
-        address: copy_of(alloc, &source.address)?,
-        call,
-        pause,
-        frames: source.frames,
-        events: source.events,
-        ignored: ignored_rows(alloc, source.ignored.as_slice())?,
-        last: source.last,
-    })
-}
-
-fn ignored_rows(alloc: Global, ignored: &[Ignored]) -> Result<Vec<IgnoredRow>, AllocError> {
-    let mut rows = Vec::with_capacity(alloc, ignored.len())?;
-    for Ignored { reason, count } in ignored {
-        rows.push(IgnoredRow {
-            reason: String::from_str(alloc, reason.name())?,
-            count: *count,
-        })?;
-    }
-    Ok(rows)
-}
-
-fn seconds_row(alloc: Global, history: &History, sub: SubId) -> Result<SecondsRow, AllocError> {
-    let mut row = SecondsRow {
-        handed: Vec::new(alloc),
-        dropped: Vec::new(alloc),
-    };
-    if let Some(past) = history.past_of(sub) {
-        for second in &past.seconds(alloc)? {
-            row.handed.push(second.handed)?;
-            row.dropped.push(second.dropped)?;
-        }
-    }
-    Ok(row)
-}
-
-fn subscriber_row(
+fn put_sources(
     alloc: Global,
-    subscriber: &SubscriberState,
+    json: &mut String,
+    sources: &[SourceState],
+) -> Result<(), AllocError> {
+    json.push_str("{\"sources\":[")?;
+    for (place, source) in sources.iter().enumerate() {
+        json.push_str(comma(place))?;
+        put_source(alloc, json, source)?;
+    }
+    json.push_str("]")
+}
+
+fn put_source(alloc: Global, json: &mut String, source: &SourceState) -> Result<(), AllocError> {
+    let (call, pause) = match source.call {
+        Call::Up => (",\"call\":\"up\"", None),
+        Call::Calling => (",\"call\":\"calling\"", None),
+        Call::Pause(seconds) => (",\"call\":\"pause\"", Some(u64::from(seconds))),
+        Call::Rests => (",\"call\":\"rests\"", None),
+    };
+    let number = [("{\"source\":", Some(u64::from(source.source.get())))];
+    put_numbers(alloc, json, &number)?;
+    put_address(alloc, json, source.address.as_deref())?;
+    json.push_str(call)?;
+    let numbers = [
+        (",\"pause\":", pause),
+        (",\"frames\":", Some(source.frames)),
+        (",\"events\":", Some(source.events)),
+    ];
+    put_numbers(alloc, json, &numbers)?;
+    put_ignored(alloc, json, source.ignored.as_slice())?;
+    put_numbers(alloc, json, &[(",\"last\":", source.last)])?;
+    json.push_str("}")
+}
+
+fn put_ignored(alloc: Global, json: &mut String, ignored: &[Ignored]) -> Result<(), AllocError> {
+    json.push_str(",\"ignored\":[")?;
+    for (place, ignored) in ignored.iter().enumerate() {
+        json.push_str(comma(place))?;
+        put_text(alloc, json, "{\"reason\":", ignored.reason.name())?;
+        put_numbers(alloc, json, &[(",\"count\":", Some(ignored.count))])?;
+        json.push_str("}")?;
+    }
+    json.push_str("]")
+}
+
+fn put_subscribers(
+    alloc: Global,
+    json: &mut String,
+    subscribers: &[SubscriberState],
     history: &History,
-) -> Result<SubscriberRow, AllocError> {
+) -> Result<(), AllocError> {
+    json.push_str(",\"subscribers\":[")?;
+    for (place, subscriber) in subscribers.iter().enumerate() {
+        json.push_str(comma(place))?;
+        put_subscriber(alloc, json, subscriber)?;
+        put_seconds(alloc, json, history.past_of(subscriber.sub))?;
+    }
+    json.push_str("]")
+}
+
+fn put_subscriber(
+    alloc: Global,
+    json: &mut String,
+    subscriber: &SubscriberState,
+) -> Result<(), AllocError> {
     let (address, waiting) = match &subscriber.presence {
-        Presence::Connected(address) => (Some(String::from_str(alloc, address.as_str())?), None),
+        Presence::Connected(address) => (Some(address.as_str()), None),
         Presence::Waiting(seconds) => (None, Some(*seconds)),
     };
-    Ok(SubscriberRow {
-        subscriber: subscriber.sub.get(),
-        port: subscriber.port,
-        address,
-        waiting,
-        made: subscriber.made,
-        dropped: subscriber.dropped,
-        lost: subscriber.lost,
-        late: subscriber.late,
-        twice: subscriber.twice,
-        handed: subscriber.handed,
-        gaps: subscriber.gaps,
-        queue_frames: subscriber.queue.frames,
-        queue_bytes: subscriber.queue.bytes,
-        seconds: seconds_row(alloc, history, subscriber.sub)?,
-    })
+    let numbers = [
+        ("{\"subscriber\":", Some(u64::from(subscriber.sub.get()))),
+        (",\"port\":", subscriber.port.map(u64::from)),
+    ];
+    put_numbers(alloc, json, &numbers)?;
+    put_address(alloc, json, address)?;
+    let numbers = [
+        (",\"waiting\":", waiting),
+        (",\"made\":", Some(subscriber.made)),
+        (",\"dropped\":", Some(subscriber.dropped)),
+        (",\"lost\":", Some(subscriber.lost)),
+        (",\"late\":", Some(subscriber.late)),
+        (",\"twice\":", Some(subscriber.twice)),
+        (",\"handed\":", Some(subscriber.handed)),
+        (",\"gaps\":", Some(subscriber.gaps)),
+        (",\"queue_frames\":", Some(subscriber.queue.frames)),
+        (",\"queue_bytes\":", Some(subscriber.queue.bytes)),
+    ];
+    put_numbers(alloc, json, &numbers)
+}
+
+/// Puts what is remembered of a subscriber, and ends its object.
+fn put_seconds(alloc: Global, json: &mut String, past: Option<&Past>) -> Result<(), AllocError> {
+    json.push_str(",\"seconds\":{\"handed\":[")?;
+    put_side(alloc, json, past, false)?;
+    json.push_str("],\"dropped\":[")?;
+    put_side(alloc, json, past, true)?;
+    json.push_str("]}}")
+}
+
+/// Puts the frames of each second that were handed out, or dropped.
+fn put_side(
+    alloc: Global,
+    json: &mut String,
+    past: Option<&Past>,
+    is_dropped: bool,
+) -> Result<(), AllocError> {
+    let Some(past) = past else {
+        return Ok(());
+    };
+    let seconds = past.seconds(alloc)?;
+    for (place, second) in seconds.iter().enumerate() {
+        let frames = if is_dropped {
+            second.dropped
+        } else {
+            second.handed
+        };
+        put_numbers(alloc, json, &[(comma(place), Some(frames))])?;
+    }
+    Ok(())
+}
+
+fn put_streams(
+    alloc: Global,
+    json: &mut String,
+    streams: &[StreamState],
+) -> Result<(), AllocError> {
+    json.push_str(",\"streams\":[")?;
+    for (place, stream) in streams.iter().enumerate() {
+        json.push_str(comma(place))?;
+        put_stream(alloc, json, stream)?;
+    }
+    json.push_str("]}")
+}
+
+fn put_stream(alloc: Global, json: &mut String, stream: &StreamState) -> Result<(), AllocError> {
+    let numbers = [
+        ("{\"subscriber\":", Some(u64::from(stream.sub.get()))),
+        (",\"stream\":", Some(u64::from(stream.stream.get()))),
+    ];
+    put_numbers(alloc, json, &numbers)?;
+    json.push_str(if stream.on {
+        ",\"on\":true"
+    } else {
+        ",\"on\":false"
+    })?;
+    let numbers = [
+        (",\"effective\":", Some(u64::from(stream.effective))),
+        (",\"members\":", Some(u64::from(stream.members))),
+    ];
+    put_numbers(alloc, json, &numbers)?;
+    json.push_str("}")
 }

@@ -38,10 +38,6 @@ const CONFIG_9: [u8; 20] = [
 // DATA_RATE of all three.
 const RATE: [u8; 2] = [0x00, 0x1E];
 
-// CFG-2 of stream 101 with PMU 7 and count 1, before any tick: 74 bytes.
-const CONFIG_REPLY: [u8; 74] =
-    *b"\xAA\x32\x00\x4A\x00\x65\x00\x00\x00\x00\x0F\x00\x00\x00\x00\x0F\x42\x40\x00\x01PMU 7           \x00\x07\x00\x00\x00\x01\x00\x00\x00\x00VA              \x00\x00\x00\x01\x00\x00\x00\x01\x00\x1E\x75\xAF";
-
 // The bytes with their CHK behind them.
 fn framed(alloc: Global, parts: &[&[u8]]) -> Result<Vec<u8>, AllocError> {
     let mut frame = Vec::new(alloc);
@@ -228,70 +224,6 @@ fn count_wrap_and_empty_config(rt: HostRuntime) {
 }
 
 #[test]
-fn first_path(rt: HostRuntime) {
-    let alloc = rt.alloc();
-    let config = source_7(&rt, alloc).expect(&rt, "memory");
-    let definition = stream(alloc, 101, &[key(7, 7).expect(&rt, "reserved")]).expect(&rt, "memory");
-    let mut list = ConfigList::new(alloc).expect(&rt, "memory");
-    put_all(&rt, &mut list, &config).expect(&rt, "memory");
-    let mut out = OutCfg::new();
-    out.changed();
-    same(
-        &rt,
-        out.cfg2(alloc, &definition, 0, &list)
-            .expect(&rt, "memory")
-            .as_slice(),
-        CONFIG_REPLY.as_slice(),
-    );
-    let part = block(
-        &rt,
-        alloc,
-        &config,
-        0,
-        &[0, 0, 0x10, 0, 0x20, 0, 0, 0, 0, 0],
-        0,
-    )
-    .expect(&rt, "memory");
-    let frame = frame_3001(&rt, alloc, &definition, &list, &[part]).expect(&rt, "memory");
-    same(
-        &rt,
-        frame.as_slice(),
-        b"\xAA\x02\x00\x1A\x00\x65\x00\x00\x00\x64\x00\x00\x82\x35\x00\x00\x10\x00\x20\x00\x00\x00\x00\x00\x72\x76".as_slice(),
-    );
-}
-
-#[test]
-fn header_and_quality(rt: HostRuntime) {
-    let alloc = rt.alloc();
-    let (seven, eight) = (
-        key(7, 7).expect(&rt, "reserved"),
-        key(8, 8).expect(&rt, "reserved"),
-    );
-    let definition = stream(alloc, 101, &[seven, eight]).expect(&rt, "memory");
-    same(
-        &rt,
-        header(alloc, &definition, 0)
-            .expect(&rt, "memory")
-            .as_slice(),
-        b"\xAA\x12\x00\x15\x00\x65\x00\x00\x00\x00\x0F\x00\x00\x00\x48\x65\x6C\x6C\x6F\x17\x45".as_slice(),
-    );
-    let (config_7, config_8) = (
-        source_7(&rt, alloc).expect(&rt, "memory"),
-        source_8(&rt, alloc).expect(&rt, "memory"),
-    );
-    let mut list = ConfigList::new(alloc).expect(&rt, "memory");
-    put_all(&rt, &mut list, &config_8).expect(&rt, "memory");
-    put_all(&rt, &mut list, &config_7).expect(&rt, "memory");
-    let parts = [
-        block(&rt, alloc, &config_7, 0x24, &[0; 10], 0).expect(&rt, "memory"),
-        block(&rt, alloc, &config_8, 0x43, &[0; 8], 0).expect(&rt, "memory"),
-    ];
-    let frame = frame_3001(&rt, alloc, &definition, &list, &parts).expect(&rt, "memory");
-    same(&rt, frame.len(), 34);
-    same(&rt, frame[10], 0x64);
-}
-
-#[test]
 fn filler_after_wait(rt: HostRuntime) {
     let alloc = rt.alloc();
     let (seven, eight) = (
@@ -320,32 +252,6 @@ fn filler_after_wait(rt: HostRuntime) {
         &rt,
         frame.as_slice(),
         b"\xAA\x02\x00\x22\x00\x66\x00\x00\x00\x64\x00\x00\x82\x35\x00\x00\x10\x00\x20\x00\x00\x00\x00\x00\x80\x00\x80\x00\x80\x00\x00\x00\x36\xBA".as_slice(),
-    );
-}
-
-#[test]
-fn shared_frame(rt: HostRuntime) {
-    let alloc = rt.alloc();
-    let (seven, eleven) = (
-        key(9, 7).expect(&rt, "reserved"),
-        key(9, 11).expect(&rt, "reserved"),
-    );
-    let definition = stream(alloc, 101, &[seven, eleven]).expect(&rt, "memory");
-    let config = source_9(&rt, alloc).expect(&rt, "memory");
-    let mut list = ConfigList::new(alloc).expect(&rt, "memory");
-    put_all(&rt, &mut list, &config).expect(&rt, "memory");
-    let body = [
-        0, 0, 0x10, 0, 0x20, 0, 0, 0, 0, 0, 0, 0, 0x30, 0, 0x40, 0, 0, 0, 0, 0,
-    ];
-    let parts = [
-        block(&rt, alloc, &config, 0, &body, 0).expect(&rt, "memory"),
-        block(&rt, alloc, &config, 0, &body, 1).expect(&rt, "memory"),
-    ];
-    let frame = frame_3001(&rt, alloc, &definition, &list, &parts).expect(&rt, "memory");
-    same(
-        &rt,
-        frame.as_slice(),
-        b"\xAA\x02\x00\x24\x00\x65\x00\x00\x00\x64\x00\x00\x82\x35\x00\x00\x10\x00\x20\x00\x00\x00\x00\x00\x00\x00\x30\x00\x40\x00\x00\x00\x00\x00\x5D\x65".as_slice(),
     );
 }
 
@@ -457,45 +363,18 @@ fn stamp_of_its_own(rt: HostRuntime) {
     );
 }
 
-// CFG-1 lists all PMUs by rising key, CFG-2 the members in the definition's order.
+// Whatever place is guessed: 7 stands first, 8 behind it.
 #[test]
-fn counts_and_flush(rt: HostRuntime) {
+fn guessed_places(rt: HostRuntime) {
     let alloc = rt.alloc();
     let (seven, eight) = (
         key(7, 7).expect(&rt, "reserved"),
         key(8, 8).expect(&rt, "reserved"),
     );
     let mut list = ConfigList::new(alloc).expect(&rt, "memory");
-    put_all(
-        &rt,
-        &mut list,
-        source_8(&rt, alloc).expect(&rt, "memory").as_ref(),
-    )
-    .expect(&rt, "memory");
-    put_all(
-        &rt,
-        &mut list,
-        source_7(&rt, alloc).expect(&rt, "memory").as_ref(),
-    )
-    .expect(&rt, "memory");
-    let definition = stream(alloc, 101, &[eight, seven]).expect(&rt, "memory");
-    let mut out = OutCfg::new();
-    out.changed();
-    let first = out.cfg1(alloc, &definition, 0, &list).expect(&rt, "memory");
-    let second = out.cfg2(alloc, &definition, 0, &list).expect(&rt, "memory");
-    same(&rt, (first.len(), second.len()), (364, 364));
-    // STN, and CFGCNT of the first block.
-    same(
-        &rt,
-        (&first[20..25], &first[68..70]),
-        (b"PMU 7".as_slice(), [0, 1].as_slice()),
-    );
-    same(
-        &rt,
-        (&second[20..25], &second[308..310]),
-        (b"PMU 8".as_slice(), [0, 1].as_slice()),
-    );
-    // Whatever place is guessed: 7 stands first, 8 behind it.
+    for config in [source_8(&rt, alloc), source_7(&rt, alloc)] {
+        put_all(&rt, &mut list, config.expect(&rt, "memory").as_ref()).expect(&rt, "memory");
+    }
     for guess in [0, 1, 2, usize::MAX] {
         let mut next = guess;
         assert!(rt; list.get_next(&seven, &mut next).is_some());
@@ -507,17 +386,6 @@ fn counts_and_flush(rt: HostRuntime) {
     let mut next = 1;
     assert!(rt; list.get(&eight).is_none() && list.len() == 1);
     assert!(rt; list.get_next(&eight, &mut next).is_none());
-    let mut expected = CONFIG_REPLY;
-    expected[1] = 0x22;
-    expected[72] = 0x77;
-    expected[73] = 0x87;
-    same(
-        &rt,
-        out.cfg1(alloc, &definition, 0, &list)
-            .expect(&rt, "memory")
-            .as_slice(),
-        expected.as_slice(),
-    );
     list.clear();
     same(&rt, list.len(), 0);
 }

@@ -1,243 +1,125 @@
-ghost use Rattle.std.specs.Prelude.{◌<◌, IfOk, vec_len};
+//! The queue of a subscriber, row by row, and the memory that it keeps.
+
+ghost use Rattle.std.specs.Prelude.{◌<◌, vec_len};
 
 use crate::asserts::same;
-use pg_ring::{Drained, OutQueue, RingBytes, RingSize};
-use pg_wire::Refusal;
-use std::test::Fail;
+use pg_ring::{OutQueue, RingBytes, RingSize};
+use std::alloc::{AllocError, Global};
+use std::process::Abort;
+use std::test::*;
+
+/// A name, ring and ring bytes, then steps, each with its answer behind `=`:
+///
+/// - `data N`, `long N`: a data frame of 26 or 36 bytes that begins with AA and ends with N, and how many frames it dropped.
+/// - `reply N`: so many replies of 74 bytes, and how many were taken.
+/// - `lost`: a frame without memory.
+/// - `drain N`: a buffer of N bytes; length, frames begun and gap, then place and value of each byte that is not 0.
+/// - `clear`: how many data frames were cleared.
+/// - `queue`: last byte and gap of each data frame; bytes in hand, replies, pending, and the frames and bytes that wait.
+const ROWS: &str = "\
+ring-of-one|1 16777216|data 1=0|data 2=1|data 3=1|queue=3/2 0 0 0 1 26|drain 1=1 1 2 0:170|data 4=0|drain 200=51 1 0 24:3 25:170 50:4\n\
+bytes-drop-oldest|4 60|data 1=0|data 2=0|data 3=1|queue=2/1 3/0 0 0 0 2 52\n\
+bytes-without-hand|4 52|data 1=0|data 2=0|queue=1/0 2/0 0 0 0 2 52|drain 1=1 1 0 0:170|data 3=0|queue=2/0 3/0 25 0 0 3 77\n\
+bytes-and-longer-frame|4 60|data 1=0|data 2=0|long 3=2|queue=3/2 0 0 0 1 36\n\
+bytes-too-few|4 20|data 1=1|queue=0 0 1 0 0\n\
+a reply in hand has left its queue, and a hang-up counts no reply|4 16777216|reply 1=1|drain 1=1 1 0 0:170|reply 9=8|lost=|queue=73 8 1 9 665|clear=0\n\
+what waits|2 16777216|queue=0 0 0 0 0|reply 2=2|data 1=0|data 2=0|data 3=1|queue=2/1 3/0 0 2 0 4 200|drain 80=80 2 0 0:170 74:170|queue=2/1 3/0 68 0 0 3 120|drain 68=68 0 0|queue=2/1 3/0 0 0 0 2 52|lost=|queue=2/1 3/0 0 0 1 2 52|clear=2|queue=0 0 0 0 0";
 
 /// A frame of this length: it begins with AA, and its last byte tells the frames apart.
-fn frame_of(rt: &HostRuntime, len: usize, last: u8) -> Result<Vec<u8>, Fail>
+fn frame_of(rt: &impl Abort, alloc: Global, len: usize, last: u8) -> Vec<u8>
     requires { 0 < len }
-    ensures { IfOk result (λ frame. 0 < vec_len frame) }
+    ensures { 0 < vec_len result }
 {
-    let mut frame = vec![in rt.alloc(); 0; len]?;
+    let mut frame = vec![in alloc; 0; len].expect(rt, "memory");
     frame[len - 1] = last;
     frame[0] = 0xAA;
-    Ok(frame)
+    frame
 }
 
-fn queue_of(rt: &HostRuntime, ring: u16, bytes: u32) -> Result<OutQueue, Fail> {
-    let ring = RingSize::new(ring).ok_or("ring size")?;
-    let bytes = RingBytes::new(bytes).ok_or("ring bytes")?;
-    match OutQueue::new(rt.alloc(), ring, bytes) {
-        Ok(queue) => Ok(queue),
-        Err(refusal) => Err(Fail::from(refusal.name())),
-    }
-}
-
-/// Pushes a data frame of 26 bytes, and returns how many were dropped.
-fn push(rt: &HostRuntime, queue: &mut OutQueue, last: u8) -> Result<u64, Fail> {
-    let frame = frame_of(rt, 26, last)?;
-    Ok(queue.push_data(frame))
-}
-
-/// Pushes replies of 74 bytes, and returns how many were taken.
-fn push_replies(rt: &HostRuntime, queue: &mut OutQueue, count: u8) -> Result<u32, Fail> {
-    let mut taken = 0u32;
-    for _ in 0..count {
-        let frame = frame_of(rt, 74, 0)?;
-        match queue.push_reply(frame) {
-            Ok(()) => taken = taken.saturating_add(1),
-            Err(Refusal::ReplyFull) => (),
-            Err(_) => return Err(Fail::from("another refusal")),
+fn drained(alloc: Global, queue: &mut OutQueue, size: usize) -> Result<String, AllocError> {
+    let mut buf = vec![in alloc; 0; size]?;
+    let out = queue.drain(&mut buf);
+    let (len, begun, gap) = (out.len, out.begun, out.gap);
+    let mut text = format!(in alloc; "{len} {begun} {gap}")?;
+    for place in 0..buf.len() {
+        match buf.get(place) {
+            Some(byte) if *byte != 0 => text.push_str(&format!(in alloc; " {place}:{byte}")?)?,
+            _ => (),
         }
     }
-    Ok(taken)
+    Ok(text)
 }
 
-/// The last byte and the gap of the data frame at `index`.
-fn seen(queue: &OutQueue, index: usize) -> Option<(u8, u64)> {
-    let (frame, gap) = queue.frame_at(index)?;
-    Some((frame.last().copied()?, gap))
-}
-
-/// Drains so many bytes, and returns them behind what the drain answered.
-fn drain(rt: &HostRuntime, queue: &mut OutQueue, n: usize) -> Result<(Drained, Vec<u8>), Fail> {
-    let mut buf = vec![in rt.alloc(); 0; n]?;
-    let drained = queue.drain(&mut buf);
-    Ok((drained, buf))
-}
-
-#[test]
-fn ring_of_one(rt: HostRuntime) -> Result<(), Fail> {
-    let mut queue = queue_of(&rt, 1, 16_777_216)?;
-    let dropped = [
-        push(&rt, &mut queue, 1)?,
-        push(&rt, &mut queue, 2)?,
-        push(&rt, &mut queue, 3)?,
-    ];
-    same(&rt, dropped, [0, 1, 1]);
-    same(&rt, (seen(&queue, 0), queue.frames()), (Some((3, 2)), 1));
-    let (first, byte) = drain(&rt, &mut queue, 1)?;
-    same(
-        &rt,
-        first,
-        Drained {
-            len: 1,
-            begun: 1,
-            gap: 2,
-        },
-    );
-    same(&rt, byte.first().copied(), Some(0xAA));
-    push(&rt, &mut queue, 4)?;
-    let (second, bytes) = drain(&rt, &mut queue, 200)?;
-    same(
-        &rt,
-        second,
-        Drained {
-            len: 51,
-            begun: 1,
-            gap: 0,
-        },
-    );
-    same(
-        &rt,
-        (bytes.get(24).copied(), bytes.get(25).copied()),
-        (Some(3), Some(0xAA)),
-    );
-    same(
-        &rt,
-        (bytes.get(50).copied(), bytes.get(51).copied()),
-        (Some(4), Some(0)),
-    );
-    Ok(())
-}
-
-/// How many frames and bytes wait.
-fn waits(queue: &OutQueue) -> (u64, u64) {
-    (queue.frames_to_leave(), queue.bytes_to_leave())
-}
-
-#[test]
-fn what_waits(rt: HostRuntime) -> Result<(), Fail> {
-    let mut queue = queue_of(&rt, 2, 16_777_216)?;
-    same(&rt, waits(&queue), (0, 0));
-    push_replies(&rt, &mut queue, 2)?;
-    for last in 1..=3 {
-        push(&rt, &mut queue, last)?;
+fn queued(alloc: Global, queue: &OutQueue) -> Result<String, AllocError> {
+    let mut text = String::new(alloc);
+    for place in 0..queue.frames() {
+        if let Some((frame, gap)) = queue.frame_at(place) {
+            let last = frame.last().copied().unwrap_or(0);
+            text.push_str(&format!(in alloc; "{last}/{gap} ")?)?;
+        }
     }
-    same(&rt, waits(&queue), (4, 200));
-    drain(&rt, &mut queue, 80)?;
-    same(&rt, waits(&queue), (3, 120));
-    drain(&rt, &mut queue, 68)?;
-    same(&rt, waits(&queue), (2, 52));
-    queue.push_lost();
-    same(&rt, waits(&queue), (2, 52));
-    queue.clear();
-    same(&rt, waits(&queue), (0, 0));
-    Ok(())
+    let (rest, replies, pending) = (queue.rest().len(), queue.replies(), queue.pending());
+    let (frames, bytes) = (queue.frames_to_leave(), queue.bytes_to_leave());
+    text.push_str(&format!(in alloc; "{rest} {replies} {pending} {frames} {bytes}")?)?;
+    Ok(text)
+}
+
+/// What a step answers.
+fn answered(
+    rt: &impl Abort,
+    alloc: Global,
+    queue: &mut OutQueue,
+    step: &str,
+) -> Result<String, AllocError> {
+    let (word, number) = step.split_once(' ').unwrap_or((step, "0"));
+    let number = number.parse::<u16>().expect(rt, "a number");
+    let last = u8::try_from(number).unwrap_or(u8::MAX);
+    match word {
+        "drain" => return drained(alloc, queue, usize::from(number)),
+        "queue" => return queued(alloc, queue),
+        _ => (),
+    }
+    let mut count = 0u64;
+    match word {
+        "data" => count = queue.push_data(frame_of(rt, alloc, 26, last)),
+        "long" => count = queue.push_data(frame_of(rt, alloc, 36, last)),
+        "clear" => count = queue.clear(),
+        "reply" => {
+            for _ in 0..number {
+                let is_taken = queue.push_reply(frame_of(rt, alloc, 74, 0)).is_ok();
+                count = count.saturating_add(u64::from(is_taken));
+            }
+        }
+        _ => {
+            queue.push_lost();
+            return Ok(String::new(alloc));
+        }
+    }
+    format!(in alloc; "{count}")
+}
+
+fn queue_of(rt: &impl Abort, alloc: Global, ring: u16, bytes: u32) -> OutQueue {
+    let ring = RingSize::new(ring).expect(rt, "a ring");
+    let bytes = RingBytes::new(bytes).expect(rt, "ring bytes");
+    OutQueue::new(alloc, ring, bytes).expect(rt, "memory")
 }
 
 #[test]
-fn bytes_drop_oldest(rt: HostRuntime) -> Result<(), Fail> {
-    let mut queue = queue_of(&rt, 4, 60)?;
-    push(&rt, &mut queue, 1)?;
-    push(&rt, &mut queue, 2)?;
-    same(&rt, push(&rt, &mut queue, 3)?, 1);
-    same(
-        &rt,
-        (seen(&queue, 0), seen(&queue, 1)),
-        (Some((2, 1)), Some((3, 0))),
-    );
-    same(&rt, seen(&queue, 2), None);
-    Ok(())
-}
-
-#[test]
-fn bytes_without_hand(rt: HostRuntime) -> Result<(), Fail> {
-    let mut queue = queue_of(&rt, 4, 52)?;
-    push(&rt, &mut queue, 1)?;
-    push(&rt, &mut queue, 2)?;
-    same(
-        &rt,
-        (seen(&queue, 0), seen(&queue, 1)),
-        (Some((1, 0)), Some((2, 0))),
-    );
-    drain(&rt, &mut queue, 1)?;
-    same(&rt, push(&rt, &mut queue, 3)?, 0);
-    same(
-        &rt,
-        (seen(&queue, 0), seen(&queue, 1)),
-        (Some((2, 0)), Some((3, 0))),
-    );
-    same(&rt, queue.rest().len(), 25);
-    Ok(())
-}
-
-#[test]
-fn bytes_and_longer_frame(rt: HostRuntime) -> Result<(), Fail> {
-    let mut queue = queue_of(&rt, 4, 60)?;
-    push(&rt, &mut queue, 1)?;
-    push(&rt, &mut queue, 2)?;
-    let longer = frame_of(&rt, 36, 3)?;
-    same(&rt, queue.push_data(longer), 2);
-    same(&rt, (seen(&queue, 0), queue.frames()), (Some((3, 2)), 1));
-    Ok(())
-}
-
-#[test]
-fn bytes_too_few(rt: HostRuntime) -> Result<(), Fail> {
-    let mut queue = queue_of(&rt, 4, 20)?;
-    same(&rt, push(&rt, &mut queue, 1)?, 1);
-    same(&rt, (queue.frames(), queue.pending()), (0, 1));
-    Ok(())
-}
-
-#[test]
-fn replies_before_data(rt: HostRuntime) -> Result<(), Fail> {
-    let mut queue = queue_of(&rt, 4, 16_777_216)?;
-    same(&rt, push_replies(&rt, &mut queue, 9)?, 8);
-    push(&rt, &mut queue, 1)?;
-    let (drained, bytes) = drain(&rt, &mut queue, 1000)?;
-    same(
-        &rt,
-        drained,
-        Drained {
-            len: 618,
-            begun: 9,
-            gap: 0,
-        },
-    );
-    same(
-        &rt,
-        (bytes.get(591).copied(), bytes.get(617).copied()),
-        (Some(0), Some(1)),
-    );
-    Ok(())
-}
-
-#[test]
-fn hang_up_clears(rt: HostRuntime) -> Result<(), Fail> {
-    let mut queue = queue_of(&rt, 4, 16_777_216)?;
-    push(&rt, &mut queue, 1)?;
-    push(&rt, &mut queue, 2)?;
-    drain(&rt, &mut queue, 1)?;
-    same(&rt, queue.clear(), 2);
-    let (nothing, _) = drain(&rt, &mut queue, 99)?;
-    same(
-        &rt,
-        nothing,
-        Drained {
-            len: 0,
-            begun: 0,
-            gap: 0,
-        },
-    );
-    Ok(())
-}
-
-/// A reply in hand has left its queue, so eight more may stand behind it, and a hang-up counts no reply.
-#[test]
-fn reply_in_hand(rt: HostRuntime) -> Result<(), Fail> {
-    let mut queue = queue_of(&rt, 4, 16_777_216)?;
-    push_replies(&rt, &mut queue, 1)?;
-    drain(&rt, &mut queue, 1)?;
-    same(&rt, push_replies(&rt, &mut queue, 9)?, 8);
-    same(&rt, queue.reply_at(7).map_or(0, |reply| reply.len()), 74);
-    queue.push_lost();
-    same(&rt, (queue.replies(), queue.pending()), (8, 1));
-    same(&rt, queue.clear(), 0);
-    Ok(())
+fn rows(rt: HostRuntime) {
+    let alloc = rt.alloc();
+    for row in ROWS.split('\n') {
+        let (name, row) = row.split_once('|').expect(&rt, "a name");
+        let (sizes, steps) = row.split_once('|').expect(&rt, "sizes");
+        let (ring, bytes) = sizes.split_once(' ').expect(&rt, "two sizes");
+        let ring = ring.parse::<u16>().expect(&rt, "a ring");
+        let bytes = bytes.parse::<u32>().expect(&rt, "ring bytes");
+        let mut queue = queue_of(&rt, alloc, ring, bytes);
+        for step in steps.split('|') {
+            let (step, wanted) = step.split_once('=').expect(&rt, "an answer");
+            let came = answered(&rt, alloc, &mut queue, step).expect(&rt, "memory");
+            assert!(rt; came.as_str() == wanted, "{name}: {step}: {came}");
+        }
+    }
 }
 
 /// The room of the memory that the queue gives for the next frame.
@@ -246,23 +128,24 @@ fn spare(rt: &HostRuntime, queue: &mut OutQueue) -> usize {
 }
 
 #[test]
-fn memory_is_kept(rt: HostRuntime) -> Result<(), Fail> {
-    let mut queue = queue_of(&rt, 1, 16_777_216)?;
-    push(&rt, &mut queue, 1)?;
+fn memory_is_kept(rt: HostRuntime) {
+    let alloc = rt.alloc();
+    let mut queue = queue_of(&rt, alloc, 1, 16_777_216);
+    queue.push_data(frame_of(&rt, alloc, 26, 1));
     same(&rt, spare(&rt, &mut queue), 0);
-    push(&rt, &mut queue, 2)?;
+    queue.push_data(frame_of(&rt, alloc, 26, 2));
     assert!(rt; spare(&rt, &mut queue) >= 26);
     same(&rt, spare(&rt, &mut queue), 0);
-    let mut queue = queue_of(&rt, 4, 16_777_216)?;
+    let mut queue = queue_of(&rt, alloc, 4, 16_777_216);
     for _ in 0..2 {
         for last in 1..=3 {
-            push(&rt, &mut queue, last)?;
+            queue.push_data(frame_of(&rt, alloc, 26, last));
         }
-        drain(&rt, &mut queue, 78)?;
+        let mut buf = [0; 78];
+        queue.drain(&mut buf);
         for _ in 0..3 {
             assert!(rt; spare(&rt, &mut queue) >= 26);
         }
         same(&rt, spare(&rt, &mut queue), 0);
     }
-    Ok(())
 }

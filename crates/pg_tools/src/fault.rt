@@ -1,37 +1,25 @@
 //! What ends a tool.
 
+use std::io;
 use std::net::SocketAddr;
-use std::{fmt, io};
+use thiserror::Error;
 
 /// What ends a tool.
-#[derive(Debug, Drop)]
+#[derive(Debug, Drop, Error)]
 pub enum Fault {
     /// This address can't be bound.
+    #[error("{0} can't be bound: {1}")]
     Bind(SocketAddr, io::Error),
     /// No connection to this address can be had.
+    #[error("{0} can't be reached: {1}")]
     Reach(SocketAddr, io::Error),
     /// This file can't be written.
+    #[error("the file of --raw can't be written: {0}")]
     File(io::Error),
     /// Standard output can't be written.
+    #[error("standard output can't be written")]
     Output,
     /// The system doesn't do what is needed, or memory ran out.
-    System(io::Error),
-}
-
-impl fmt::Display for Fault {
-    fn fmt<W: fmt::Write>(&self, f: &mut fmt::Formatter<W>) -> fmt::Result {
-        match self {
-            Fault::Bind(address, error) => write!(f, "{address} can't be bound: {error}"),
-            Fault::Reach(address, error) => write!(f, "{address} can't be reached: {error}"),
-            Fault::File(error) => write!(f, "the file of --raw can't be written: {error}"),
-            Fault::Output => write!(f, "standard output can't be written"),
-            Fault::System(error) => write!(f, "{error}"),
-        }
-    }
-}
-
-impl From<io::Error> for Fault {
-    fn from(error: io::Error) -> Fault {
-        Fault::System(error)
-    }
+    #[error(transparent)]
+    System(#[from] io::Error),
 }

@@ -3,8 +3,8 @@
 ghost use Rattle.std.specs.Prelude.{◌≡◌, ◌+◌, ◌*◌, ◌≤◌, ◌<◌, IfSome};
 
 use crate::moment::Rate;
-use std::fmt;
 use std::net::{SocketAddr, SocketAddrV4};
+use thiserror::Error;
 
 /// What a source does wrong, each fault by itself; 0 where it does not.
 #[derive(Clone, Copy, Debug, PartialEq, Eq)]
@@ -148,20 +148,13 @@ pub struct SimulateWords<'a> {
 }
 
 /// A word that is none of an option's: which option it is, and what would be right.
-#[derive(Clone, Copy, Debug, PartialEq, Eq)]
+#[derive(Clone, Copy, Debug, PartialEq, Eq, Error)]
+#[error("{option} takes {takes}")]
 pub struct Misword {
     /// The option, or the argument.
     pub option: &'static str,
     /// What it takes.
     pub takes: &'static str,
-}
-
-impl fmt::Display for Misword {
-    fn fmt<W: fmt::Write>(&self, f: &mut fmt::Formatter<W>) -> fmt::Result {
-        let option = self.option;
-        let takes = self.takes;
-        write!(f, "{option} takes {takes}")
-    }
 }
 
 /// A number of decimal digits alone, from `least` to `most`.

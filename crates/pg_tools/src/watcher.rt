@@ -11,71 +11,45 @@ use pg_wire::{Deframer, Kind, PmuId, Refusal, Taken, read_head};
 use std::alloc::Global;
 use std::fmt;
 use std::sync::Arc;
+use thiserror::Error;
 
 /// The most bytes of a header's text that are kept.
 const TEXT: usize = 1_024;
 
 /// What is wrong with what came.
-#[derive(Clone, Copy, Debug, PartialEq, Eq)]
+#[derive(Clone, Copy, Debug, PartialEq, Eq, Error)]
 pub enum Trouble {
     /// A frame was left out: `BadCheck`, its CHK is wrong; `BadVersion`.
+    #[error("a frame is left out: {}", .0.name())]
     Skipped(Refusal),
     /// The bytes are no frames from here on: `BadFirst`, `BadSecond` or `ShortSize`.
+    #[error("the bytes are no frames from here on: {}", .0.name())]
     Broken(Refusal),
     /// A configuration that can't be read, or of another IDCODE (`WrongId`).
+    #[error("a configuration can't be taken: {}", .0.name())]
     Config(Refusal),
     /// A header of another IDCODE.
+    #[error("a header can't be taken: {}", .0.name())]
     Header(Refusal),
     /// A data frame that does not fit the configuration: `BadLength`, `BadFraction`; of another IDCODE, `WrongId`; before any
     /// configuration, `NoConfig`.
+    #[error("a data frame can't be taken: {}", .0.name())]
     Data(Refusal),
     /// A data frame whose stamp does not rise: SOC and numerator of the last frame, and of this one.
+    #[error("a stamp does not rise: {1} comes after {0}")]
     Order(Stamp, Stamp),
     /// A frame of a kind that was not asked for.
+    #[error("a frame was not asked for: type {}", .0.number())]
     Unasked(Kind),
     /// The peer closed the connection.
+    #[error("the peer closed the connection")]
     Closed,
     /// No configuration came in time.
+    #[error("no configuration came; is the stream's number right?")]
     Silent,
     /// No data frame came at all.
+    #[error("no data frame came")]
     NoFrame,
-}
-
-impl fmt::Display for Trouble {
-    fn fmt<W: fmt::Write>(&self, f: &mut fmt::Formatter<W>) -> fmt::Result {
-        match self {
-            Trouble::Skipped(refusal) => {
-                let name = refusal.name();
-                write!(f, "a frame is left out: {name}")
-            }
-            Trouble::Broken(refusal) => {
-                let name = refusal.name();
-                write!(f, "the bytes are no frames from here on: {name}")
-            }
-            Trouble::Config(refusal) => {
-                let name = refusal.name();
-                write!(f, "a configuration can't be taken: {name}")
-            }
-            Trouble::Header(refusal) => {
-                let name = refusal.name();
-                write!(f, "a header can't be taken: {name}")
-            }
-            Trouble::Data(refusal) => {
-                let name = refusal.name();
-                write!(f, "a data frame can't be taken: {name}")
-            }
-            Trouble::Order(last, next) => {
-                write!(f, "a stamp does not rise: {next} comes after {last}")
-            }
-            Trouble::Unasked(kind) => {
-                let number = kind.number();
-                write!(f, "a frame was not asked for: type {number}")
-            }
-            Trouble::Closed => write!(f, "the peer closed the connection"),
-            Trouble::Silent => write!(f, "no configuration came; is the stream's number right?"),
-            Trouble::NoFrame => write!(f, "no data frame came"),
-        }
-    }
 }
 
 /// When a frame was measured: SOC, and the numerator of FRACSEC.

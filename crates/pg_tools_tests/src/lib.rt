@@ -7,6 +7,8 @@ mod asserts;
 #[cfg(test)]
 mod desk;
 #[cfg(test)]
+mod errors;
+#[cfg(test)]
 mod gateway;
 #[cfg(test)]
 mod hostile;

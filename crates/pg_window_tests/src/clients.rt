@@ -1,7 +1,7 @@
 //! Who answers at a window, and who looks in.
 
-use pg_serve::Work;
 use pg_service::{Journal, Mailbox, Waiting};
+use pg_shared::Work;
 use pg_status::{Answer, Histogram, Presence, Queue, Snapshot, SubscriberState};
 use pg_window::Clerk;
 use pg_wire::SubId;

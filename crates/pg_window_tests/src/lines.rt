@@ -2,7 +2,7 @@
 
 use crate::asserts::same;
 use crate::clients::{Fake, LONG, Room, got, is, make_room};
-use pg_serve::Work;
+use pg_shared::Work;
 use pg_window::{Window, listen_at};
 use std::alloc::Global;
 use std::io::{ErrorKind, Read, Write};

@@ -3,7 +3,7 @@
 use crate::asserts::same;
 use crate::clients::{Fake, Room, got, make_room};
 use mio::net::TcpListener;
-use pg_serve::Work;
+use pg_shared::Work;
 use pg_window::Window;
 use std::alloc::Global;
 use std::io;

@@ -4,9 +4,9 @@ use Rattle.pg_session.specs.Events.{connect}
 use Rattle.pg_gateway.specs.declared.event.Event.TheVariants as event
 use Rattle.pg_gateway.specs.Occurrences.{asks, told}
 use Rattle.pg_gateway.specs.Posting.{Posted}
-use Rattle.pg_serve.specs.Gates.{said_at}
-use Rattle.pg_serve.specs.Onward.{own_in}
-use Rattle.pg_serve.specs.Delivery.{NoneDrains, ArePassed}
+use Rattle.pg_shared.specs.Gates.{said_at}
+use Rattle.pg_shared.specs.Onward.{own_in}
+use Rattle.pg_shared.specs.Delivery.{NoneDrains, ArePassed}
 use Rattle.pg_proof_service.proofs.Joining.{gone_on}
 use Rattle.pg_proof_service.proofs.connect.Goals as goal
 

@@ -1,6 +1,6 @@
 use Rattle.std.proofs.Common.{refl}
 use Rattle.pg_ingest.specs.Shown.{beginning}
-use Rattle.pg_serve.specs.Continuing.{goes_on_same, goes_on_more}
+use Rattle.pg_shared.specs.Continuing.{goes_on_same, goes_on_more}
 use Rattle.pg_proof_service.proofs.link_calls.Goals as goal
 
 pub returns-in_err-link-clause-onward : goal.returns-in_err-link-clause-onward

@@ -1,5 +1,5 @@
-use Rattle.pg_serve.specs.Telling.{HasTold}
-use Rattle.pg_serve.specs.Onward.{GoesOn}
+use Rattle.pg_shared.specs.Telling.{HasTold}
+use Rattle.pg_shared.specs.Onward.{GoesOn}
 use Rattle.pg_proof_service.proofs.link_calls.Given as goal
 
 abbrev pub invariant-calls : goal.invariant-calls

@@ -1,6 +1,6 @@
 use Rattle.std.proofs.Common.{◌≡◌, [], IfOk, rules, subst}
-use Rattle.pg_serve.specs.Delivery.{Delivers, HasHeard}
-use Rattle.pg_serve.specs.Onward.{GoesOn}
+use Rattle.pg_shared.specs.Delivery.{Delivers, HasHeard}
+use Rattle.pg_shared.specs.Onward.{GoesOn}
 use Rattle.pg_proof_service.specs.Threads.{beside}
 use Rattle.pg_proof_service.proofs.Joining.{first_begins, second_begins, is_served, is_beside, both_legal}
 use Rattle.pg_proof_service.proofs.serve_both.Goals as goal

@@ -1,7 +1,7 @@
 use Rattle.std.proofs.Common.{◌≡◌, ◌∙◌, ap, subst, sym, []}
 use Rattle.pg_session.specs.Commands.{Hearing}
-use Rattle.pg_serve.specs.Continuing.{goes_on_same, goes_on_more}
-use Rattle.pg_serve.specs.Delivery.{Delivers}
+use Rattle.pg_shared.specs.Continuing.{goes_on_same, goes_on_more}
+use Rattle.pg_shared.specs.Delivery.{Delivers}
 use Rattle.pg_proof_service.proofs.Joining.{still_legal, staying}
 use Rattle.pg_proof_service.proofs.serve_calls.Goals as goal
 

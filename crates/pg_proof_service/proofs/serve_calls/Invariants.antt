@@ -1,10 +1,10 @@
 use Rattle.std.proofs.Common.{◌≡◌, []}
-use Rattle.pg_serve.specs.Delivery.{Delivers, HasHeard}
+use Rattle.pg_shared.specs.Delivery.{Delivers, HasHeard}
 use Rattle.pg_proof_service.specs.Fed.{IsFed}
 use Rattle.pg_gateway.specs.State.{opening}
 use Rattle.pg_gateway.specs.Histories.{Legal}
-use Rattle.pg_serve.specs.Sharing.{history_of}
-use Rattle.pg_serve.specs.Onward.{GoesOn}
+use Rattle.pg_shared.specs.Sharing.{history_of}
+use Rattle.pg_shared.specs.Onward.{GoesOn}
 use Rattle.pg_proof_service.specs.Since.{Connects}
 use Rattle.pg_proof_service.proofs.serve_calls.Given as goal
 

@@ -5,7 +5,7 @@ use Rattle.pg_reload.specs.Alike.{has}
 use Rattle.pg_reload.specs.Apart.{touches}
 use Rattle.pg_reload.specs.Edits.{edits_between}
 use Rattle.pg_reload.specs.Leading.{has_after}
-use Rattle.pg_setup.specs.Setups.{door_of}
+use Rattle.pg_operator.specs.Setups.{door_of}
 use Rattle.pg_reload.specs.Ports.{ports_by}
 use Rattle.pg_reload.specs.Orders.{calls_by, is_about, is_of}
 use Rattle.pg_reload.proofs.Calling.{no_order, orders_joined, port_left, source_left}

@@ -1,6 +1,6 @@
 use Rattle.std.proofs.Common.{◌∙◌, ◌++◌, map}
 use Rattle.std.specs.List.{filter_map}
-use Rattle.pg_setup.specs.Setups.{door_of}
+use Rattle.pg_operator.specs.Setups.{door_of}
 use Rattle.pg_reload.specs.Orders.{closed, listened_of, told}
 use Rattle.pg_reload.specs.Ports.{opened_of, ports_by}
 use Rattle.pg_reload.proofs.Calling.{whole_ports}

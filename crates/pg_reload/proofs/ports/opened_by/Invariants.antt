@@ -1,5 +1,5 @@
 use Rattle.std.proofs.Common.{◌≡◌, drop, map}
-use Rattle.pg_setup.specs.Setups.{door_of}
+use Rattle.pg_operator.specs.Setups.{door_of}
 use Rattle.pg_reload.specs.Ports.{opened_by}
 use Rattle.pg_reload.proofs.ports.opened_by.Given as goal
 

@@ -1,6 +1,6 @@
 use Rattle.std.proofs.Common.{◌≡◌, drop, map}
 use Rattle.std.specs.Prelude.{◌++◌}
-use Rattle.pg_setup.specs.Setups.{door_of}
+use Rattle.pg_operator.specs.Setups.{door_of}
 use Rattle.pg_reload.specs.Ports.{opened_of, ports_by}
 use Rattle.pg_reload.proofs.ports.ports_by.Given as goal
 

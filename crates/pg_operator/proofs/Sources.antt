@@ -1,0 +1,138 @@
+-- What the tables of sources say together, and the rules of sources, each made where its source first stands.
+use Rattle.std.proofs.Common.{◌≡◌, ◌∙◌, sym, ap, refl, rules, eqb-true, ℕ, Bool, true, false, not, List, [], ◌∷◌, ◌++◌, Option, Some, None, option_map, append-nil}
+use Rattle.std.specs.Prelude.{◌==◌, ◌&&◌, ◌||◌, filter, option_and_then, option_to_list}
+use Rattle.std.specs.List.{list_any}
+use Rattle.std.specs.Option.{unwrap_or}
+use Rattle.std.proofs.lemmas.List.Folds.{list_any-append}
+use Rattle.pg_operator.proofs.Lists.{pushed, same_option}
+use Rattle.pg_operator.specs.declared.source.SourceRules.{SourceRules}
+use Rattle.pg_operator.specs.Setups.{Pmu, agreed, every, once, rules_of, said}
+
+-- ---- what two tables say together, and those that are left
+
+pub together_some : (a b c : Option ℕ) (vs : List ℕ) → agreed (option_to_list a ++ option_to_list b) ≡ Some c
+    → agreed (option_to_list a ++ (option_to_list b ++ vs)) ≡ agreed (option_to_list c ++ vs)
+together_some None None c vs h = let e : None ≡ c = search (rules, h) in ap (λ o. agreed (option_to_list o ++ vs)) e
+together_some None (Some b) c vs h = let e : Some b ≡ c = search (rules, h) in ap (λ o. agreed (option_to_list o ++ vs)) e
+together_some (Some a) None c vs h = let e : Some a ≡ c = search (rules, h) in ap (λ o. agreed (option_to_list o ++ vs)) e
+together_some (Some a) (Some b) c vs h = go (b == a) refl h
+  where
+    go : (t : Bool) → (b == a) ≡ t → agreed (a ∷ b ∷ []) ≡ Some c → agreed (a ∷ b ∷ vs) ≡ agreed (option_to_list c ++ vs)
+    go true e k =
+        let one : agreed (a ∷ b ∷ []) ≡ Some (Some a) = rw e refl in
+        let f : Some a ≡ c = search (rules, sym one ∙ k) in
+        rw e (ap (λ o. agreed (option_to_list o ++ vs)) f)
+    go false e k = let two : agreed (a ∷ b ∷ []) ≡ None = rw e refl in absurd (search (rules, sym two ∙ k))
+
+pub together_none : (a b : Option ℕ) (vs : List ℕ) → agreed (option_to_list a ++ option_to_list b) ≡ None
+    → agreed (option_to_list a ++ (option_to_list b ++ vs)) ≡ None
+together_none None None vs h = absurd (search (rules, h))
+together_none None (Some b) vs h = absurd (search (rules, h))
+together_none (Some a) None vs h = absurd (search (rules, h))
+together_none (Some a) (Some b) vs h = go (b == a) refl h
+  where
+    go : (t : Bool) → (b == a) ≡ t → agreed (a ∷ b ∷ []) ≡ None → agreed (a ∷ b ∷ vs) ≡ None
+    go true e k = let one : agreed (a ∷ b ∷ []) ≡ Some (Some a) = rw e refl in absurd (search (rules, sym one ∙ k))
+    go false e k = rw e refl
+
+-- what is said so far, and by the tables that are left
+abbrev pub goes_on : (Pmu → Option ℕ) → ℕ → Option ℕ → List Pmu → Option (Option ℕ)
+goes_on key source seen ps = agreed (option_to_list seen ++ said key source ps)
+
+pub own_table : (key : Pmu → Option ℕ) (source : ℕ) (a c : Option ℕ) (p : Pmu) (ps : List Pmu) → (p.key.source == source) ≡ true
+    → agreed (option_to_list a ++ option_to_list (key p)) ≡ Some c → goes_on key source a (p ∷ ps) ≡ goes_on key source c ps
+own_table key source a c p ps own h = rw own (together_some a (key p) c (said key source ps) h)
+
+pub differs_here : (key : Pmu → Option ℕ) (source : ℕ) (a : Option ℕ) (p : Pmu) (ps : List Pmu) → (p.key.source == source) ≡ true
+    → agreed (option_to_list a ++ option_to_list (key p)) ≡ None → goes_on key source a (p ∷ ps) ≡ None
+differs_here key source a p ps own h = rw own (together_none a (key p) (said key source ps) h)
+
+pub other_table : (key : Pmu → Option ℕ) (source : ℕ) (a : Option ℕ) (p : Pmu) (ps : List Pmu) → (p.key.source == source) ≡ false
+    → goes_on key source a (p ∷ ps) ≡ goes_on key source a ps
+other_table key source a p ps other = rw other refl
+
+pub none_left : (key : Pmu → Option ℕ) (source : ℕ) (a : Option ℕ) → goes_on key source a [] ≡ Some a
+none_left key source None = refl
+none_left key source (Some v) = refl
+
+pub no_silence : (pmus : List Pmu) (source : ℕ) → agreed (said (λ p. p.silence) source pmus) ≡ None → rules_of pmus source ≡ None
+no_silence pmus source h = rw h refl
+
+and_then_none : (f : Option ℕ → Option ℕ → SourceRules) (o : Option (Option ℕ)) → option_and_then (λ silence. option_map (f silence) None) o ≡ None
+and_then_none f None = refl
+and_then_none f (Some s) = refl
+
+pub no_clock : (pmus : List Pmu) (source : ℕ) → agreed (said (λ p. p.clock_ms) source pmus) ≡ None → rules_of pmus source ≡ None
+no_clock pmus source h =
+    rw h (and_then_none (λ silence clock. record { source = source; silence = unwrap_or silence 10; clock_ms = clock }) (agreed (said (λ p. p.silence) source pmus)))
+
+-- ---- each source once
+
+abbrev pub has : ℕ → List SourceRules → Bool
+has y rules = list_any (λ r. r.source == y) rules
+
+-- the rules that are there, and those of the sources that are left
+abbrev pub made : List Pmu → List SourceRules → List ℕ → Option (List SourceRules)
+made all seen ys = option_map (λ more. seen ++ more) (every (rules_of all) (filter (λ y. not (has y seen)) ys))
+
+filter_both : (p q r : ℕ → Bool) → ((y : ℕ) → (p y && q y) ≡ r y) → (ys : List ℕ) → filter p (filter q ys) ≡ filter r ys
+filter_both p q r h [] = refl
+filter_both p q r h (y ∷ ys) = go (p y) (q y) refl refl (h y) (filter_both p q r h ys)
+  where
+    go : (a b : Bool) → p y ≡ a → q y ≡ b → (p y && q y) ≡ r y → filter p (filter q ys) ≡ filter r ys → filter p (filter q (y ∷ ys)) ≡ filter r (y ∷ ys)
+    go true true ea eb e ih = let k : r y ≡ true = sym e ∙ rw (ea, eb) refl in rw (eb, ea, k) (ap (λ l. y ∷ l) ih)
+    go false true ea eb e ih = let k : r y ≡ false = sym e ∙ rw ea refl in rw (eb, ea, k) ih
+    go true false ea eb e ih = let k : r y ≡ false = sym e ∙ rw (ea, eb) refl in rw (eb, k) ih
+    go false false ea eb e ih = let k : r y ≡ false = sym e ∙ rw ea refl in rw (eb, k) ih
+
+all_kept : (ys : List ℕ) → filter (λ y. true) ys ≡ ys
+all_kept [] = refl
+all_kept (y ∷ ys) = ap (λ l. y ∷ l) (all_kept ys)
+
+pub at_first : (all : List Pmu) (ys : List ℕ) → made all [] ys ≡ every (rules_of all) ys
+at_first all ys = same_option (every (rules_of all) (filter (λ y. true) ys)) ∙ ap (every (rules_of all)) (all_kept ys)
+
+pub at_last : (all : List Pmu) (seen : List SourceRules) → made all seen [] ≡ Some seen
+at_last all seen = ap Some (append-nil seen)
+
+and_true : (a : Bool) → (a && true) ≡ a
+and_true true = refl
+and_true false = refl
+
+pub seen_before : (all : List Pmu) (seen : List SourceRules) (s : ℕ) (xs : List ℕ) → has s seen ≡ true
+    → made all seen (once (s ∷ xs)) ≡ made all seen (once xs)
+seen_before all seen s xs h =
+    rw h (ap (λ l. option_map (λ more. seen ++ more) (every (rules_of all) l)) (filter_both (λ y. not (has y seen)) (λ y. not (s == y)) (λ y. not (has y seen)) same (once xs)))
+  where
+    go : (y : ℕ) (t : Bool) → (s == y) ≡ t → (not (has y seen) && not (s == y)) ≡ not (has y seen)
+    go y true e = let k : has y seen ≡ true = ap (λ x. has x seen) (sym (eqb-true s y e)) ∙ h in rw k refl
+    go y false e = rw e (and_true (not (has y seen)))
+
+    same : (y : ℕ) → (not (has y seen) && not (s == y)) ≡ not (has y seen)
+    same y = go y (s == y) refl
+
+own_source : (all : List Pmu) (s : ℕ) (r : SourceRules) → rules_of all s ≡ Some r → r.source ≡ s
+own_source all s r h = go (agreed (said (λ p. p.silence) s all)) (agreed (said (λ p. p.clock_ms) s all)) h
+  where
+    go : (x y : Option (Option ℕ)) → option_and_then (λ silence. option_map (λ clock. record { source = s; silence = unwrap_or silence 10; clock_ms = clock }) y) x ≡ Some r → r.source ≡ s
+    go None y k = absurd (search (rules, k))
+    go (Some a) None k = absurd (search (rules, k))
+    go (Some a) (Some b) k = let e : record { source = s; silence = unwrap_or a 10; clock_ms = b } ≡ r = search (rules, k) in sym (ap (λ t. t.source) e)
+
+not_either : (a b : Bool) → (not a && not b) ≡ not (a || (b || false))
+not_either true b = refl
+not_either false true = refl
+not_either false false = refl
+
+pub first_seen : (all : List Pmu) (seen : List SourceRules) (s : ℕ) (xs : List ℕ) (r : SourceRules) → has s seen ≡ false → rules_of all s ≡ Some r
+    → made all seen (once (s ∷ xs)) ≡ made all (seen ++ r ∷ []) (once xs)
+first_seen all seen s xs r h k =
+    rw (h, k) (pushed seen r (every (rules_of all) (filter (λ y. not (has y seen)) (filter (λ y. not (s == y)) (once xs))))
+    ∙ ap (λ l. option_map (λ more. (seen ++ r ∷ []) ++ more) (every (rules_of all) l)) (filter_both (λ y. not (has y seen)) (λ y. not (s == y)) (λ y. not (has y (seen ++ r ∷ []))) same (once xs)))
+  where
+    same : (y : ℕ) → (not (has y seen) && not (s == y)) ≡ not (has y (seen ++ r ∷ []))
+    same y = not_either (has y seen) (s == y) ∙ ap (λ z. not (has y seen || (z == y || false))) (sym (own_source all s r k)) ∙ ap not (sym (list_any-append (λ t. t.source == y) seen (r ∷ [])))
+
+pub no_rules : (all : List Pmu) (seen : List SourceRules) (s : ℕ) (xs : List ℕ) → has s seen ≡ false → rules_of all s ≡ None
+    → made all seen (once (s ∷ xs)) ≡ None
+no_rules all seen s xs h k = rw (h, k) refl

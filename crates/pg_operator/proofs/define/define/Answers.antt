@@ -1,6 +1,0 @@
-use Rattle.std.proofs.Common.{refl, inr}
-use Rattle.pg_operator.proofs.Counts.{too_few}
-use Rattle.pg_operator.proofs.define.define.Goals as goal
-
-pub returns-in_default-clause-err : goal.returns-in_default-clause-err
-returns-in_default-clause-err c = inr (refl, too_few c.args.args.now c.in_default.len_below)

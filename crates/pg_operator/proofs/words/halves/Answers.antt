@@ -1,5 +1,0 @@
-use Rattle.pg_operator.proofs.Cutting.{halves_are}
-use Rattle.pg_operator.proofs.words.halves.Goals as goal
-
-pub returns : goal.returns
-returns c = halves_are c.args.at c.args.word.now c.split_once.result c.split_once.ensures.cases c.requires

@@ -1,0 +1,406 @@
+-- What a setup file asks for, by its table.
+use Rattle.std.specs.Prelude.{ℕ, ◌==◌, ◌&&◌, ◌++◌, Bool, true, false, not, pos, List, [], ◌∷◌, length, map, filter, find, Option, Some, None, option_map, option_and_then, option_to_list, if◌then◌else◌, nat_lt, nat_le, codes, string_bytes}
+use Rattle.std.specs.List.{list_all, list_any}
+use Rattle.std.specs.Net.Addr.{ipv4_bits}
+use Rattle.std.specs.Option.{option_map_or, unwrap_or}
+use Rattle.std.specs.Str.{bytes_eq}
+use Rattle.toml.specs.Data.{Data, string, integer, boolean, array, table, Items, no_items, item, Members, no_members, member, get_member}
+use Rattle.toml.specs.Parse.{parse_document}
+use Rattle.pg_wire.specs.declared.ids.PmuKey.{PmuKey}
+use Rattle.pg_stream.specs.declared.definition.Definition.{Definition}
+use Rattle.pg_gateway.specs.declared.edit.Edit.{Edit}
+use Rattle.pg_gateway.specs.declared.edit.Edit.TheVariants.{AddPmu, AddSub, Grant, Define}
+use Rattle.pg_limits.specs.Hosts.{Net}
+use Rattle.pg_operator.specs.declared.door.PortRules.{PortRules}
+use Rattle.pg_operator.specs.declared.general.GeneralKeys.{GeneralKeys}
+use Rattle.pg_operator.specs.declared.general.LogLevel.{LogLevel}
+use Rattle.pg_operator.specs.declared.general.LogLevel.TheVariants as level
+use Rattle.pg_operator.specs.declared.pmu.PmuTable.{PmuTable}
+use Rattle.pg_operator.specs.declared.setup.Setup.{Setup}
+use Rattle.pg_operator.specs.declared.source.SourceRules.{SourceRules}
+use Rattle.pg_lines.specs.Words.{Text, key_of, pair_in}
+use Rattle.pg_lines.specs.Addresses.{Endpoint, endpoint, endpoint_in, host_in}
+use Rattle.pg_operator.specs.Addresses.{is_address, network_in}
+
+-- ---- tables
+
+abbrev pub is_among : List Text → Text → Bool
+is_among names key = list_any (λ name. bytes_eq name key) names
+
+-- each key is one of these
+abbrev pub keys_within : List Text → Members → Bool
+keys_within names no_members = true
+keys_within names (member k d ms) = is_among names k && keys_within names ms
+
+-- a table with these keys and no other
+abbrev pub only : {X : Type 0} → List Text → (Members → Option X) → Members → Option X
+only names read ms = if keys_within names ms then read ms else None
+
+-- a key that has to be there; one that may be left out; one with no value where it is left out
+abbrev pub required : {X : Type 0} → (Data → Option X) → Text → Members → Option X
+required read key ms = option_and_then read (get_member key ms)
+
+abbrev pub optional : {X : Type 0} → X → (Data → Option X) → Text → Members → Option X
+optional otherwise read key ms = option_map_or read (get_member key ms) (Some otherwise)
+
+abbrev pub absent_or : {X : Type 0} → (Data → Option X) → Text → Members → Option (Option X)
+absent_or read key ms = optional None (λ d. option_map Some (read d)) key ms
+
+-- each item, in order
+abbrev pub each : {X : Type 0} → (Data → Option X) → Items → Option (List X)
+each read no_items = Some []
+each read (item d ds) = option_and_then (λ x. option_map (λ xs. x ∷ xs) (each read ds)) (read d)
+
+abbrev pub list_of : {X : Type 0} → (Data → Option X) → Data → Option (List X)
+list_of read (array ds) = each read ds
+list_of read _ = None
+
+-- ---- values
+
+-- a whole number in its range
+abbrev pub whole_in : ℕ → ℕ → Data → Option ℕ
+whole_in least most (integer (pos n)) = if nat_le least n && nat_le n most then Some n else None
+whole_in least most _ = None
+
+-- a key: a number P, which is P/P, or the text "S/P"
+abbrev pub key_in : Data → Option PmuKey
+key_in (string s) = pair_in s
+key_in d = option_map (λ n. key_of n n) (whole_in 1 65534 d)
+
+abbrev pub address_in : Data → Option Text
+address_in (string s) = if is_address s then Some s else None
+address_in _ = None
+
+abbrev pub host_text_in : Data → Option ℕ
+host_text_in (string s) = host_in s
+host_text_in _ = None
+
+abbrev pub network_text_in : Data → Option Net
+network_text_in (string s) = network_in s
+network_text_in _ = None
+
+abbrev pub text_in : Data → Option Text
+text_in (string s) = Some s
+text_in _ = None
+
+abbrev pub endpoint_text_in : Data → Option Endpoint
+endpoint_text_in (string s) = endpoint_in s
+endpoint_text_in _ = None
+
+abbrev pub boolean_in : Data → Option Bool
+boolean_in (boolean b) = Some b
+boolean_in _ = None
+
+-- ---- `[[pmu]]`: its key, the address of its source, and what it says of its source
+
+pub record Pmu : Type 0 where
+  pub key : PmuKey
+  pub connect : Option Text
+  pub silence : Option ℕ
+  pub clock_ms : Option ℕ
+
+-- the same, of a table that was read
+abbrev pub told : PmuTable → Pmu
+told p = record { key = p.key; connect = option_map (λ s. s.now) p.connect; silence = p.silence; clock_ms = p.clock_ms }
+
+abbrev pub pmu_by : Members → Option Pmu
+pmu_by ms =
+    option_and_then (λ id. option_and_then (λ source. option_and_then (λ connect. option_and_then (λ silence. option_map
+    (λ clock. record { key = key_of source id; connect = connect; silence = silence; clock_ms = clock })
+    (absent_or (whole_in 1 30000) (codes "clock_ms") ms))
+    (absent_or (whole_in 0 3600) (codes "silence") ms))
+    (absent_or address_in (codes "connect") ms))
+    (optional id (whole_in 1 65534) (codes "source") ms))
+    (required (whole_in 1 65534) (codes "id") ms)
+
+abbrev pub pmu_names : List Text
+pmu_names = codes "id" ∷ codes "source" ∷ codes "connect" ∷ codes "silence" ∷ codes "clock_ms" ∷ []
+
+abbrev pub pmu_in : Data → Option Pmu
+pmu_in (table ms) = only pmu_names pmu_by ms
+pmu_in _ = None
+
+-- it is registered
+abbrev pub pmu_edit : Pmu → Edit
+pmu_edit p = AddPmu p.key
+
+-- sources with their addresses
+abbrev pub Links : Type 0
+Links = List (ℕ × Text)
+
+abbrev pub has_source : ℕ → Links → Bool
+has_source source links = list_any (λ link. link.0 == source) links
+
+-- the links, in order, of which no two are of one source
+abbrev pub links_from : Links → List Pmu → Option Links
+links_from seen [] = Some seen
+links_from seen (p ∷ pmus) = option_map_or
+    (λ address. if has_source p.key.source seen then None else links_from (seen ++ (p.key.source, address) ∷ []) pmus)
+    p.connect (links_from seen pmus)
+
+-- ---- the rules of sources
+
+-- each number once, where it first stands
+abbrev pub once : List ℕ → List ℕ
+once [] = []
+once (x ∷ xs) = x ∷ filter (λ y. not (x == y)) (once xs)
+
+-- what the tables of a source say at a key
+abbrev pub said : (Pmu → Option ℕ) → ℕ → List Pmu → List ℕ
+said key source [] = []
+said key source (p ∷ pmus) = if p.key.source == source then option_to_list (key p) ++ said key source pmus else said key source pmus
+
+-- one value that all say, or nothing where none says any; no two may differ
+abbrev pub agreed : List ℕ → Option (Option ℕ)
+agreed [] = Some None
+agreed (v ∷ vs) = if list_all (λ w. w == v) vs then Some (Some v) else None
+
+-- a source is silent after 10 seconds, and has no clock guard, where its tables say nothing of it
+abbrev pub rules_of : List Pmu → ℕ → Option SourceRules
+rules_of pmus source =
+    option_and_then (λ silence. option_map (λ clock. record { source = source; silence = unwrap_or silence 10; clock_ms = clock })
+    (agreed (said (λ p. p.clock_ms) source pmus)))
+    (agreed (said (λ p. p.silence) source pmus))
+
+abbrev pub every : {X Y : Type 0} → (X → Option Y) → List X → Option (List Y)
+every read [] = Some []
+every read (x ∷ xs) = option_and_then (λ y. option_map (λ ys. y ∷ ys) (every read xs)) (read x)
+
+-- the sources in the order in which the PMUs first name them
+abbrev pub sources_of : List Pmu → Option (List SourceRules)
+sources_of pmus = every (rules_of pmus) (once (map (λ p. p.key.source) pmus))
+
+-- ---- `[[subscriber.stream]]`
+
+abbrev pub members_in : Data → Option (List PmuKey)
+members_in d = option_and_then (λ keys. if nat_le 1 (length keys) && nat_le (length keys) 32 then Some keys else None) (list_of key_in d)
+
+abbrev pub wide : Text → Members → Option ℕ
+wide key ms = required (whole_in 0 4294967295) key ms
+
+abbrev pub numbers_in : Members → Option (List ℕ → List PmuKey → Definition)
+numbers_in ms =
+    option_and_then (λ s. option_and_then (λ r. option_and_then (λ b. option_and_then (λ t. option_map
+    (λ w header members. record { stream = s; rate = r; base = b; wait = t; window = w; header = header; members = members })
+    (wide (codes "window") ms)) (wide (codes "wait") ms)) (wide (codes "base") ms))
+    (required (whole_in 0 255) (codes "rate") ms)) (required (whole_in 1 65534) (codes "id") ms)
+
+abbrev pub stream_by : Members → Option Definition
+stream_by ms =
+    option_and_then (λ made. option_and_then (λ text. option_map (λ keys. made text keys)
+    (required members_in (codes "members") ms))
+    (optional [] text_in (codes "header") ms))
+    (numbers_in ms)
+
+abbrev pub stream_names : List Text
+stream_names = codes "id" ∷ codes "rate" ∷ codes "base" ∷ codes "wait" ∷ codes "window" ∷ codes "header" ∷ codes "members" ∷ []
+
+abbrev pub stream_in : Data → Option Definition
+stream_in (table ms) = only stream_names stream_by ms
+stream_in _ = None
+
+-- ---- `[[subscriber]]`: its edits, the port that it connects to, and the rules of that port
+
+abbrev pub grants_in : ℕ → Data → Option (List Edit)
+grants_in id = list_of (λ d. option_map (Grant id) (key_in d))
+
+abbrev pub streams_in : ℕ → Data → Option (List Edit)
+streams_in id = list_of (λ d. option_map (Define id) (stream_in d))
+
+-- AddSub, its grants, its streams
+abbrev pub edits_by : ℕ → ℕ → ℕ → Members → Option (List Edit)
+edits_by id size bytes ms =
+    option_and_then (λ grants. option_map (λ streams. AddSub id size bytes ∷ grants ++ streams)
+    (optional [] (streams_in id) (codes "stream") ms))
+    (optional [] (grants_in id) (codes "grants") ms)
+
+-- a subscriber's own values
+pub record Entry : Type 0 where
+  pub id : ℕ
+  pub port : Option ℕ
+  pub size : ℕ
+  pub bytes : ℕ
+
+abbrev pub entry_by : Members → Option Entry
+entry_by ms =
+    option_and_then (λ id. option_and_then (λ port. option_and_then (λ size. option_map (λ bytes. record { id = id; port = port; size = size; bytes = bytes })
+    (optional 16777216 (whole_in 16 16777216) (codes "bytes") ms))
+    (required (whole_in 1 1024) (codes "ring") ms))
+    (absent_or (whole_in 1 65535) (codes "port") ms))
+    (required (whole_in 1 65535) (codes "id") ms)
+
+-- who may connect to its port, and when it is hung up
+pub record Door : Type 0 where
+  pub sub : ℕ
+  pub address : ℕ
+  pub allow : Option (List Net)
+  pub takeover : Bool
+  pub stall : ℕ
+  pub idle : ℕ
+
+-- the same, of rules that were read
+abbrev pub door_of : PortRules → Door
+door_of r = record { sub = r.sub; address = ipv4_bits r.address; allow = option_map (λ v. v.items) r.allow.networks; takeover = r.takeover; stall = r.stall; idle = r.idle }
+
+-- 0.0.0.0, every host, no takeover, 30 seconds and never, where it is left out
+abbrev pub door_by : ℕ → Members → Option Door
+door_by id ms =
+    option_and_then (λ address. option_and_then (λ takeover. option_and_then (λ stall. option_and_then (λ idle. option_map
+    (λ allow. record { sub = id; address = address; allow = allow; takeover = takeover; stall = stall; idle = idle })
+    (absent_or (list_of network_text_in) (codes "allow") ms))
+    (optional 0 (whole_in 0 3600) (codes "idle") ms))
+    (optional 30 (whole_in 0 3600) (codes "stall") ms))
+    (optional false boolean_in (codes "takeover") ms))
+    (optional 0 host_text_in (codes "address") ms)
+
+pub record Subscriber : Type 0 where
+  pub edits : List Edit
+  pub port : Option (ℕ × ℕ)
+  pub door : Door
+
+abbrev pub subscriber_by : Members → Option Subscriber
+subscriber_by ms =
+    option_and_then (λ e. option_and_then (λ door. option_map (λ edits. record { edits = edits; port = option_map (λ p. (e.id, p)) e.port; door = door })
+    (edits_by e.id e.size e.bytes ms)) (door_by e.id ms)) (entry_by ms)
+
+abbrev pub subscriber_names : List Text
+subscriber_names =
+    codes "id" ∷ codes "port" ∷ codes "ring" ∷ codes "bytes" ∷ codes "grants" ∷ codes "stream"
+    ∷ codes "address" ∷ codes "allow" ∷ codes "takeover" ∷ codes "stall" ∷ codes "idle" ∷ []
+
+abbrev pub subscriber_in : Data → Option Subscriber
+subscriber_in (table ms) = only subscriber_names subscriber_by ms
+subscriber_in _ = None
+
+-- ---- the file's own keys: how the service runs
+
+-- the levels of the log, as they are written
+abbrev pub levels : List (Text × LogLevel)
+levels = (codes "error", level.Error) ∷ (codes "warn", level.Warn) ∷ (codes "info", level.Info) ∷ (codes "debug", level.Debug) ∷ []
+
+abbrev pub level_of : Text → Option LogLevel
+level_of w = option_map (λ row. row.1) (find (λ row. bytes_eq row.0 w) levels)
+
+abbrev pub level_in : Data → Option LogLevel
+level_in (string s) = level_of s
+level_in _ = None
+
+-- the path of a socket: 1 to 107 bytes, of which none is zero
+abbrev pub is_path : Text → Bool
+is_path w = (nat_lt 0 (length w) && nat_le (length w) 107) && list_all (λ b. not (b == 0)) w
+
+abbrev pub path_in : Data → Option Text
+path_in (string s) = if is_path s then Some s else None
+path_in _ = None
+
+pub record General : Type 0 where
+  pub tick_ms : ℕ
+  pub ingest : ℕ
+  pub serve : ℕ
+  pub log : LogLevel
+  pub control : Option Text
+  pub status : Option Endpoint
+
+-- the same, of keys that were read
+abbrev pub general_of : GeneralKeys → General
+general_of g = record {
+  tick_ms = g.tick_ms;
+  ingest = g.ingest;
+  serve = g.serve;
+  log = g.log;
+  control = option_map (λ s. s.now) g.control;
+  status = option_map endpoint g.status;
+}
+
+-- 10 milliseconds, one thread each, the level info, no socket and no page, where it is left out
+abbrev pub general_by : Members → Option General
+general_by ms =
+    option_and_then (λ tick. option_and_then (λ ingest. option_and_then (λ serve. option_and_then (λ log. option_and_then (λ control. option_map
+    (λ status. record { tick_ms = tick; ingest = ingest; serve = serve; log = log; control = control; status = status })
+    (absent_or endpoint_text_in (codes "status") ms))
+    (absent_or path_in (codes "control") ms))
+    (optional level.Info level_in (codes "log") ms))
+    (optional 1 (whole_in 1 8) (codes "serve") ms))
+    (optional 1 (whole_in 1 8) (codes "ingest") ms))
+    (optional 10 (whole_in 1 1000) (codes "tick_ms") ms)
+
+-- ---- the file
+
+-- the PMUs in the file's order, then each subscriber's edits
+abbrev pub edits_of : List Subscriber → List Edit
+edits_of [] = []
+edits_of (s ∷ ss) = s.edits ++ edits_of ss
+
+-- the ports, and the doors of just those that have one, in the same order
+abbrev pub ports_of : List Subscriber → List (ℕ × ℕ)
+ports_of [] = []
+ports_of (s ∷ ss) = option_to_list s.port ++ ports_of ss
+
+abbrev pub doors_of : List Subscriber → List Door
+doors_of [] = []
+doors_of (s ∷ ss) = option_to_list (option_map (λ p. s.door) s.port) ++ doors_of ss
+
+pub record Plans : Type 0 where
+  pub edits : List Edit
+  pub ports : List (ℕ × ℕ)
+  pub doors : List Door
+
+abbrev pub planned : List Subscriber → Plans
+planned ss = record { edits = edits_of ss; ports = ports_of ss; doors = doors_of ss }
+
+pub record Settings : Type 0 where
+  pub edits : List Edit
+  pub links : Links
+  pub sources : List SourceRules
+  pub ports : List (ℕ × ℕ)
+  pub doors : List Door
+  pub general : General
+
+-- the same, of a setup that was read
+abbrev pub settings : Setup → Settings
+settings s = record {
+  edits = s.edits.items;
+  links = map (λ l. (l.0, string_bytes l.1)) s.links.items;
+  sources = s.sources.items;
+  ports = s.ports.items;
+  doors = map door_of s.doors.items;
+  general = record {
+    tick_ms = s.tick_ms;
+    ingest = s.ingest;
+    serve = s.serve;
+    log = s.log;
+    control = option_map (λ path. string_bytes path) s.control;
+    status = option_map endpoint s.status;
+  };
+}
+
+abbrev pub settings_by : List Pmu → Links → List SourceRules → List Subscriber → General → Settings
+settings_by pmus links sources subscribers general = record {
+  edits = map pmu_edit pmus ++ edits_of subscribers;
+  links = links;
+  sources = sources;
+  ports = ports_of subscribers;
+  doors = doors_of subscribers;
+  general = general;
+}
+
+abbrev pub setup_by : Members → Option Settings
+setup_by ms =
+    option_and_then (λ general. option_and_then (λ pmus. option_and_then (λ links. option_and_then (λ sources. option_map
+    (λ subscribers. settings_by pmus links sources subscribers general)
+    (required (list_of subscriber_in) (codes "subscriber") ms))
+    (sources_of pmus))
+    (links_from [] pmus))
+    (required (list_of pmu_in) (codes "pmu") ms))
+    (general_by ms)
+
+abbrev pub top_names : List Text
+top_names =
+    codes "tick_ms" ∷ codes "ingest" ∷ codes "serve" ∷ codes "log" ∷ codes "control" ∷ codes "status" ∷ codes "pmu" ∷ codes "subscriber" ∷ []
+
+abbrev pub setup_in : Members → Option Settings
+setup_in = only top_names setup_by
+
+-- what a file asks for, or nothing
+abbrev pub setup_of : Text → Option Settings
+setup_of text = option_and_then setup_in (parse_document text)

@@ -1,0 +1,178 @@
+//! The setup file's own keys: how the service runs.
+ghost use Rattle.std.specs.Prelude.{◌≡◌, ◌⊎◌, ◌==◌, IfOk, IfErr, codes, not, option_map, string_bytes, Some, None};
+ghost use Rattle.std.specs.List.{list_all};
+ghost use Rattle.toml.specs.View.{view, table_view};
+ghost use Rattle.pg_lines.specs.Addresses.{endpoint};
+ghost use Rattle.pg_operator.specs.Setups.{absent_or, endpoint_text_in, general_by, general_of, is_path, level_in, level_of, optional, path_in, whole_in};
+
+use crate::{address, table};
+use pg_wire::Refusal;
+use std::alloc::Global;
+use std::net::SocketAddrV4;
+use toml::{Table, Value};
+
+/// Which events the log tells: those of its level and of those before it.
+#[derive(Clone, Copy, Debug, PartialEq, Eq)]
+pub enum LogLevel {
+    /// Faults of the service.
+    Error,
+    /// What was refused, hung up or lost.
+    Warn,
+    /// What the service does.
+    Info,
+    /// What helps to find a fault.
+    Debug,
+}
+
+impl LogLevel {
+    /// The level that is written so.
+    fn of(word: &str) -> Option<LogLevel>
+        ensures value { result ≡ level_of word.now }
+    {
+        let level = match word {
+            "error" => LogLevel::Error,
+            "warn" => LogLevel::Warn,
+            "info" => LogLevel::Info,
+            "debug" => LogLevel::Debug,
+            _ => return None,
+        };
+        Some(level)
+    }
+}
+
+/// What the file's own keys say.
+#[derive(Clone, Copy)]
+pub(crate) struct GeneralKeys<'a> {
+    pub(crate) tick_ms: u16,
+    pub(crate) ingest: u8,
+    pub(crate) serve: u8,
+    pub(crate) log: LogLevel,
+    pub(crate) control: Option<&'a str>,
+    pub(crate) status: Option<SocketAddrV4>,
+}
+
+/// What the file's own keys say, but for its tables.
+pub(crate) fn general_at(table: &Table) -> Option<GeneralKeys<'_>>
+    ensures { option_map general_of result ≡ general_by (table_view table.now) }
+{
+    let tick_ms = tick_at(table)?;
+    let ingest = threads_at(table, "ingest")?;
+    let serve = threads_at(table, "serve")?;
+    let log = log_at(table)?;
+    let control = control_at(table)?;
+    let status = status_at(table)?;
+    Some(GeneralKeys {
+        tick_ms,
+        ingest,
+        serve,
+        log,
+        control,
+        status,
+    })
+}
+
+/// Milliseconds from tick to tick.
+fn tick_at(table: &Table) -> Option<u16>
+    ensures { result ≡ optional 10 (whole_in 1 1000) (codes "tick_ms") (table_view table.now) }
+{
+    match table::optional(table, "tick_ms", 10, 1, 1000) {
+        Some(tick_ms) => Some(tick_ms as u16),
+        None => None,
+    }
+}
+
+/// A number of threads.
+fn threads_at(table: &Table, key: &str) -> Option<u8>
+    ensures { result ≡ optional 1 (whole_in 1 8) key.now (table_view table.now) }
+{
+    match table::optional(table, key, 1, 1, 8) {
+        Some(threads) => Some(threads as u8),
+        None => None,
+    }
+}
+
+/// The level of the log.
+fn log_at(table: &Table) -> Option<LogLevel>
+    ensures { result ≡ optional LogLevel.Info level_in (codes "log") (table_view table.now) }
+{
+    match table::value_at(table, "log") {
+        Some(value) => level(value),
+        None => Some(LogLevel::Info),
+    }
+}
+
+/// The path of the control socket, or none where it is left out.
+fn control_at(table: &Table) -> Option<Option<&str>>
+    ensures { option_map (λ o. option_map (λ s. s.now) o) result ≡ absent_or path_in (codes "control") (table_view table.now) }
+{
+    match table::value_at(table, "control") {
+        Some(value) => match path(value) {
+            Some(path) => Some(Some(path)),
+            None => None,
+        },
+        None => Some(None),
+    }
+}
+
+/// The address of the page, or none where it is left out.
+fn status_at(table: &Table) -> Option<Option<SocketAddrV4>>
+    ensures { option_map (λ o. option_map endpoint o) result ≡ absent_or endpoint_text_in (codes "status") (table_view table.now) }
+{
+    match table::value_at(table, "status") {
+        Some(value) => match address::served(value) {
+            Some(address) => Some(Some(address)),
+            None => None,
+        },
+        None => Some(None),
+    }
+}
+
+/// A level of the log.
+pub(crate) fn level(value: &Value) -> Option<LogLevel>
+    ensures { result ≡ level_in (view value.now) }
+{
+    match value {
+        Value::String(text) => LogLevel::of(text.as_str()),
+        _ => None,
+    }
+}
+
+/// The most bytes of a socket's path: those of a Unix socket's address without the zero byte that ends them.
+const PATH_LIMIT: usize = 107;
+
+/// The path of a socket.
+pub(crate) fn path(value: &Value) -> Option<&str>
+    ensures { option_map (λ s. s.now) result ≡ path_in (view value.now) }
+{
+    match value {
+        Value::String(text) if is_path(text.as_bytes()) => Some(text.as_str()),
+        _ => None,
+    }
+}
+
+/// One to 107 bytes, of which none is zero.
+fn is_path(bytes: &[u8]) -> bool
+    ensures { result ≡ is_path bytes.now }
+{
+    if bytes.is_empty() || bytes.len() > PATH_LIMIT {
+        return false;
+    }
+    no_zero(bytes)
+}
+
+fn no_zero(bytes: &[u8]) -> bool
+    ensures { result ≡ list_all (λ b. not (b == 0)) bytes.now }
+{
+    bytes.iter().all(|byte| *byte != 0)
+}
+
+/// A text of its own, where there is one.
+pub(crate) fn own_text(alloc: Global, text: Option<&str>) -> Result<Option<String>, Refusal>
+    ensures ok { IfOk result (λ o. option_map (λ s. string_bytes s) o ≡ option_map (λ s. s.now) text.entry) }
+    ensures err { IfErr result (λ r. r ≡ Refusal.NoMemory) }
+{
+    match text {
+        Some(text) => Ok(Some(String::from_str(alloc, text)?)),
+        None => Ok(None),
+    }
+}

@@ -1,0 +1,261 @@
+//! The keys of a setup file, for a person: which there are, and what their values have to be.
+
+ghost use Rattle.std.specs.Prelude.{◌≡◌, IfErr};
+
+use crate::{address, general, table};
+use pg_wire::Refusal;
+use std::alloc::Global;
+use std::fmt;
+use thiserror::Error;
+use toml::Value;
+
+/// Which table of a setup file.
+#[derive(Clone, Copy, Debug, PartialEq, Eq)]
+pub enum Heading {
+    /// The file itself.
+    File,
+    /// A table `[[pmu]]`.
+    Pmu,
+    /// A table `[[subscriber]]`.
+    Subscriber,
+    /// A table `[[subscriber.stream]]`.
+    Stream,
+}
+
+/// A key of a table.
+#[derive(Clone, Copy, Debug)]
+pub(crate) struct Rule {
+    /// Its name.
+    pub(crate) name: &'static str,
+    /// What its value has to be.
+    pub(crate) kind: Kind,
+    /// Whether it has to be there.
+    pub(crate) is_required: bool,
+}
+
+/// What a value has to be.
+#[derive(Clone, Copy, Debug, PartialEq, Eq)]
+pub enum Kind {
+    /// A whole number from one to another.
+    Whole(u32, u32),
+    /// True or false.
+    Truth,
+    /// An address that is called.
+    Called,
+    /// An address of this machine.
+    Bound,
+    /// An address of this machine with a port.
+    Served,
+    /// A level of the log.
+    Level,
+    /// The path of a socket.
+    Path,
+    /// A list of networks.
+    Networks,
+    /// A list of PMUs.
+    Grants,
+    /// A list of 1 to 32 PMUs.
+    Members,
+    /// A text.
+    Text,
+    /// Tables under a heading of this name.
+    Tables(&'static str),
+}
+
+/// A key that has to be there.
+macro_rules! required {
+    ($name:literal, $kind:expr) => {
+        Rule {
+            name: $name,
+            kind: $kind,
+            is_required: true,
+        }
+    };
+}
+
+/// A key that may be left out.
+macro_rules! optional {
+    ($name:literal, $kind:expr) => {
+        Rule {
+            name: $name,
+            kind: $kind,
+            is_required: false,
+        }
+    };
+}
+
+/// The keys of the file itself.
+pub(crate) const TOP: [Rule; 8] = [
+    optional!("tick_ms", Kind::Whole(1, 1000)),
+    optional!("ingest", Kind::Whole(1, 8)),
+    optional!("serve", Kind::Whole(1, 8)),
+    optional!("log", Kind::Level),
+    optional!("control", Kind::Path),
+    optional!("status", Kind::Served),
+    required!("pmu", Kind::Tables("[[pmu]]")),
+    required!("subscriber", Kind::Tables("[[subscriber]]")),
+];
+
+/// The keys of a PMU's table.
+pub(crate) const PMU: [Rule; 5] = [
+    required!("id", Kind::Whole(1, 65534)),
+    optional!("source", Kind::Whole(1, 65534)),
+    optional!("connect", Kind::Called),
+    optional!("silence", Kind::Whole(0, 3600)),
+    optional!("clock_ms", Kind::Whole(1, 30000)),
+];
+
+/// The keys of a subscriber's table.
+pub(crate) const SUBSCRIBER: [Rule; 11] = [
+    required!("id", Kind::Whole(1, 65535)),
+    optional!("port", Kind::Whole(1, 65535)),
+    required!("ring", Kind::Whole(1, 1024)),
+    optional!("bytes", Kind::Whole(16, 16_777_216)),
+    optional!("grants", Kind::Grants),
+    optional!("stream", Kind::Tables("[[subscriber.stream]]")),
+    optional!("address", Kind::Bound),
+    optional!("allow", Kind::Networks),
+    optional!("takeover", Kind::Truth),
+    optional!("stall", Kind::Whole(0, 3600)),
+    optional!("idle", Kind::Whole(0, 3600)),
+];
+
+/// The keys of a stream's table, with the ranges of a definition: a setup is read with wider ones, and the gateway refuses what is
+/// beyond these, but who has to mend a file is told what would be right.
+pub(crate) const STREAM: [Rule; 7] = [
+    required!("id", Kind::Whole(1, 65534)),
+    required!("rate", Kind::Whole(1, 120)),
+    required!("base", Kind::Whole(1, 16_777_215)),
+    required!("wait", Kind::Whole(0, 60_000)),
+    required!("window", Kind::Whole(1, 64)),
+    optional!("header", Kind::Text),
+    required!("members", Kind::Members),
+];
+
+impl fmt::Display for Kind {
+    fn fmt<W: fmt::Write>(&self, f: &mut fmt::Formatter<W>) -> fmt::Result {
+        match self {
+            Kind::Whole(least, most) => write!(f, "a whole number from {least} to {most}"),
+            Kind::Truth => f.write_str("true or false"),
+            Kind::Called => f.write_str("a text \"A.B.C.D:PORT\" or \"NAME:PORT\""),
+            Kind::Bound => f.write_str("a text \"A.B.C.D\""),
+            Kind::Served => f.write_str("a text \"A.B.C.D:PORT\""),
+            Kind::Level => f.write_str("\"error\", \"warn\", \"info\" or \"debug\""),
+            Kind::Path => {
+                f.write_str("the path of a socket, a text of 1 to 107 bytes without a zero byte")
+            }
+            Kind::Networks => f.write_str("a list of texts \"A.B.C.D\" or \"A.B.C.D/BITS\""),
+            Kind::Grants => f.write_str(
+                "a list of PMUs, each a number or a text \"SOURCE/PMU\", from 1 to 65534",
+            ),
+            Kind::Members => f.write_str(
+                "a list of 1 to 32 PMUs, each a number or a text \"SOURCE/PMU\", from 1 to 65534",
+            ),
+            Kind::Text => f.write_str("a text"),
+            Kind::Tables(heading) => write!(f, "one table or more, each under {heading}"),
+        }
+    }
+}
+
+/// A value as a person would call it.
+#[derive(Debug, Drop)]
+pub enum Found {
+    /// A whole number.
+    Whole(i64),
+    /// A text.
+    Text(String),
+    /// True or false.
+    Truth(bool),
+    /// A list with so many items.
+    List(usize),
+    /// A table.
+    Table,
+    /// A number with a fraction, a date or a time.
+    Other,
+}
+
+impl fmt::Display for Found {
+    fn fmt<W: fmt::Write>(&self, f: &mut fmt::Formatter<W>) -> fmt::Result {
+        match self {
+            Found::Whole(number) => write!(f, "the number {number}"),
+            Found::Text(text) => write!(f, "the text {:?}", text.as_str()),
+            Found::Truth(truth) => write!(f, "{truth}"),
+            Found::List(count) => write!(f, "a list with {count} items"),
+            Found::Table => f.write_str("a table"),
+            Found::Other => f.write_str("a number with a fraction, a date or a time"),
+        }
+    }
+}
+
+/// How a value is not what it has to be.
+#[derive(Debug, Drop, Error)]
+pub enum Misfit {
+    /// The value itself.
+    #[error("is {0}")]
+    Value(Found),
+    /// The item with this number, from 1.
+    #[error("has as item {0} {1}")]
+    Item(usize, Found),
+}
+
+/// What a value is.
+fn what_is(alloc: Global, value: &Value) -> Result<Found, Refusal>
+    ensures memory { IfErr result (λ refusal. refusal ≡ Refusal.NoMemory) }
+{
+    Ok(match value {
+        Value::Integer(number) => Found::Whole(*number),
+        Value::String(text) => Found::Text(String::from_str(alloc, text.as_str())?),
+        Value::Boolean(truth) => Found::Truth(*truth),
+        Value::Array(items) => Found::List(items.len()),
+        Value::Table(_) => Found::Table,
+        _ => Found::Other,
+    })
+}
+
+impl Kind {
+    /// How a value is not of this kind, if it is not.
+    pub(crate) fn misfit(self, alloc: Global, value: &Value) -> Result<Option<Misfit>, Refusal>
+        ensures memory { IfErr result (λ refusal. refusal ≡ Refusal.NoMemory) }
+    {
+        let fits = match self {
+            Kind::Whole(least, most) => table::whole(value, least, most).is_some(),
+            Kind::Truth => matches!(value, Value::Boolean(_)),
+            Kind::Called => address::called(value).is_some(),
+            Kind::Bound => address::bound(value).is_some(),
+            Kind::Served => address::served(value).is_some(),
+            Kind::Level => general::level(value).is_some(),
+            Kind::Path => general::path(value).is_some(),
+            Kind::Text => matches!(value, Value::String(_)),
+            Kind::Networks | Kind::Grants | Kind::Members | Kind::Tables(_) => {
+                return self.misfit_of_list(alloc, value);
+            }
+        };
+        if fits {
+            return Ok(None);
+        }
+        Ok(Some(Misfit::Value(what_is(alloc, value)?)))
+    }
+
+    /// How a value is not a list of this kind, if it is not.
+    fn misfit_of_list(self, alloc: Global, value: &Value) -> Result<Option<Misfit>, Refusal>
+        ensures memory { IfErr result (λ refusal. refusal ≡ Refusal.NoMemory) }
+    {
+        let Value::Array(items) = value else {
+            return Ok(Some(Misfit::Value(what_is(alloc, value)?)));
+        };
+        if self == Kind::Members && (items.is_empty() || items.len() > 32) {
+            return Ok(Some(Misfit::Value(Found::List(items.len()))));
+        }
+        for (number, item) in items.iter().enumerate() {
+            let fits = match self {
+                Kind::Networks => address::network(item).is_some(),
+                Kind::Tables(_) => item.as_table().is_some(),
+                _ => table::key(item).is_some(),
+            };
+            if !fits {
+                return Ok(Some(Misfit::Item(number + 1, what_is(alloc, item)?)));
+            }
+        }
+        Ok(None)
+    }
+}

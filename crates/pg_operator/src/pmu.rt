@@ -1,0 +1,181 @@
+//! The tables `[[pmu]]` of the setup file.
+ghost use Rattle.std.specs.Prelude.{◌≡◌, ◌⊎◌, IfOk, IfErr, map, option_map, codes, string_bytes, Some, None, []};
+ghost use Rattle.toml.specs.View.{view, table_view};
+ghost use Rattle.pg_operator.specs.Setups.{absent_or, address_in, has_source, links_from, list_of, only, optional, pmu_by, pmu_edit, pmu_in, pmu_names, required, told, whole_in};
+
+use crate::{address, table};
+use pg_gateway::Edit;
+use pg_wire::{PmuId, PmuKey, Refusal};
+use std::alloc::Global;
+use toml::{Table, Value};
+
+/// The keys of a PMU's table.
+const PMU_KEYS: [&str; 5] = ["id", "source", "connect", "silence", "clock_ms"];
+
+/// A PMU, and what its table says of its source.
+#[derive(Clone, Copy)]
+pub(crate) struct PmuTable<'a> {
+    pub(crate) key: PmuKey,
+    pub(crate) connect: Option<&'a str>,
+    pub(crate) silence: Option<u16>,
+    pub(crate) clock_ms: Option<u16>,
+}
+
+/// The PMUs, in order.
+pub(crate) fn pmus_at(alloc: Global, table: &Table) -> Result<Vec<PmuTable<'_>>, Refusal>
+    ensures ok { IfOk result (λ v. required (list_of pmu_in) (codes "pmu") (table_view table.now) ≡ Some (map told v.items)) }
+    ensures err { IfErr result (λ r. (r ≡ Refusal.NoMemory) ⊎ ((r ≡ Refusal.BadSetup) × (required (list_of pmu_in) (codes "pmu") (table_view table.now) ≡ None))) }
+{
+    match table::value_at(table, "pmu") {
+        Some(value) => pmus_in(alloc, value),
+        None => Err(Refusal::BadSetup),
+    }
+}
+
+/// The PMUs' tables.
+fn pmus_in(alloc: Global, value: &Value) -> Result<Vec<PmuTable<'_>>, Refusal>
+    ensures ok { IfOk result (λ v. list_of pmu_in (view value.now) ≡ Some (map told v.items)) }
+    ensures err { IfErr result (λ r. (r ≡ Refusal.NoMemory) ⊎ ((r ≡ Refusal.BadSetup) × (list_of pmu_in (view value.now) ≡ None))) }
+{
+    let Some(items) = value.as_array() else {
+        return Err(Refusal::BadSetup);
+    };
+    let mut pmus = Vec::new(alloc);
+    'items: for item in items {
+        let Some(pmu) = pmu_in(item) else {
+            return Err(Refusal::BadSetup);
+        };
+        if pmus.push(pmu).is_err() {
+            return Err(Refusal::NoMemory);
+        }
+    }
+    Ok(pmus)
+}
+
+/// A PMU's table.
+pub(crate) fn pmu_in(value: &Value) -> Option<PmuTable<'_>>
+    ensures { option_map told result ≡ pmu_in (view value.now) }
+{
+    pmu_by(value.as_table()?)
+}
+
+/// What a PMU's table says.
+fn pmu_by(table: &Table) -> Option<PmuTable<'_>>
+    ensures { option_map told result ≡ only pmu_names pmu_by (table_view table.now) }
+{
+    if !table::keys_within(&PMU_KEYS, table) {
+        return None;
+    }
+    let pmu = pmu_id(table)?;
+    let source = source_of(table, pmu)?;
+    let connect = connect_at(table)?;
+    let silence = silence_at(table)?;
+    let clock_ms = clock_at(table)?;
+    Some(PmuTable {
+        key: PmuKey { source, pmu },
+        connect,
+        silence,
+        clock_ms,
+    })
+}
+
+/// The number of a PMU.
+fn pmu_id(table: &Table) -> Option<PmuId>
+    ensures { result ≡ required (whole_in 1 65534) (codes "id") (table_view table.now) }
+{
+    match table::required(table, "id", 1, 65534) {
+        Some(id) => PmuId::new(id as u16),
+        None => None,
+    }
+}
+
+/// The source of a PMU, which has its number where it is left out.
+fn source_of(table: &Table, pmu: PmuId) -> Option<PmuId>
+    ensures { result ≡ optional pmu (whole_in 1 65534) (codes "source") (table_view table.now) }
+{
+    match table::value_at(table, "source") {
+        Some(value) => match table::whole(value, 1, 65534) {
+            Some(source) => PmuId::new(source as u16),
+            None => None,
+        },
+        None => Some(pmu),
+    }
+}
+
+/// The address of a source, or none where it is left out.
+fn connect_at(table: &Table) -> Option<Option<&str>>
+    ensures { option_map (λ o. option_map (λ s. s.now) o) result ≡ absent_or address_in (codes "connect") (table_view table.now) }
+{
+    match table::value_at(table, "connect") {
+        Some(value) => match address::called(value) {
+            Some(address) => Some(Some(address)),
+            None => None,
+        },
+        None => Some(None),
+    }
+}
+
+/// After how many seconds a source is silent, or none where it is left out.
+fn silence_at(table: &Table) -> Option<Option<u16>>
+    ensures { result ≡ absent_or (whole_in 0 3600) (codes "silence") (table_view table.now) }
+{
+    match table::value_at(table, "silence") {
+        Some(value) => match table::whole(value, 0, 3600) {
+            Some(seconds) => Some(Some(seconds as u16)),
+            None => None,
+        },
+        None => Some(None),
+    }
+}
+
+/// How many milliseconds a source may be from the clock, or none where it is left out.
+fn clock_at(table: &Table) -> Option<Option<u16>>
+    ensures { result ≡ absent_or (whole_in 1 30000) (codes "clock_ms") (table_view table.now) }
+{
+    match table::value_at(table, "clock_ms") {
+        Some(value) => match table::whole(value, 1, 30000) {
+            Some(limit) => Some(Some(limit as u16)),
+            None => None,
+        },
+        None => Some(None),
+    }
+}
+
+/// The links that the PMUs ask for, of which no two are of one source.
+pub(crate) fn links_of(
+    alloc: Global,
+    pmus: &[PmuTable<'_>],
+) -> Result<Vec<(PmuId, String)>, Refusal>
+    ensures ok { IfOk result (λ v. links_from [] (map told pmus.now) ≡ Some (map (λ l. (l.0, string_bytes l.1)) v.items)) }
+    ensures err { IfErr result (λ r. (r ≡ Refusal.NoMemory) ⊎ ((r ≡ Refusal.BadSetup) × (links_from [] (map told pmus.now) ≡ None))) }
+{
+    let mut links = Vec::new(alloc);
+    'pmus: for pmu in pmus {
+        if let Some(address) = pmu.connect {
+            if has_source(links.as_slice(), pmu.key.source) {
+                return Err(Refusal::BadSetup);
+            }
+            links.push((pmu.key.source, String::from_str(alloc, address)?))?;
+        }
+    }
+    Ok(links)
+}
+
+/// Whether one of the links is of this source.
+fn has_source(links: &[(PmuId, String)], source: PmuId) -> bool
+    ensures { result ≡ has_source source (map (λ l. (l.0, string_bytes l.1)) links.now) }
+{
+    links.iter().any(|link| link.0 == source)
+}
+
+/// The edits that register the PMUs.
+pub(crate) fn edits_of(alloc: Global, pmus: &[PmuTable<'_>]) -> Result<Vec<Edit>, Refusal>
+    ensures ok { IfOk result (λ v. v.items ≡ map pmu_edit (map told pmus.now)) }
+    ensures err { IfErr result (λ r. r ≡ Refusal.NoMemory) }
+{
+    let mut edits = Vec::new(alloc);
+    'pmus: for pmu in pmus {
+        edits.push(Edit::AddPmu(pmu.key))?;
+    }
+    Ok(edits)
+}

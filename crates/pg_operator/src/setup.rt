@@ -1,0 +1,370 @@
+//! The setup file: what it is read as.
+ghost use Rattle.std.specs.Prelude.{◌≡◌, ◌⊎◌, ◌++◌, IfOk, IfErr, OnOk, map, option_map, option_to_list, codes, string_bytes, Some, None, []};
+ghost use Rattle.toml.specs.View.{view, table_view};
+ghost use Rattle.pg_operator.specs.Setups.{absent_or, door_of, edits_by, entry_by, grants_in, list_of, optional, planned, required, settings, setup_in, setup_of, streams_in, subscriber_in, told, whole_in};
+
+use crate::door::{self, PortRules};
+use crate::general::{self, LogLevel};
+use crate::source::{self, SourceRules};
+use crate::{pmu, stream, table};
+use pg_gateway::Edit;
+use pg_ring::{RingBytes, RingSize};
+use pg_wire::{PmuId, Refusal, SubId};
+use std::alloc::Global;
+use std::net::SocketAddrV4;
+use toml::{Table, Value};
+
+/// What a setup file asks for.
+#[derive(Debug, Drop)]
+pub struct Setup {
+    /// The edits, in order: each PMU is registered, then each subscriber is added, with its grants and its streams.
+    pub edits: Vec<Edit>,
+    /// The sources to which links are made, each with its address `A.B.C.D:PORT` or `NAME:PORT`; no source twice.
+    pub links: Vec<(PmuId, String)>,
+    /// How each source of the PMUs is watched: each once, in the order in which the file first names them.
+    pub sources: Vec<SourceRules>,
+    /// The subscribers that have a port of their own, with it.
+    pub ports: Vec<(SubId, u16)>,
+    /// The rules of these ports: one for each, in the same order.
+    pub doors: Vec<PortRules>,
+    /// Milliseconds from tick to tick: 1 to 1000.
+    pub tick_ms: u16,
+    /// Threads that read the links: 1 to 8.
+    pub ingest: u8,
+    /// Threads that serve the subscribers: 1 to 8.
+    pub serve: u8,
+    /// Which events the log tells.
+    pub log: LogLevel,
+    /// The path of the Unix socket at which an operator's lines are taken: 1 to 107 bytes, none of them zero; `None` for no such socket.
+    pub control: Option<String>,
+    /// The address on which the page and the metrics are served; `None` where they are not.
+    pub status: Option<SocketAddrV4>,
+}
+
+/// What a setup file asks for (own rule). It is TOML, with these keys and no other:
+///
+/// | Key | Values | If absent |
+/// |---|---|---|
+/// | `tick_ms` | 1 to 1000 | 10 |
+/// | `ingest`, `serve` | 1 to 8 | 1 |
+/// | `log` | `"error"`, `"warn"`, `"info"`, `"debug"` | `"info"` |
+/// | `control` | path of a Unix socket: a text of 1 to 107 bytes without a zero byte | no socket |
+/// | `status` | text `A.B.C.D:PORT`, of the page and the metrics | no page |
+/// | `pmu`, `subscriber` | tables | required |
+/// | `pmu.id` | 1 to 65534 | required |
+/// | `pmu.source` | 1 to 65534 | equal to `id` |
+/// | `pmu.connect` | text `A.B.C.D:PORT` or `NAME:PORT`, of the source; four numbers 0 to 255, and one 1 to 65535 | no link |
+/// | `pmu.silence` | 1 to 3600 seconds, of the source; 0 never | 10 |
+/// | `pmu.clock_ms` | 1 to 30000 milliseconds, of the source | no guard |
+/// | `subscriber.id` | 1 to 65535 | required |
+/// | `subscriber.port` | 1 to 65535 | no listener |
+/// | `subscriber.ring` | 1 to 1024 | required |
+/// | `subscriber.bytes` | 16 to 16777216 | 16777216 |
+/// | `subscriber.grants` | list of numbers P, which are P/P, or texts "S/P" | none |
+/// | `subscriber.address` | text `A.B.C.D` | `0.0.0.0` |
+/// | `subscriber.allow` | list of texts `A.B.C.D` or `A.B.C.D/BITS`, 0 to 32 bits; an empty list allows nobody | every host |
+/// | `subscriber.takeover` | a boolean | false |
+/// | `subscriber.stall` | 1 to 3600 seconds; 0 never | 30 |
+/// | `subscriber.idle` | 1 to 3600 seconds; 0 never | 0 |
+/// | `subscriber.stream` | tables | none |
+/// | `stream.id`, `rate`, `base`, `wait`, `window` | as in a line `define` | required |
+/// | `stream.header` | the text itself | empty |
+/// | `stream.members` | list of 1 to 32 numbers or texts, as the grants | required |
+///
+/// A NAME is labels joined by dots, at most 253 bytes. A label is one to 63 letters, digits and hyphens, with no hyphen at either end;
+/// the last label is not digits alone, so that no address with a wrong number is a name. Several PMUs of one source may each say its
+/// `silence` and `clock_ms`, and then say the same. A network is that of its first bits: `10.0.0.1/8` is `10.0.0.0/8`.
+///
+/// # Errors
+///
+/// `BadSetup` for text that is not TOML, an unknown key, a key that is required and absent, a value of another type or
+/// out of range, a second `connect` for one source, and two tables of one source that say another `silence` or `clock_ms`; `NoMemory`.
+pub fn read_setup(alloc: Global, text: &str) -> Result<Setup, Refusal>
+    ensures found { IfOk result (λ s. setup_of text.now ≡ Some (settings s)) }
+    ensures refused { IfErr result (λ r. (r ≡ Refusal.NoMemory) ⊎ ((r ≡ Refusal.BadSetup) × (setup_of text.now ≡ None))) }
+{
+    match toml::table_from_str(alloc, text) {
+        Ok(table) => setup_in(alloc, &table),
+        Err(error) => {
+            if error.is_memory() {
+                Err(Refusal::NoMemory)
+            } else {
+                Err(Refusal::BadSetup)
+            }
+        }
+    }
+}
+
+/// The keys of the file's own table.
+const TOP_KEYS: [&str; 8] = [
+    "tick_ms",
+    "ingest",
+    "serve",
+    "log",
+    "control",
+    "status",
+    "pmu",
+    "subscriber",
+];
+
+/// What the file's table asks for.
+fn setup_in(alloc: Global, table: &Table) -> Result<Setup, Refusal>
+    ensures ok { IfOk result (λ s. setup_in (table_view table.now) ≡ Some (settings s)) }
+    ensures err { IfErr result (λ r. (r ≡ Refusal.NoMemory) ⊎ ((r ≡ Refusal.BadSetup) × (setup_in (table_view table.now) ≡ None))) }
+{
+    if !table::keys_within(&TOP_KEYS, table) {
+        return Err(Refusal::BadSetup);
+    }
+    let Some(general) = general::general_at(table) else {
+        return Err(Refusal::BadSetup);
+    };
+    let pmus = pmu::pmus_at(alloc, table)?;
+    let links = pmu::links_of(alloc, pmus.as_slice())?;
+    let sources = source::sources_of(alloc, pmus.as_slice())?;
+    let subscribers = subscribers_at(alloc, table)?;
+    let control = general::own_text(alloc, general.control)?;
+    let mut edits = pmu::edits_of(alloc, pmus.as_slice())?;
+    let mut rest = subscribers.edits;
+    edits.append(&mut rest)?;
+    Ok(Setup {
+        edits,
+        links,
+        sources,
+        ports: subscribers.ports,
+        doors: subscribers.doors,
+        tick_ms: general.tick_ms,
+        ingest: general.ingest,
+        serve: general.serve,
+        log: general.log,
+        control,
+        status: general.status,
+    })
+}
+
+/// The keys of a subscriber's table.
+const SUBSCRIBER_KEYS: [&str; 11] = [
+    "id", "port", "ring", "bytes", "grants", "stream", "address", "allow", "takeover", "stall",
+    "idle",
+];
+
+/// The edits of the subscribers, the ports that they connect to, and the rules of these.
+#[derive(Drop)]
+struct Subscribers {
+    edits: Vec<Edit>,
+    ports: Vec<(SubId, u16)>,
+    doors: Vec<PortRules>,
+}
+
+/// The subscribers, in order.
+fn subscribers_at(alloc: Global, table: &Table) -> Result<Subscribers, Refusal>
+    ensures ok { IfOk result (λ s. option_map planned (required (list_of subscriber_in) (codes "subscriber") (table_view table.now)) ≡ Some (record { edits = s.edits.items; ports = s.ports.items; doors = map door_of s.doors.items })) }
+    ensures err { IfErr result (λ r. (r ≡ Refusal.NoMemory) ⊎ ((r ≡ Refusal.BadSetup) × (required (list_of subscriber_in) (codes "subscriber") (table_view table.now) ≡ None))) }
+{
+    match table::value_at(table, "subscriber") {
+        Some(value) => subscribers_in(alloc, value),
+        None => Err(Refusal::BadSetup),
+    }
+}
+
+/// The subscribers' tables.
+fn subscribers_in(alloc: Global, value: &Value) -> Result<Subscribers, Refusal>
+    ensures ok { IfOk result (λ s. option_map planned (list_of subscriber_in (view value.now)) ≡ Some (record { edits = s.edits.items; ports = s.ports.items; doors = map door_of s.doors.items })) }
+    ensures err { IfErr result (λ r. (r ≡ Refusal.NoMemory) ⊎ ((r ≡ Refusal.BadSetup) × (list_of subscriber_in (view value.now) ≡ None))) }
+{
+    let Some(items) = value.as_array() else {
+        return Err(Refusal::BadSetup);
+    };
+    let mut edits = Vec::new(alloc);
+    let mut ports = Vec::new(alloc);
+    let mut doors = Vec::new(alloc);
+    'items: for item in items {
+        let Subscriber {
+            edits: mut own,
+            port,
+            door,
+        } = match subscriber_in(alloc, item) {
+            Ok(subscriber) => subscriber,
+            Err(refusal) => return Err(refusal),
+        };
+        edits.append(&mut own)?;
+        add_port(&mut ports, &mut doors, port, door)?;
+    }
+    Ok(Subscribers {
+        edits,
+        ports,
+        doors,
+    })
+}
+
+/// Adds a port that is there, and its rules.
+fn add_port(
+    ports: &mut Vec<(SubId, u16)>,
+    doors: &mut Vec<PortRules>,
+    port: Option<(SubId, u16)>,
+    door: PortRules,
+) -> Result<(), Refusal>
+    ensures ports { OnOk result (ports.new.items ≡ ports.old.items ++ option_to_list port) }
+    ensures doors { OnOk result (map door_of doors.new.items ≡ map door_of doors.old.items ++ option_to_list (option_map (λ p. door_of door) port)) }
+    ensures err { IfErr result (λ r. r ≡ Refusal.NoMemory) }
+{
+    if let Some(port) = port {
+        ports.push(port)?;
+        doors.push(door)?;
+    }
+    Ok(())
+}
+
+/// The edits of a subscriber, the port that it connects to, and the rules of that port.
+#[derive(Drop)]
+struct Subscriber {
+    edits: Vec<Edit>,
+    port: Option<(SubId, u16)>,
+    door: PortRules,
+}
+
+/// A subscriber's table.
+fn subscriber_in(alloc: Global, value: &Value) -> Result<Subscriber, Refusal>
+    ensures ok { IfOk result (λ s. subscriber_in (view value.now) ≡ Some (record { edits = s.edits.items; port = s.port; door = door_of s.door })) }
+    ensures err { IfErr result (λ r. (r ≡ Refusal.NoMemory) ⊎ ((r ≡ Refusal.BadSetup) × (subscriber_in (view value.now) ≡ None))) }
+{
+    let Some(table) = value.as_table() else {
+        return Err(Refusal::BadSetup);
+    };
+    if !table::keys_within(&SUBSCRIBER_KEYS, table) {
+        return Err(Refusal::BadSetup);
+    }
+    let Some(entry) = entry_at(table) else {
+        return Err(Refusal::BadSetup);
+    };
+    let port = entry.own_port();
+    let door = match door::door_at(alloc, entry.id, table) {
+        Ok(door) => door,
+        Err(refusal) => return Err(refusal),
+    };
+    match edits_at(alloc, &entry, table) {
+        Ok(edits) => Ok(Subscriber { edits, port, door }),
+        Err(refusal) => Err(refusal),
+    }
+}
+
+/// A subscriber's own values.
+#[derive(Clone, Copy)]
+struct Entry {
+    id: SubId,
+    port: Option<u16>,
+    size: RingSize,
+    bytes: RingBytes,
+}
+
+impl Entry {
+    /// The subscriber and its port, where it has one.
+    fn own_port(&self) -> Option<(SubId, u16)>
+        ensures { result ≡ option_map (λ p. (self.now.id, p)) self.now.port }
+    {
+        match self.port {
+            Some(port) => Some((self.id, port)),
+            None => None,
+        }
+    }
+}
+
+/// A subscriber's own values in its table.
+fn entry_at(table: &Table) -> Option<Entry>
+    ensures { option_map (λ e. record { id = e.id; port = e.port; size = e.size; bytes = e.bytes }) result ≡ entry_by (table_view table.now) }
+{
+    let id = subscriber_id(table)?;
+    let port = port_at(table)?;
+    let size = ring_size(table)?;
+    let bytes = ring_bytes(table)?;
+    Some(Entry {
+        id,
+        port,
+        size,
+        bytes,
+    })
+}
+
+/// The number of a subscriber.
+pub(crate) fn subscriber_id(table: &Table) -> Option<SubId>
+    ensures { result ≡ required (whole_in 1 65535) (codes "id") (table_view table.now) }
+{
+    match table::required(table, "id", 1, 65535) {
+        Some(id) => SubId::new(id as u16),
+        None => None,
+    }
+}
+
+/// The port that a subscriber connects to, or none where it is left out.
+fn port_at(table: &Table) -> Option<Option<u16>>
+    ensures { result ≡ absent_or (whole_in 1 65535) (codes "port") (table_view table.now) }
+{
+    match table::value_at(table, "port") {
+        Some(value) => match table::whole(value, 1, 65535) {
+            Some(port) => Some(Some(port as u16)),
+            None => None,
+        },
+        None => Some(None),
+    }
+}
+
+/// How many data frames a subscriber's ring holds.
+fn ring_size(table: &Table) -> Option<RingSize>
+    ensures { result ≡ required (whole_in 1 1024) (codes "ring") (table_view table.now) }
+{
+    match table::required(table, "ring", 1, 1024) {
+        Some(size) => RingSize::new(size as u16),
+        None => None,
+    }
+}
+
+/// How many bytes of data frames a subscriber's ring holds.
+fn ring_bytes(table: &Table) -> Option<RingBytes>
+    ensures { result ≡ optional 16777216 (whole_in 16 16777216) (codes "bytes") (table_view table.now) }
+{
+    match table::optional(table, "bytes", 16_777_216, 16, 16_777_216) {
+        Some(bytes) => RingBytes::new(bytes),
+        None => None,
+    }
+}
+
+/// A subscriber's edits: it is added, then its grants, then its streams.
+fn edits_at(alloc: Global, entry: &Entry, table: &Table) -> Result<Vec<Edit>, Refusal>
+    ensures ok { IfOk result (λ v. edits_by entry.now.id entry.now.size entry.now.bytes (table_view table.now) ≡ Some v.items) }
+    ensures err { IfErr result (λ r. (r ≡ Refusal.NoMemory) ⊎ ((r ≡ Refusal.BadSetup) × (edits_by entry.now.id entry.now.size entry.now.bytes (table_view table.now) ≡ None))) }
+{
+    let mut grants = match grants_at(alloc, entry.id, table) {
+        Ok(grants) => grants,
+        Err(refusal) => return Err(refusal),
+    };
+    let mut streams = match streams_at(alloc, entry.id, table) {
+        Ok(streams) => streams,
+        Err(refusal) => return Err(refusal),
+    };
+    let mut edits = Vec::new(alloc);
+    edits.push(Edit::AddSub(entry.id, entry.size, entry.bytes))?;
+    edits.append(&mut grants)?;
+    edits.append(&mut streams)?;
+    Ok(edits)
+}
+
+/// A subscriber's grants, none where they are left out.
+fn grants_at(alloc: Global, id: SubId, table: &Table) -> Result<Vec<Edit>, Refusal>
+    ensures ok { IfOk result (λ v. optional [] (grants_in id) (codes "grants") (table_view table.now) ≡ Some v.items) }
+    ensures err { IfErr result (λ r. (r ≡ Refusal.NoMemory) ⊎ ((r ≡ Refusal.BadSetup) × (optional [] (grants_in id) (codes "grants") (table_view table.now) ≡ None))) }
+{
+    match table::value_at(table, "grants") {
+        Some(value) => stream::grants_in(alloc, id, value),
+        None => Ok(Vec::new(alloc)),
+    }
+}
+
+/// A subscriber's streams, none where they are left out.
+fn streams_at(alloc: Global, id: SubId, table: &Table) -> Result<Vec<Edit>, Refusal>
+    ensures ok { IfOk result (λ v. optional [] (streams_in id) (codes "stream") (table_view table.now) ≡ Some v.items) }
+    ensures err { IfErr result (λ r. (r ≡ Refusal.NoMemory) ⊎ ((r ≡ Refusal.BadSetup) × (optional [] (streams_in id) (codes "stream") (table_view table.now) ≡ None))) }
+{
+    match table::value_at(table, "stream") {
+        Some(value) => stream::streams_in(alloc, id, value),
+        None => Ok(Vec::new(alloc)),
+    }
+}

@@ -1,0 +1,181 @@
+//! The tables `[[subscriber.stream]]` of the setup file, and a subscriber's grants.
+ghost use Rattle.std.specs.Prelude.{◌≡◌, ◌⊎◌, IfOk, IfErr, IfSome, map, option_map, codes, Some, None, []};
+ghost use Rattle.toml.specs.View.{view, table_view};
+ghost use Rattle.pg_operator.specs.Setups.{key_in, list_of, members_in, numbers_in, optional, required, text_in, stream_in, whole_in, wide, grants_in, streams_in};
+
+use crate::table;
+use pg_gateway::Edit;
+use pg_lines::Numbers;
+use pg_stream::{Definition, HeaderText, Members};
+use pg_wire::{PmuKey, Refusal, StreamId, SubId};
+use std::alloc::Global;
+use toml::{Table, Value};
+
+/// The keys of a stream's table.
+const STREAM_KEYS: [&str; 7] = ["id", "rate", "base", "wait", "window", "header", "members"];
+
+/// The most members of a stream.
+const MEMBER_LIMIT: usize = 32;
+
+/// The grants of a subscriber.
+pub(crate) fn grants_in(alloc: Global, id: SubId, value: &Value) -> Result<Vec<Edit>, Refusal>
+    ensures ok { IfOk result (λ v. grants_in id (view value.now) ≡ Some v.items) }
+    ensures err { IfErr result (λ r. (r ≡ Refusal.NoMemory) ⊎ ((r ≡ Refusal.BadSetup) × (grants_in id (view value.now) ≡ None))) }
+{
+    let Some(items) = value.as_array() else {
+        return Err(Refusal::BadSetup);
+    };
+    let mut edits = Vec::new(alloc);
+    'items: for item in items {
+        let Some(key) = table::key(item) else {
+            return Err(Refusal::BadSetup);
+        };
+        edits.push(Edit::Grant(id, key))?;
+    }
+    Ok(edits)
+}
+
+/// The streams of a subscriber.
+pub(crate) fn streams_in(alloc: Global, id: SubId, value: &Value) -> Result<Vec<Edit>, Refusal>
+    ensures ok { IfOk result (λ v. streams_in id (view value.now) ≡ Some v.items) }
+    ensures err { IfErr result (λ r. (r ≡ Refusal.NoMemory) ⊎ ((r ≡ Refusal.BadSetup) × (streams_in id (view value.now) ≡ None))) }
+{
+    let Some(items) = value.as_array() else {
+        return Err(Refusal::BadSetup);
+    };
+    let mut edits = Vec::new(alloc);
+    'items: for item in items {
+        let definition = match stream_in(alloc, item) {
+            Ok(definition) => definition,
+            Err(refusal) => return Err(refusal),
+        };
+        edits.push(Edit::Define(id, definition))?;
+    }
+    Ok(edits)
+}
+
+/// A stream's table.
+fn stream_in(alloc: Global, value: &Value) -> Result<Definition, Refusal>
+    ensures ok { IfOk result (λ d. stream_in (view value.now) ≡ Some d) }
+    ensures err { IfErr result (λ r. (r ≡ Refusal.NoMemory) ⊎ ((r ≡ Refusal.BadSetup) × (stream_in (view value.now) ≡ None))) }
+{
+    let Some(table) = value.as_table() else {
+        return Err(Refusal::BadSetup);
+    };
+    if !table::keys_within(&STREAM_KEYS, table) {
+        return Err(Refusal::BadSetup);
+    }
+    let Some(numbers) = numbers_in(table) else {
+        return Err(Refusal::BadSetup);
+    };
+    let header = match header_in(alloc, table) {
+        Ok(header) => header,
+        Err(refusal) => return Err(refusal),
+    };
+    match members_at(alloc, table) {
+        Ok(members) => Ok(numbers.with(header, members)),
+        Err(refusal) => Err(refusal),
+    }
+}
+
+/// A number of 32 bits.
+fn wide(table: &Table, key: &str) -> Option<u32>
+    ensures { result ≡ wide key.now (table_view table.now) }
+{
+    table::required(table, key, 0, u32::MAX)
+}
+
+/// The number of a stream.
+fn stream_id(table: &Table) -> Option<StreamId>
+    ensures { result ≡ required (whole_in 1 65534) (codes "id") (table_view table.now) }
+{
+    match table::required(table, "id", 1, 65534) {
+        Some(id) => StreamId::new(id as u16),
+        None => None,
+    }
+}
+
+/// The rate of a stream.
+fn rate(table: &Table) -> Option<u8>
+    ensures { result ≡ required (whole_in 0 255) (codes "rate") (table_view table.now) }
+{
+    match table::required(table, "rate", 0, 255) {
+        Some(rate) => Some(rate as u8),
+        None => None,
+    }
+}
+
+/// The numbers of a definition.
+fn numbers_in(table: &Table) -> Option<Numbers>
+    ensures { option_map (λ n header members. record { stream = n.stream; rate = n.rate; base = n.base; wait = n.wait; window = n.window; header = header; members = members }) result
+        ≡ numbers_in (table_view table.now) }
+{
+    let stream = stream_id(table)?;
+    let rate = rate(table)?;
+    let base = wide(table, "base")?;
+    let wait = wide(table, "wait")?;
+    let window = wide(table, "window")?;
+    Some(Numbers {
+        stream,
+        rate,
+        base,
+        wait,
+        window,
+    })
+}
+
+/// The text of a header, or the empty one where it is left out.
+fn header_in(alloc: Global, table: &Table) -> Result<HeaderText, Refusal>
+    ensures ok { IfOk result (λ text. optional [] text_in (codes "header") (table_view table.now) ≡ Some text) }
+    ensures err { IfErr result (λ r. (r ≡ Refusal.NoMemory) ⊎ ((r ≡ Refusal.BadSetup) × (optional [] text_in (codes "header") (table_view table.now) ≡ None))) }
+{
+    match table::value_at(table, "header") {
+        None => Ok(HeaderText::new(Vec::new(alloc))),
+        Some(Value::String(text)) => Ok(HeaderText::new(Vec::from_slice(alloc, text.as_bytes())?)),
+        Some(_) => Err(Refusal::BadSetup),
+    }
+}
+
+/// The members of a stream.
+fn members_at(alloc: Global, table: &Table) -> Result<Members, Refusal>
+    ensures ok { IfOk result (λ m. required members_in (codes "members") (table_view table.now) ≡ Some m) }
+    ensures err { IfErr result (λ r. (r ≡ Refusal.NoMemory) ⊎ ((r ≡ Refusal.BadSetup) × (required members_in (codes "members") (table_view table.now) ≡ None))) }
+{
+    match table::value_at(table, "members") {
+        Some(value) => members_in(alloc, value),
+        None => Err(Refusal::BadSetup),
+    }
+}
+
+/// One to 32 keys.
+fn members_in(alloc: Global, value: &Value) -> Result<Members, Refusal>
+    ensures ok { IfOk result (λ m. members_in (view value.now) ≡ Some m) }
+    ensures err { IfErr result (λ r. (r ≡ Refusal.NoMemory) ⊎ ((r ≡ Refusal.BadSetup) × (members_in (view value.now) ≡ None))) }
+{
+    let keys = match keys_in(alloc, value) {
+        Ok(keys) => keys,
+        Err(refusal) => return Err(refusal),
+    };
+    if keys.is_empty() || keys.len() > MEMBER_LIMIT {
+        return Err(Refusal::BadSetup);
+    }
+    Ok(Members::new(keys))
+}
+
+/// The keys of a list.
+fn keys_in(alloc: Global, value: &Value) -> Result<Vec<PmuKey>, Refusal>
+    ensures ok { IfOk result (λ v. list_of key_in (view value.now) ≡ Some v.items) }
+    ensures err { IfErr result (λ r. (r ≡ Refusal.NoMemory) ⊎ ((r ≡ Refusal.BadSetup) × (list_of key_in (view value.now) ≡ None))) }
+{
+    let Some(items) = value.as_array() else {
+        return Err(Refusal::BadSetup);
+    };
+    let mut keys = Vec::new(alloc);
+    'items: for item in items {
+        let Some(key) = table::key(item) else {
+            return Err(Refusal::BadSetup);
+        };
+        keys.push(key)?;
+    }
+    Ok(keys)
+}

@@ -1,5 +1,0 @@
-use Rattle.pg_serve.proofs.Both.{deliver_alike, decided_by_views, delivers_in}
-use Rattle.pg_serve.proofs.laws.deliveries_agree.Goals as goal
-
-pub returns : goal.returns
-returns c = record { alike = deliver_alike; views = decided_by_views; whole = delivers_in }

@@ -1,5 +1,0 @@
-use Rattle.pg_serve.proofs.Links.{tells_call, tells_none, tells_more}
-use Rattle.pg_serve.proofs.laws.links_tell_on.Goals as goal
-
-pub returns : goal.returns
-returns c = record { call = tells_call; none = tells_none; more = tells_more }

@@ -1,8 +1,0 @@
-use Rattle.std.proofs.Common.{◌≡◌, drop, map}
-use Rattle.pg_setup.specs.Setups.{once, sources_of, told}
-use Rattle.pg_setup.proofs.Sources.{made}
-use Rattle.pg_setup.proofs.source.sources_of.Given as goal
-
-abbrev pub invariant-pmus : goal.invariant-pmus
-invariant-pmus l =
-    made (map told l.pmus) l.sources.items (once (map (λ p. p.key.source) (map told (drop l.pmu-index l.pmus)))) ≡ sources_of (map told l.pmus)

@@ -1,0 +1,95 @@
+//! The gates of workers, whose seats are of one shared gateway.
+
+ghost use Rattle.std.specs.Prelude.{◌≡◌, [], ◌∷◌, Some};
+ghost use Rattle.atomic_table.specs.Seated.{TableId};
+ghost use Rattle.pg_gateway.specs.Occurrences.{occurrence, told};
+ghost use Rattle.pg_gateway.specs.Posting.{Answers, Notes};
+ghost use Rattle.pg_shared.specs.Gates.{said_at};
+ghost use Rattle.pg_shared.specs.Continuing.{goes_on_same, goes_on_more};
+ghost use Rattle.pg_shared.specs.Onward.{GoesOn};
+ghost use Rattle.pg_shared.specs.Sharing.{history_of, PostedCall, HandsByViews, AnswersByView};
+
+use crate::seat_gate::SeatGate;
+use crate::shared::{Seat, Shared};
+use pg_gateway::{Event, Gate, Reply};
+use std::marker::{Brand, Model, PhantomData};
+use std::sync::Wait;
+
+/// Names a shared gateway, so that the seats of many threads are known to be of the same one (own rule).
+pub trait Named {
+    // The shared gateway.
+    ghost table: { TableId };
+}
+
+impl Named for Brand {
+    ghost table = { record { words = 0; slots = 0; views_name = 0; atom = 0; block = 0; offset = 0; slot_names = [] } };
+}
+
+/// A gate that holds a seat of the shared gateway that N names, and posts at it (own rule). Contracts see it as its seat. What it
+/// tells of its posts is what stands at the seat's own places in the history. Each post may wait.
+#[derive(Drop)]
+pub struct SharedGate<'a, R: Wait, N: Named> {
+    gate: SeatGate<'a, R>,
+    of: PhantomData<N>,
+}
+
+impl<'a, R: Wait, N: Named> Model for SharedGate<'a, R, N> {
+    ghost use Rattle.std.specs.Prelude.{◌≡◌};
+    ghost use Rattle.pg_gateway.specs.declared.event.Event.{Event};
+    ghost use Rattle.pg_gateway.specs.declared.event.Reply.{Reply};
+    ghost use Rattle.pg_turn.specs.Known.{Known};
+
+    ghost Value = { Known Event Reply };
+
+    ghost view = { λ g. g.gate };
+
+    ghost invariant = { λ g. g.gate.table ≡ N.table };
+}
+
+impl<'a, R: Wait, N: Named> SharedGate<'a, R, N> {
+    /// A gate to this shared gateway, with a seat at it.
+    pub fn new(rt: &'a R, shared: &'a Shared, seat: Seat) -> SharedGate<'a, R, N>
+        requires shared { shared.now ≡ N.table }
+        requires seat { seat.table ≡ N.table }
+        ensures seat { result ≡ seat }
+    {
+        SharedGate {
+            gate: SeatGate::new(rt, shared, seat),
+            of: PhantomData,
+        }
+    }
+
+    /// Gives its seat back, which is one of the gateway that N names.
+    pub fn into_seat(self) -> Seat
+        ensures seat { result ≡ self.entry }
+        ensures table { result.table ≡ N.table }
+    {
+        let SharedGate { gate, .. } = self;
+        gate.into_seat()
+    }
+}
+
+impl<R: Wait, N: Named> Gate for SharedGate<'_, R, N> {
+    ghost posts = { λ g. Some (said_at g.seen g.own) };
+
+    ghost goes_on = { λ g h. GoesOn g h };
+
+    ghost stays = { λ g. goes_on_same g };
+
+    ghost joins = { λ g h k. goes_on_more g h k };
+
+    /// Posts at its seat. It waits by parking, and what is promised holds if it returns.
+    #[inline(always)]
+    fn post(&mut self, event: Event) -> Reply
+        // All that `Shared::post` promises of the seat.
+        ensures seat { PostedCall self.old event result self.new }
+        ensures handed { HandsByViews (history_of self.new.seen) }
+        ensures own { AnswersByView (history_of self.new.seen) }
+        ensures answers { Answers event result }
+        ensures posted { Notes (Some (said_at self.old.seen self.old.own)) (Some (said_at self.new.seen self.new.own))
+            ((occurrence event, told result) ∷ []) }
+        ensures goes_on { GoesOn self.old self.new }
+    {
+        self.gate.post(event)
+    }
+}
