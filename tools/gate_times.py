@@ -76,6 +76,8 @@ def totals(wall_clock):
 
 
 def main():
+    if len(sys.argv) > 2 or sys.argv[1:] and sys.argv[1].startswith("-"):
+        sys.exit(__doc__)
     os.chdir(os.path.dirname(os.path.dirname(os.path.abspath(__file__))))
     begun, ended = time.monotonic(), threading.Event()
     watcher = threading.Thread(target=watch, args=(ended, begun))
