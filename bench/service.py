@@ -2,8 +2,8 @@
 """Measures the running service: starts the program with sources and subscribers of its own, and prints each figure beside its
 bound.
 
-    python3 bench/service.py PROGRAM [CASE..]      CASE: direct latency idle flood hostile reader throughput address name descriptors; none: all
-                                                   of them
+    python3 bench/service.py PROGRAM [CASE..]      CASE: direct latency idle flood hostile reader burst throughput address name descriptors;
+                                                   none: all of them
 
 A latency is from the moment before the last source's frame of a slot is written to the moment at which the kernel has the
 subscriber's frame at its socket, by the kernel's own stamp; bounds are of this one, so that it does not count when this script is
@@ -11,7 +11,6 @@ scheduled. Behind it stands the same up to the end of the read, so with the read
 after another. PROGRAM is `pdcgw` as `rt run` left it in crates/pdcgw/out. Nothing beside Python's standard library is needed (and `strace` or
 `perf` for system calls, where one of them is there). The status is 1 where a figure is past its bound.
 """
-import binascii
 import multiprocessing
 import os
 import resource
@@ -24,47 +23,14 @@ import tempfile
 import threading
 import time
 
-BASE = 1_000_000
+sys.path.insert(0, os.path.join(os.path.dirname(os.path.abspath(__file__)), "..", "tools"))
+from c37118 import BASE, command, configuration, data, frames_in, stamp  # noqa: E402
+
 FIRST_SOURCE_PORT = 20_100
 FIRST_PORT = 20_300
 PAGE_PORT = 20_099
 SO_TIMESTAMPNS = 35
 P50_P99 = "p50, p99 ms at the socket; read"
-
-
-def frame(kind, idcode, soc, frac, body):
-    head = struct.pack(">BBHHII", 0xAA, kind << 4 | 2, 16 + len(body), idcode, soc, frac)
-    return head + body + struct.pack(">H", binascii.crc_hqx(head + body, 0xFFFF))
-
-
-def configuration(source, pmus, rate, phasors=1):
-    body = struct.pack(">IH", BASE, len(pmus))
-    for pmu in pmus:
-        names = b"".join(b"PH%-14d" % at for at in range(phasors))
-        body += b"PMU %-12d" % pmu + struct.pack(">HHHHH", pmu, 0, phasors, 0, 0) + names + bytes(4 * phasors) + bytes(4)
-    return frame(3, source, int(time.time()), 0, body + struct.pack(">h", rate))
-
-
-def data(source, pmus, soc, frac, phasors=1):
-    block = bytes(2) + b"\x10\0\x20\0" * phasors + bytes(4)
-    return frame(0, source, soc, frac, block * pmus)
-
-
-def command(idcode, word):
-    return frame(4, idcode, int(time.time()), 0, struct.pack(">H", word))
-
-
-def frames_in(buffer):
-    """The whole frames at the front of a buffer, and what is left."""
-    found, at = [], 0
-    while len(buffer) - at >= 4:
-        size = buffer[at + 2] << 8 | buffer[at + 3]
-        if len(buffer) - at < size:
-            break
-        found.append(bytes(buffer[at:at + size]))
-        at += size
-    del buffer[:at]
-    return found
 
 
 def setup_text(tick_ms, sources, subscribers, ingest=1, serve=1, more=(), window=16):
@@ -144,7 +110,7 @@ def run_sources(sources, rate, seconds, phasors, told):
     sent = []
     count = len(made)
     for slot in range(int(seconds * rate)):
-        soc, frac = first + slot // rate, (slot % rate * BASE * 2 + rate) // (2 * rate)
+        soc, frac = stamp(first * rate + slot, rate)
         for at, peer in enumerate(made):
             due = first + (slot + at / count) / rate
             wait = due - time.time()
@@ -187,9 +153,9 @@ def read_stamped(peer):
     piece, told, _, _ = peer.recvmsg(1 << 18, 64)
     now = time.time_ns()
     came = now
-    for level, kind, stamp in told:
+    for level, kind, value in told:
         if level == socket.SOL_SOCKET and kind == SO_TIMESTAMPNS:
-            seconds, nanoseconds = struct.unpack("qq", stamp)
+            seconds, nanoseconds = struct.unpack("qq", value)
             came = seconds * 1_000_000_000 + nanoseconds
     return piece, came, now
 
@@ -518,45 +484,89 @@ def case_idle(program):
     gateway.quit()
 
 
-def burst_source(told):
-    listener = listen(FIRST_SOURCE_PORT)
+# The data frames that a source sends at once: 56 seconds at 120/s, as stamps may be 30 seconds from the clock; of 64 sources 7 seconds.
+BURST, SHORT_BURST = 56 * 120, 7 * 120
+
+
+def burst_sources(sources, count, told):
+    """Plays all sources: once all are started each sends its burst as fast as its connection takes it. Tells when they began."""
+    listeners = [listen(FIRST_SOURCE_PORT + at) for at in range(len(sources))]
     told.put("ready")
-    peer, _ = listener.accept()
-    buffer, started = bytearray(), False
-    while not started:
-        buffer += peer.recv(4096)
-        for got in frames_in(buffer):
-            if got[15] == 5:
-                peer.sendall(configuration(100, [100], 120))
-            started = started or got[15] == 2
+    peers = [listener.accept()[0] for listener in listeners]
+    for peer, (source, pmus) in zip(peers, sources.items()):
+        buffer, started = bytearray(), False
+        while not started:
+            buffer += peer.recv(4096)
+            for got in frames_in(buffer):
+                if got[15] == 5:
+                    peer.sendall(configuration(source, pmus, 120))
+                started = started or got[15] == 2
     told.put("started")
     told.get_go()
-    first = int(time.time()) - 28
-    pieces = b"".join(data(100, 1, first + slot // 120, slot % 120 * BASE // 120) for slot in range(56 * 120))
+    first = (int(time.time()) - 28) * 120
+    pieces = [b"".join(data(source, len(pmus), *stamp(slot, 120)) for slot in range(first, first + count)) for source, pmus in sources.items()]
     told.put(time.time_ns())
-    peer.sendall(pieces)
-    time.sleep(20)
+    threads = [threading.Thread(target=peer.sendall, args=(piece,), daemon=True) for peer, piece in zip(peers, pieces)]
+    for it in threads:
+        it.start()
+    time.sleep(60)
 
 
-def case_throughput(program):
-    subscribers = [(at + 1, 1024, [(1000 + at, 120, [(100, 100)])]) for at in range(64)]
-    source, of_source = spawn(burst_source)
+def deaf_subscriber(port, stream, told):
+    """A subscriber that starts its stream and never reads."""
+    with socket.socket() as peer:
+        peer.setsockopt(socket.SOL_SOCKET, socket.SO_RCVBUF, 4096)
+        peer.connect(("127.0.0.1", port))
+        peer.sendall(command(stream, 2))
+        told.put("started")
+        time.sleep(60)
+
+
+def burst(program, name, sources, subscribers, bound, count=BURST, serve=1, deaf=None):
+    """The bursts of all sources to these subscribers: what comes, how fast, and what the gateway dropped of theirs. `deaf` is a subscriber that
+    never reads beside them."""
+    source, of_source = spawn(burst_sources, sources, count)
     of_source.get()
-    gateway = Gateway(program, setup_text(10, {100: [100]}, subscribers, ingest=1, serve=2))
+    gateway = Gateway(program, setup_text(10, sources, subscribers + ([deaf] if deaf else []), serve=serve))
     of_source.get()
-    readers = [spawn(run_subscribers, subscribers[at::2], 12) for at in range(2)]
+    if deaf:
+        beside, of_deaf = spawn(deaf_subscriber, FIRST_PORT + deaf[0], deaf[2][0][0])
+        of_deaf.get()
+    readers = [spawn(run_subscribers, subscribers[at::2], 15) for at in range(min(2, len(subscribers)))]
     for _, told in readers:
         told.get()
     time.sleep(0.5)
     of_source.go.put("go")
     begun = of_source.get()
     got = [it for _, told in readers for it in told.get()]
+    dropped = sum(int(gateway.ask(f"stats {sub}").split()[4]) for sub, _, _ in subscribers)
     gateway.quit()
-    source.kill()
-    wanted = 56 * 120 * 64
+    for it in [source] + ([beside] if deaf else []):
+        it.kill()
+        it.join()
+    wanted = count * sum(len(streams) for _, _, streams in subscribers)
     last = max(read for *_, read in got) if got else begun + 1
-    tell("a burst of one PMU to 64 subscribers: frames a second out", f"{len(got) / ((last - begun) / 1e9):,.0f}", "(no bound)", True)
-    print(f"    {len(got):,} of {wanted:,} came, {(last - begun) / 1e6:.0f} ms")
+    tell(f"{name}: frames a second out; came; dropped", f"{len(got) / ((last - begun) / 1e9):,.0f}; {len(got):,} of {wanted:,}; {dropped}",
+         "all came, 0 dropped" if bound else "(no bound)", not bound or (len(got) == wanted and dropped == 0))
+
+
+def case_burst(program):
+    """Bursts as fast as they go, ring 64: each healthy reader gets all frames."""
+    one, many = {100: [100]}, {100 + at: [100 + at] for at in range(64)}
+    wide = {100: list(range(100, 116))}
+    of_one = [(at + 1, 64, [(1000 + at, 120, [(100, 100)])]) for at in range(64)]
+    burst(program, "a burst, 1 source to 1 subscriber", one, of_one[:1], True)
+    burst(program, "the same beside a subscriber that never reads", one, of_one[:1], True, deaf=(99, 64, [(3000, 120, [(100, 100)])]))
+    burst(program, "a burst, 1 source to 64 subscribers", one, of_one, True)
+    burst(program, "a burst, 64 sources to 64 subscribers", many,
+          [(at + 1, 64, [(1000 + at, 120, [(100 + at, 100 + at)])]) for at in range(64)], True, count=SHORT_BURST)
+    burst(program, "a burst, 1 source of 16 PMUs to 16 subscribers", wide,
+          [(at + 1, 64, [(1000 + at, 120, [(100, pmu) for pmu in wide[100]])]) for at in range(16)], True)
+
+
+def case_throughput(program):
+    burst(program, "a burst of one PMU to 64 subscribers, ring 1,024", {100: [100]},
+          [(at + 1, 1024, [(1000 + at, 120, [(100, 100)])]) for at in range(64)], False, serve=2)
 
 
 def can_connect(host, port):
@@ -624,7 +634,9 @@ def case_descriptors(program):
     gateway.quit()
 
 
-CASES = {"direct": case_direct, "address": case_address, "name": case_name, "descriptors": case_descriptors, "latency": case_latency, "idle": case_idle, "flood": case_flood, "hostile": case_hostile, "reader": case_reader, "throughput": case_throughput}
+CASES = {"direct": case_direct, "address": case_address, "name": case_name, "descriptors": case_descriptors, "latency": case_latency, "idle": case_idle,
+         "flood": case_flood, "hostile": case_hostile, "reader": case_reader, "burst": case_burst,
+         "throughput": case_throughput}
 
 
 def main():

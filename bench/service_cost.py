@@ -23,6 +23,9 @@ import time
 import instructions
 import service
 
+sys.path.insert(0, os.path.join(os.path.dirname(os.path.abspath(__file__)), "..", "tools"))
+import c37118  # noqa: E402
+
 RATE = 60
 # (its own, so that it can run beside the other scripts)
 service.FIRST_SOURCE_PORT, service.FIRST_PORT = 21_100, 21_300
@@ -44,20 +47,20 @@ class Players:
             buffer, started = bytearray(), False
             while not started:
                 buffer += peer.recv(4096)
-                for got in service.frames_in(buffer):
+                for got in c37118.frames_in(buffer):
                     if got[15] == 5:
-                        peer.sendall(service.configuration(source, pmus, RATE))
+                        peer.sendall(c37118.configuration(source, pmus, RATE))
                     started = started or got[15] == 2
             self.links.append(peer)
         for sub, _, streams in self.subscribers:
             guest = connect_when_open(service.FIRST_PORT + sub)
             for stream, _, _ in streams:
-                guest.sendall(service.command(stream, 2) + service.command(stream, 5))
+                guest.sendall(c37118.command(stream, 2) + c37118.command(stream, 5))
             # Each stream's CFG-2 comes behind its start.
             waited, buffer = len(streams), bytearray()
             while waited:
                 buffer += guest.recv(65536)
-                waited -= sum(it[1] >> 4 == 3 for it in service.frames_in(buffer))
+                waited -= sum(it[1] >> 4 == 3 for it in c37118.frames_in(buffer))
             self.guests.append((guest, buffer))
 
     def play(self, instants, burst):
@@ -70,8 +73,7 @@ class Players:
         for first in range(0, instants, burst):
             slots = range(first, min(first + burst, instants))
             for (source, pmus), link in zip(self.sources.items(), self.links):
-                link.sendall(b"".join(service.data(source, len(pmus), begun + slot // RATE,
-                                                   (slot % RATE * service.BASE * 2 + RATE) // (2 * RATE)) for slot in slots))
+                link.sendall(b"".join(c37118.data(source, len(pmus), *c37118.stamp(begun * RATE + slot, RATE)) for slot in slots))
             waited = len(slots) * sum(len(streams) for _, _, streams in self.subscribers)
             while waited > 0:
                 ready = chosen.select(60)
@@ -80,7 +82,7 @@ class Players:
                 for key, _ in ready:
                     buffer, _ = key.data
                     buffer += key.fileobj.recv(1 << 18)
-                    waited -= sum(it[1] >> 4 == 0 for it in service.frames_in(buffer))
+                    waited -= sum(it[1] >> 4 == 0 for it in c37118.frames_in(buffer))
 
     def leave(self):
         for it in [*self.links, *self.listeners, *(guest for guest, _ in self.guests)]:

@@ -18,8 +18,10 @@ import sys
 import threading
 import time
 
-from service import (FIRST_PORT, FIRST_SOURCE_PORT, Gateway, command, configuration, data, flood_source, flood_subscriber, frames_in,
-                     listen, setup_text)
+from service import FIRST_PORT, FIRST_SOURCE_PORT, Gateway, flood_source, flood_subscriber, listen, setup_text
+
+sys.path.insert(0, os.path.join(os.path.dirname(os.path.abspath(__file__)), "..", "tools"))
+from c37118 import command, configuration, data, frames_in, stamp  # noqa: E402
 
 RATE = 60
 # 100 is the neighbour's. 101 comes and goes, 102 floods, 103 is edited.
@@ -35,10 +37,6 @@ LATE = 0.25
 def go_first():
     """This process runs before those of an ordinary priority."""
     os.sched_setscheduler(0, os.SCHED_RR, os.sched_param(1))
-
-
-def stamp(slot):
-    return slot // RATE, (slot % RATE * 1_000_000 * 2 + RATE) // (2 * RATE)
 
 
 def play(place, source, seconds, breaks, told, first=False):
@@ -74,7 +72,7 @@ def play(place, source, seconds, breaks, told, first=False):
                 if time.time() * RATE < slot:
                     time.sleep(max(0.0, slot / RATE - time.time()))
                 if is_on:
-                    soc, frac = stamp(slot)
+                    soc, frac = stamp(slot, RATE)
                     frame = data(source, 1, soc, frac)
                     if not breaks:
                         sent.append(frame)
@@ -83,7 +81,7 @@ def play(place, source, seconds, breaks, told, first=False):
                     peer.sendall(frame)
                 slot += 1
             if breaks and is_on and chance.random() < 0.5:
-                peer.sendall(data(source, 1, *stamp(slot))[:9])
+                peer.sendall(data(source, 1, *stamp(slot, RATE))[:9])
         except OSError:
             pass
         peer.close()

@@ -99,7 +99,7 @@ def keys():
 def lines():
     verbs = re.findall(r'"(\w+)" => Verb::', source("pg_lines", "verb"))
     ways = re.findall(r'"(\w+)" => Way::', source("pg_lines", "steer"))
-    own = re.findall(r'"(\w+)" => return Ok\(Asked::', source("pg_console", "console"))
+    own = re.findall(r'"(\w+)" => return Ok\(Request::', source("pg_console", "console"))
     table = rows(section("docs/OPERATING.md", "## Commands"))[1:]
     told = {span.split(" ")[0] for cells in table for span in spans(cells[0])}
     words = source("pdcgw", "help")
@@ -287,9 +287,6 @@ def options():
 def commands():
     words = options()
     expect(len(words["simulate"]) >= 9 and len(words["watch"]) == 6, "the options were not found in the sources")
-    # The one word of pdcgw_demo.
-    if '"plain"' in source("pdcgw_demo", "main"):
-        words["plain"] = set()
     for page in PAGES:
         text = text_of(page)
         blocks = re.findall(r"^```\w*\n(.*?)^```", text, re.S | re.M)
@@ -304,7 +301,7 @@ def commands():
                     expect(option in known, f"{page}: `pdcgw {said[1]}` has no option --{option}")
             for path in re.findall(r"\b(?:sh|python3) ([\w./-]+\.(?:sh|py))", line):
                 expect(os.path.exists(f"{ROOT}/{path}"), f"{page}: there is no {path}")
-            is_path = re.fullmatch(r"(?:docs|tools|bench|crates|package)/[\w./-]+", line)
+            is_path = re.fullmatch(r"(?:docs|tools|bench|crates|package|tests)/[\w./-]+", line)
             if is_path and "/out/" not in line and "CRATE" not in line:
                 expect(os.path.exists(f"{ROOT}/{line}"), f"{page}: there is no {line}")
 

@@ -1,8 +1,8 @@
 #!/bin/sh
-# Runs the gate, `rt ci`, at the top of the repository, with as many checks side by side as there are processors, but no more than one for
-# each 4 GB of free memory. RT_JOBS, where it is set, is taken as it is.
+# The gate: `rt ci`, and then tests/run.py with the program that it proved (tools/gate.py). `rt ci` runs as many checks side by side as there
+# are processors, but no more than one for each 4 GB of free memory. RT_JOBS, where it is set, is taken as it is.
 set -eu
 cd "$(dirname "$0")/.."
 RT_JOBS=$(python3 tools/jobs.py 4)
 export RT_JOBS
-exec rt ci
+exec python3 tools/gate.py

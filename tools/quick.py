@@ -4,6 +4,7 @@
     sh tools/quick.sh            the worked rows and the tests of streams, in about two minutes
     sh tools/quick.sh --all      the worked rows and all tests, as many crates side by side as processors and memory allow, or RT_JOBS
     sh tools/quick.sh CRATE..    the tests of these crates; pdcgw_rows names the worked rows
+    sh tools/quick.sh --service  the tests of the running service (tests/run.py) with ./pdcgw, which `sh try.sh` builds
 
 The last line is 'N passed, M failed', and the status is 1 where one failed. A crate with failures beside others is run once more alone, as
 some tests wait for real seconds; the second result counts. Some tests first take all memory, which is not possible here, as the sanitizer of
@@ -160,7 +161,17 @@ class Runs:
                 it.join()
 
 
+def run_service():
+    """Runs the tests of the running service in the place of this program."""
+    program = f"{TOP}/pdcgw"
+    if not os.access(program, os.X_OK):
+        sys.exit("quick.sh: there is no ./pdcgw; `sh try.sh --version` builds it")
+    os.execv(sys.executable, [sys.executable, f"{TOP}/tests/run.py", program])
+
+
 def main():
+    if sys.argv[1:] == ["--service"]:
+        run_service()
     chosen = sorted(chosen_crates(sys.argv[1:]), key=size, reverse=True)
     for it in (signal.SIGTERM, signal.SIGINT):
         signal.signal(it, lambda number, _: sys.exit(128 + number))

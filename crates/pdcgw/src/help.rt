@@ -139,9 +139,10 @@ A subscriber sends commands for its streams: 1 stop, 2 start, 3 send the header,
 /// Of `check`.
 pub const CHECK: &str = "\
 Reads a setup file and tries its edits on a gateway of its own; nothing is bound or called. It prints a line for each source,
-subscriber and stream that would run. Each fault of the file is told on standard error as FILE:LINE: KEY: what is wrong; what has
-to be there.
-An edit that is refused is told with the PMU, the subscriber or the stream that it concerns, and why.
+subscriber and stream that would run, and on standard error FILE:LINE: warning: .. for each thing that is allowed and seldom meant, as
+a window that is too small for its wait.
+Each fault of the file is told on standard error as FILE:LINE: KEY: what is wrong; what has to be there. An edit that is refused is
+told with its line, the PMU, the subscriber or the stream that it concerns, and why. Of more than 100 the others are counted.
 
 `pdcgw run --help` has the keys of a setup file. Exit status: 0 where it would run, else 1.";
 

@@ -8,7 +8,7 @@ mod tools;
 
 use clap::error::ErrorKind;
 use clap::{Arg, ArgMatches, Command};
-use pg_check::Trouble;
+use pg_check::{Checked, Trouble};
 use pg_replay::{Fault, replay};
 use pg_tools::Misword;
 use pg_wire::Refusal;
@@ -77,8 +77,8 @@ fn program<'a>(alloc: Global) -> Result<Command<'a>, AllocError> {
 enum Outcome {
     Done,
     Failed(Refusal),
-    /// A setup was checked: what would run.
-    Checked(String),
+    /// A setup was checked: what would run, and what is seldom meant.
+    Checked(Checked),
     /// By this setup nothing runs, for what is told of it.
     Unfit(Trouble),
     /// `clap` was asked for help or for the version.
@@ -127,7 +127,7 @@ where
             Err(failure) => Outcome::Unfit(setup::why(rt, file, &failure)),
         },
         ("check", Some(file)) => match setup::check(rt, file) {
-            Ok(report) => Outcome::Checked(report),
+            Ok(checked) => Outcome::Checked(checked),
             Err(trouble) => Outcome::Unfit(trouble),
         },
         ("replay", _) => match replay_input(rt) {
@@ -210,7 +210,10 @@ fn main(rt: HostRuntime) -> ExitCode {
     let is_terminal = rt.stdout().is_terminal();
     match outcome_of(&rt, &rt, is_terminal) {
         Outcome::Done => ExitCode::SUCCESS,
-        Outcome::Checked(report) => told(print!(rt; "{}", report.as_str())),
+        Outcome::Checked(checked) => {
+            let _ = eprint!(rt; "{}", checked.warnings.as_str());
+            told(print!(rt; "{}", checked.report.as_str()))
+        }
         Outcome::Asked(text) => told(print!(rt; "{text}")),
         Outcome::Failed(refusal) => ended_by(&rt, "", refusal),
         Outcome::Unfit(trouble) => ended_by(&rt, trouble.told.as_str(), trouble.refusal),

@@ -1,6 +1,6 @@
 //! Setup files, checked for a person.
 
-use pg_check::{Trouble, check_setup};
+use pg_check::{Checked, Trouble, check_setup};
 use pg_operator::{BoundBy, line_of_key};
 use pg_run::Failure;
 use pg_service::system_words;
@@ -11,7 +11,7 @@ use std::fs;
 use std::rt::Files;
 
 /// What would run by a setup file, or why it can't. Nothing is bound or called.
-pub fn check<R: Files + Alloc<A = Global>>(rt: &R, file: &str) -> Result<String, Trouble> {
+pub fn check<R: Files + Alloc<A = Global>>(rt: &R, file: &str) -> Result<Checked, Trouble> {
     let alloc = rt.alloc();
     let bytes = match fs::read(rt, file) {
         Ok(bytes) => bytes,

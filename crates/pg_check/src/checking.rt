@@ -1,11 +1,15 @@
 //! A setup is read, and its edits are tried on a gateway of their own.
 
+use crate::listing::{LISTED, Listing, others};
+use crate::misfits::misfits_of;
+use crate::places::Places;
 use crate::report::{edit_name, reason, report_of};
+use crate::warnings::warnings_of;
 use pg_gateway::{Edit, Gate, Gateway, Reply};
-use pg_operator::{read_setup, setup_faults};
+use pg_operator::{Fault, SetupLines, SetupTable, Wrong, read_setup, setup_edits, setup_faults};
 use pg_shared::event_of;
 use pg_wire::Refusal;
-use std::alloc::Global;
+use std::alloc::{AllocError, Global};
 use thiserror::Error;
 
 /// Why a setup can't run.
@@ -18,78 +22,159 @@ pub struct Trouble {
     pub told: String,
 }
 
-/// There is no memory.
-fn no_memory(alloc: Global) -> Trouble {
+/// A setup that can run.
+#[derive(Debug, Drop)]
+pub struct Checked {
+    /// What would run, a line for each source, subscriber and stream.
+    pub report: String,
+    /// A line `FILE:LINE: warning: ..` for each thing that is allowed and seldom meant.
+    pub warnings: String,
+}
+
+/// A refusal of which no more is known.
+fn bare(alloc: Global, refusal: Refusal) -> Trouble {
     Trouble {
-        refusal: Refusal::NoMemory,
+        refusal,
         told: String::new(alloc),
     }
 }
 
-/// What would run by the setup of this text, a line for each source, subscriber and stream (own rule). Nothing is bound or called.
+/// What would run by the setup of this text, and what in it is seldom meant (own rule). Nothing is bound or called. The time that it takes
+/// to refuse a text grows with its length alone.
 ///
 /// # Errors
 ///
-/// `BadSetup` with a line `FILE:LINE: KEY: ..` for each fault; the refusal of the first edit that a new gateway refuses, with a line
-/// `FILE: ..` for each of them; `NoMemory`.
-pub fn check_setup(alloc: Global, file: &str, text: &str) -> Result<String, Trouble> {
-    let setup = match read_setup(alloc, text) {
-        Ok(setup) => setup,
-        Err(Refusal::BadSetup) => return Err(faults_of(alloc, file, text)),
-        Err(_) => return Err(no_memory(alloc)),
-    };
-    let Ok(report) = report_of(alloc, &setup) else {
-        return Err(no_memory(alloc));
-    };
-    match try_edits(alloc, file, setup.edits) {
-        Ok(None) => Ok(report),
-        Ok(Some(trouble)) => Err(trouble),
-        Err(_) => Err(no_memory(alloc)),
+/// `BadSetup` with a line `FILE:LINE: KEY: ..` for each of the first 100 faults; the refusal of the first edit that a new gateway refuses,
+/// with a line `FILE:LINE: ..` for each of the first 100 of them; in both cases in the order of the file, and with a line `FILE: ..` that
+/// counts the others. `NoMemory`.
+pub fn check_setup(alloc: Global, file: &str, text: &str) -> Result<Checked, Trouble> {
+    match refused(alloc, file, text) {
+        Ok(None) => {}
+        Ok(Some(trouble)) => return Err(trouble),
+        Err(refusal) => return Err(bare(alloc, refusal)),
+    }
+    match would_run(alloc, file, text) {
+        Ok(checked) => Ok(checked),
+        Err(refusal) => Err(bare(alloc, refusal)),
     }
 }
 
-/// The faults of a text that is no setup.
-fn faults_of(alloc: Global, file: &str, text: &str) -> Trouble {
-    match fault_lines(alloc, file, text) {
-        Ok(told) => Trouble {
+/// What would run by a setup that is not refused.
+fn would_run(alloc: Global, file: &str, text: &str) -> Result<Checked, Refusal> {
+    let setup = read_setup(alloc, text)?;
+    let lines = SetupLines::of(alloc, text)?;
+    Ok(Checked {
+        report: report_of(alloc, &setup)?,
+        warnings: warnings_of(alloc, &setup, &lines)?.text(alloc, file, "warning")?,
+    })
+}
+
+/// Why the setup of this text is refused, if it is.
+fn refused(alloc: Global, file: &str, text: &str) -> Result<Option<Trouble>, Refusal> {
+    let faults = setup_faults(alloc, text)?;
+    match setup_edits(alloc, text) {
+        Ok(edits) if !has_clash(&faults) => try_edits(alloc, file, text, edits),
+        Ok(_) | Err(Refusal::BadSetup) => Ok(Some(Trouble {
             refusal: Refusal::BadSetup,
-            told,
-        },
-        Err(_) => no_memory(alloc),
+            told: fault_lines(alloc, file, &faults)?,
+        })),
+        Err(refusal) => Err(refusal),
     }
 }
 
-/// A line for each fault.
-fn fault_lines(alloc: Global, file: &str, text: &str) -> Result<String, Refusal> {
+/// A line for each of the first faults, and one that counts the others.
+fn fault_lines(alloc: Global, file: &str, faults: &[Fault]) -> Result<String, AllocError> {
     let mut told = String::new(alloc);
-    for fault in setup_faults(alloc, text)? {
+    for fault in faults.iter().take(LISTED) {
         let line = format!(in alloc; "{file}:{fault}\n")?;
         told.push_str(line.as_str())?;
     }
+    let others = others(alloc, file, faults.len(), "fault")?;
+    told.push_str(others.as_str())?;
     Ok(told)
 }
 
+/// Whether tables of one source contradict each other.
+fn has_clash(faults: &[Fault]) -> bool {
+    faults.iter().any(|fault| matches!(fault.wrong, Wrong::Twice(_) | Wrong::Differs(_)))
+}
+
 /// Posts the edits, in their order, and tells those that are refused.
-fn try_edits(alloc: Global, file: &str, edits: Vec<Edit>) -> Result<Option<Trouble>, Refusal> {
-    let mut gateway = Gateway::new(alloc)?;
-    let mut first = None;
-    let mut told = String::new(alloc);
+fn try_edits(
+    alloc: Global,
+    file: &str,
+    text: &str,
+    edits: Vec<Edit>,
+) -> Result<Option<Trouble>, Refusal> {
+    let mut trial = Trial {
+        alloc,
+        gateway: Gateway::new(alloc)?,
+        lines: SetupLines::of(alloc, text)?,
+        places: Places::new(),
+        first: None,
+        told: Listing::new(alloc),
+    };
     for edit in edits {
-        let name = edit_name(alloc, &edit)?;
-        let reply = gateway.post(event_of(edit));
-        if let Reply::Refused(refusal) = reply {
-            let why = reason(refusal);
-            let line = format!(in alloc;
-                "{file}: {}: refused {}: {why}\n",
-                name.as_str(),
-                refusal.name()
-            )?;
-            told.push_str(line.as_str())?;
-            first = first.or(Some(refusal));
-        }
+        trial.post(edit)?;
     }
-    match first {
-        Some(refusal) => Ok(Some(Trouble { refusal, told })),
+    match trial.first {
+        Some(refusal) => {
+            let told = trial.told.text(alloc, file, "refused edit")?;
+            Ok(Some(Trouble { refusal, told }))
+        }
         None => Ok(None),
+    }
+}
+
+/// Edits that are tried.
+#[derive(Drop)]
+struct Trial<'a> {
+    alloc: Global,
+    gateway: Gateway,
+    lines: SetupLines<'a>,
+    places: Places,
+    first: Option<Refusal>,
+    told: Listing,
+}
+
+impl Trial<'_> {
+    /// Posts an edit, and tells why it is refused, if it is: of a stream each value that is.
+    fn post(&mut self, edit: Edit) -> Result<(), AllocError> {
+        let (table, key) = self.places.next(&edit);
+        let name = edit_name(self.alloc, &edit)?;
+        let misfits = match &edit {
+            Edit::Define(_, definition) => misfits_of(self.alloc, definition)?,
+            _ => Vec::new(self.alloc),
+        };
+        let Reply::Refused(refusal) = self.gateway.post(event_of(edit)) else {
+            return Ok(());
+        };
+        self.first = self.first.or(Some(refusal));
+        if refusal != Refusal::BadDefinition || misfits.is_empty() {
+            return self.tell(table, key, name.as_str(), refusal, reason(refusal));
+        }
+        for misfit in &misfits {
+            self.tell(
+                table,
+                misfit.key,
+                name.as_str(),
+                refusal,
+                misfit.why.as_str(),
+            )?;
+        }
+        Ok(())
+    }
+
+    /// Tells that an edit of this name is refused, for what is at a key of this table.
+    fn tell(
+        &mut self,
+        table: SetupTable,
+        key: &str,
+        name: &str,
+        refusal: Refusal,
+        why: &str,
+    ) -> Result<(), AllocError> {
+        let told = format!(in self.alloc; "{name}: refused {}: {why}", refusal.name())?;
+        self.told.add(self.lines.line_of(table, key), told)
     }
 }

@@ -2,6 +2,10 @@
 #![tactic(auto)]
 
 mod checking;
+mod listing;
+mod misfits;
+mod places;
 mod report;
+mod warnings;
 
-pub use checking::{Trouble, check_setup};
+pub use checking::{Checked, Trouble, check_setup};

@@ -7,7 +7,7 @@ use pg_wire::{PmuId, PmuKey, Refusal, SubId};
 use std::alloc::{AllocError, Global};
 
 /// A PMU's key as a person writes it: the source and the PMU.
-fn key_text(alloc: Global, key: &PmuKey) -> Result<String, AllocError> {
+pub(crate) fn key_text(alloc: Global, key: &PmuKey) -> Result<String, AllocError> {
     format!(in alloc; "{}/{}", key.source.get(), key.pmu.get())
 }
 

@@ -11,7 +11,7 @@ use pg_gateway::{Edit, Gate, Reply};
 use pg_lines::{Steer, parse_steer};
 use pg_replay::{Fault, Line, NotPrinted, print_refusal, print_reply, read_line, without_end};
 use pg_serve::Input as Handed;
-use pg_service::{Change, Notice, Watched};
+use pg_service::{Asked, Change, Detail, Entry, Notice, Watched, Whom};
 use pg_shared::event_of;
 use pg_status::print_status;
 use pg_wire::{PmuId, Refusal};
@@ -77,7 +77,7 @@ impl Steering for EditsAlone {
 
 /// What a line asks for.
 #[derive(Clone, Copy, Debug, PartialEq, Eq)]
-enum Asked {
+enum Request {
     /// An edit, or nothing.
     Edit,
     /// Something about a source or a port.
@@ -128,11 +128,11 @@ impl<'a, W: Write> Console<'a, W> {
         steering: &mut S,
     ) -> Result<bool, Fault> {
         match asked_by(self.alloc, line) {
-            Ok(Asked::Edit) => self.edit(rt, gate, line)?,
-            Ok(Asked::Steer(steer)) => steering.steer(rt, self, gate, steer)?,
-            Ok(Asked::Status) => self.status(rt, gate)?,
-            Ok(Asked::Reload) => steering.reload(rt, self, gate)?,
-            Ok(Asked::Quit) => return Ok(true),
+            Ok(Request::Edit) => self.edit(rt, gate, line)?,
+            Ok(Request::Steer(steer)) => steering.steer(rt, self, gate, steer)?,
+            Ok(Request::Status) => self.status(rt, gate)?,
+            Ok(Request::Reload) => steering.reload(rt, self, gate)?,
+            Ok(Request::Quit) => return Ok(true),
             Err(refusal) => print_refusal(&mut self.out, "refused", refusal)?,
         }
         Ok(false)
@@ -183,7 +183,7 @@ impl<'a, W: Write> Console<'a, W> {
         registered.has(source)
     }
 
-    /// Posts an edit, and tells workers what it asks of them.
+    /// Posts an edit, tells workers what it asks of them, and leaves what came of it for the log.
     pub fn post_edit<R: Wait, G: Gate>(
         &mut self,
         rt: &R,
@@ -191,9 +191,19 @@ impl<'a, W: Write> Console<'a, W> {
         edit: Edit,
     ) -> Reply {
         let change = Change::of(&edit);
+        let asked = Asked::of(&edit);
         let reply = gate.post(event_of(edit));
         self.follow(rt, gate, change, &reply);
+        self.log_edit(rt, asked, &reply);
         reply
+    }
+
+    /// Leaves for the log what came of an edit that asks for this, if it asks for something.
+    fn log_edit<R: Wait>(&self, rt: &R, asked: Option<(Whom, Asked)>, reply: &Reply) {
+        if let Some((whom, asked)) = asked {
+            let entry = entry_of(whom, asked, refusal_in(reply));
+            self.told.neighbours.journal.tell(rt, entry);
+        }
     }
 
     /// Tells workers what an edit that was answered so asks of them, and wakes those that have frames to hand out by it.
@@ -204,12 +214,16 @@ impl<'a, W: Write> Console<'a, W> {
         change: Change,
         reply: &Reply,
     ) {
+        let matters = change.is_of_ring();
         let mut registered = self.told.registered.lock(rt);
         let noted = registered.note(change, reply);
         drop(registered);
         match noted {
             Ok(after) => self.told.tell(rt, after),
             Err(_) => self.told.note(Notice::MailFault),
+        }
+        if matters {
+            self.told.tell_room(rt);
         }
         if gate.take_seen().made > 0 {
             self.told.neighbours.wake_ports();
@@ -250,6 +264,22 @@ impl<'a, W: Write> Console<'a, W> {
             return Err(Fault::Write);
         }
         Ok(false)
+    }
+}
+
+/// Why an edit was refused that was answered so, if it was.
+fn refusal_in(reply: &Reply) -> Option<Refusal> {
+    match reply {
+        Reply::Refused(refusal) => Some(*refusal),
+        _ => None,
+    }
+}
+
+/// What the log says of an edit that asks for this, and was refused for that or done.
+fn entry_of(whom: Whom, asked: Asked, refusal: Option<Refusal>) -> Entry {
+    match refusal {
+        Some(refusal) => Entry::new(Notice::NotDone, whom, Detail::Edit(asked, refusal)),
+        None => Entry::new(Notice::Edited, whom, Detail::Done(asked)),
     }
 }
 
@@ -298,18 +328,18 @@ fn edit_in(alloc: Global, line: &[u8]) -> Result<Option<Edit>, Refusal>
 /// # Errors
 ///
 /// `NoMemory`.
-fn asked_by(alloc: Global, line: &[u8]) -> Result<Asked, Refusal> {
+fn asked_by(alloc: Global, line: &[u8]) -> Result<Request, Refusal> {
     let Ok(text) = str::from_utf8(line) else {
-        return Ok(Asked::Edit);
+        return Ok(Request::Edit);
     };
     match text.trim_matches(' ') {
-        "quit" => return Ok(Asked::Quit),
-        "status" => return Ok(Asked::Status),
-        "reload" => return Ok(Asked::Reload),
+        "quit" => return Ok(Request::Quit),
+        "status" => return Ok(Request::Status),
+        "reload" => return Ok(Request::Reload),
         _ => {}
     }
     match parse_steer(alloc, text)? {
-        Some(steer) => Ok(Asked::Steer(steer)),
-        None => Ok(Asked::Edit),
+        Some(steer) => Ok(Request::Steer(steer)),
+        None => Ok(Request::Edit),
     }
 }

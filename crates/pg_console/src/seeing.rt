@@ -114,7 +114,7 @@ fn source_state(alloc: Global, report: SourceReport) -> Result<SourceState, Allo
         address,
         call: call_of(reach),
         frames,
-        events: counts.taken,
+        events: counts.taken.saturating_sub(far),
         ignored,
         last: match last {
             Some(last) => Some(last.as_secs()),

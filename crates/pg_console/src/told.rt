@@ -5,7 +5,7 @@ use pg_service::{
     After, Dial, DoorRules, Mailbox, Neighbours, Notice, PortOrder, Registered, Reports,
     SourceOrder,
 };
-use pg_wire::{PmuId, Refusal, SubId};
+use pg_wire::{PmuId, Refusal, StreamId, SubId};
 use std::alloc::Global;
 use std::rt::Clock;
 use std::sync::atomic::{AtomicBool, Ordering};
@@ -40,9 +40,22 @@ impl Told<'_> {
             mailbox.wake(journal);
         }
         self.neighbours.wake_ports();
-        self.neighbours.finder.wake(journal);
+        self.neighbours.resolver.wake(journal);
         if let Some(mailbox) = self.window {
             mailbox.wake(journal);
+        }
+    }
+
+    /// Tells the workers that call sources how many of their events may make frames before those that were made are handed out (own rule): a
+    /// quarter less than what fills a ring, which is left for ticks, and one at least.
+    pub fn tell_room<R: Wait>(&self, rt: &R) {
+        let registered = self.registered.lock(rt);
+        let room = registered.room();
+        drop(registered);
+        let workers = u32::try_from(self.sources.len()).unwrap_or(u32::MAX).max(1);
+        let events = ((room - room / 4) / workers).max(1);
+        for mailbox in self.sources {
+            mailbox.send(rt, self.neighbours.journal, SourceOrder::Room(events));
         }
     }
 
@@ -124,6 +137,13 @@ impl Told<'_> {
                 mailbox.send(rt, journal, order);
             }
             None => self.note(Notice::MailFault),
+        }
+    }
+
+    /// A stream of the subscriber goes on, which was on and is defined anew.
+    pub fn resume<R: Wait>(&self, rt: &R, sub: SubId, stream: StreamId) {
+        for mailbox in self.neighbours.ports {
+            mailbox.send(rt, self.neighbours.journal, PortOrder::Resume(sub, stream));
         }
     }
 

@@ -4,7 +4,7 @@ use pg_console::{Console, EditsAlone, Told, answer_lines};
 use pg_fakes::FakeWriter;
 use pg_gateway::{Event, Gate, Gateway, Reply};
 use pg_service::{
-    Board, Journal, Lookup, Mailbox, Neighbours, Notice, PortOrder, Registered, SourceOrder,
+    Board, Journal, Mailbox, Neighbours, Notice, PortOrder, Registered, Resolver, SourceOrder,
     Waiting, Watched,
 };
 use pg_wire::{PmuId, PmuKey, Refusal};
@@ -17,37 +17,35 @@ use std::sync::atomic::{AtomicBool, Ordering};
 use std::sync::{Mutex, Wait};
 use std::test::*;
 
-/// The mailboxes of a source's worker, a port's worker and the finder.
+/// The mailboxes of a source's worker and a port's worker, and a resolver without workers.
 #[derive(Drop)]
 struct Boxes {
     sources: Vec<Mailbox<SourceOrder>>,
     ports: Vec<Mailbox<PortOrder>>,
-    names: Mailbox<Lookup>,
+    resolver: Resolver,
     journal: Journal,
     board: Board,
     registered: Mutex<Registered>,
-    waits: [Waiting; 3],
+    waits: [Waiting; 2],
 }
 
 fn make_boxes<R: Net + Abort>(rt: &R, alloc: Global) -> Boxes {
     let source_wait = Waiting::new(rt, alloc).expect(rt, "a poll");
     let port_wait = Waiting::new(rt, alloc).expect(rt, "a poll");
-    let name_wait = Waiting::new(rt, alloc).expect(rt, "a poll");
     let mut sources = Vec::new(alloc);
     let mailbox = Mailbox::new(alloc, source_wait.poll()).expect(rt, "a mailbox");
     sources.push(mailbox).expect(rt, "memory");
     let mut ports = Vec::new(alloc);
     let mailbox = Mailbox::new(alloc, port_wait.poll()).expect(rt, "a mailbox");
     ports.push(mailbox).expect(rt, "memory");
-    let names = Mailbox::new(alloc, name_wait.poll()).expect(rt, "a mailbox");
     Boxes {
         sources,
         ports,
-        names,
+        resolver: Resolver::new(alloc, Vec::new(alloc)),
         journal: Journal::new(alloc).expect(rt, "memory"),
         board: Board::new(alloc),
         registered: Mutex::new(Registered::new(alloc).expect(rt, "memory")),
-        waits: [source_wait, port_wait, name_wait],
+        waits: [source_wait, port_wait],
     }
 }
 
@@ -60,7 +58,7 @@ fn unanswered<R: Net + Abort + Wait + Clock>(rt: &R, alloc: Global, is_over: boo
         sources: &boxes.sources,
         neighbours: Neighbours {
             ports: &boxes.ports,
-            finder: &boxes.names,
+            resolver: &boxes.resolver,
             journal: &boxes.journal,
             board: &boxes.board,
         },
@@ -90,7 +88,7 @@ fn answered<R: Net + Abort + Wait + Clock>(
         sources: &boxes.sources,
         neighbours: Neighbours {
             ports: &boxes.ports,
-            finder: &boxes.names,
+            resolver: &boxes.resolver,
             journal: &boxes.journal,
             board: &boxes.board,
         },

@@ -199,7 +199,7 @@ pub fn make_workers<
     let boxes = stage.boxes;
     let neighbours = Neighbours {
         ports: &boxes.ports,
-        finder: &boxes.names,
+        resolver: &boxes.resolver,
         journal: &boxes.journal,
         board: &boxes.board,
     };
@@ -245,6 +245,7 @@ fn crew_of<
         page,
     } = waits;
     let mut workers = Vec::new(makings.alloc);
+    makings.told.tell_room(makings.rt);
     let (seat, called) = add_sources(makings, seat, sources, asked.seconds, &mut workers)?;
     let (seat, served) = add_ports(makings, seat, ports, &mut workers)?;
     let seat = add_ticker(makings, seat, &mut workers)?;
@@ -356,7 +357,10 @@ fn add_ports<
         return Err(Fault::Refused(Refusal::NoMemory));
     };
     let (seat, gate) = makings.gate::<N>(seat);
-    let mut server = PortWorker::new(*rt, *alloc, gate, wait, mailbox, journal, board, *start);
+    let sources = told.sources;
+    let mut server = PortWorker::new(
+        *rt, *alloc, gate, wait, mailbox, sources, journal, board, *start,
+    );
     let (first, first_at) = port(*rt, 1)?;
     server.open(first)?;
     let (second, second_at) = port(*rt, 2)?;

@@ -8,7 +8,7 @@ use crate::setting::edits;
 use crate::stage::{Boxes, Stage};
 use pg_console::{SetUp, set_up};
 use pg_demo_core::{Accounts, Verdict};
-use pg_service::{Board, Journal, Mailbox, Registered, Waiting};
+use pg_service::{Board, Journal, Mailbox, Registered, Resolver, Waiting};
 use pg_shared::{Named, Seat, Shared, run_workers};
 use pg_tools::Style;
 use std::alloc::Global;
@@ -84,8 +84,7 @@ where
         ports: Waiting::new(rt, alloc)?,
         page: Waiting::new(rt, alloc)?,
     };
-    let name_wait = Waiting::new(rt, alloc)?;
-    let boxes = boxes(alloc, &waits, &name_wait, registered)?;
+    let boxes = boxes(alloc, &waits, registered)?;
     let stop = AtomicBool::new(false);
     let stage = Stage::new(&stop, &boxes, Accounts::new(alloc));
     let workers = make_workers::<R, N>(rt, alloc, shared, seat, asked, waits, &stage)?;
@@ -98,13 +97,8 @@ where
     }
 }
 
-/// The mailboxes of who waits with these. Nobody looks up names.
-fn boxes(
-    alloc: Global,
-    waits: &Waits,
-    names: &Waiting,
-    registered: Registered,
-) -> Result<Boxes, Fault> {
+/// The mailboxes of the workers that wait with these.
+fn boxes(alloc: Global, waits: &Waits, registered: Registered) -> Result<Boxes, Fault> {
     let mut sources = Vec::new(alloc);
     sources.push(Mailbox::new(alloc, waits.sources.poll())?)?;
     let mut ports = Vec::new(alloc);
@@ -112,7 +106,7 @@ fn boxes(
     Ok(Boxes {
         sources,
         ports,
-        names: Mailbox::new(alloc, names.poll())?,
+        resolver: Resolver::new(alloc, Vec::new(alloc)),
         window: Mailbox::new(alloc, waits.page.poll())?,
         journal: Journal::new(alloc)?,
         board: Board::new(alloc),

@@ -2,7 +2,7 @@
 
 use crate::fault::Fault;
 use pg_demo_core::{Accounts, Verdict};
-use pg_service::{Board, Journal, Lookup, Mailbox, PortOrder, Registered, SourceOrder};
+use pg_service::{Board, Journal, Mailbox, PortOrder, Registered, Resolver, SourceOrder};
 use std::sync::atomic::{AtomicBool, Ordering};
 use std::sync::{Mutex, Wait};
 
@@ -13,8 +13,8 @@ pub struct Boxes {
     pub sources: Vec<Mailbox<SourceOrder>>,
     /// Of those that serve subscribers.
     pub ports: Vec<Mailbox<PortOrder>>,
-    /// Nobody looks up names here.
-    pub names: Mailbox<Lookup>,
+    /// It has no worker, since no source is called by a name.
+    pub resolver: Resolver,
     /// Of the one that shows the page.
     pub window: Mailbox<()>,
     /// What the workers note.

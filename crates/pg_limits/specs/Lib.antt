@@ -2,3 +2,4 @@
 pub mod Calling
 pub mod Hosts
 pub mod Clocks
+pub mod Credits

@@ -4,14 +4,18 @@
 
 mod allow;
 mod budget;
+mod credit;
 mod deadline;
 mod guard;
 mod pause;
+mod portion;
 #[cfg(test)]
 mod tests;
 
 pub use allow::{Allow, Network};
 pub use budget::Budget;
+pub use credit::Credit;
 pub use deadline::Deadline;
-pub use guard::ClockGuard;
+pub use guard::{ClockGuard, Stamp, is_clock_wrong};
 pub use pause::Pause;
+pub use portion::Portion;

@@ -1,4 +1,6 @@
-use crate::{Allow, Budget, ClockGuard, Deadline, Network, Pause};
+use crate::{
+    Allow, Budget, ClockGuard, Credit, Deadline, Network, Pause, Portion, Stamp, is_clock_wrong,
+};
 use std::collections::VecDeque;
 use std::fmt::Debug;
 use std::io::{ErrorKind, Read};
@@ -180,6 +182,54 @@ fn clock_guard_at_its_limit(rt: HostRuntime) {
     }
 }
 
+/// Times, clocks in milliseconds, and by how many milliseconds the time is ahead.
+const AHEAD: [(u32, u32, u32, u64, i64); 8] = [
+    (100, 0, 1_000_000, 100_000, 0),
+    (100, 500_000, 1_000_000, 100_000, 500),
+    (100, 500_999, 1_000_000, 100_000, 500),
+    (100, 0, 1_000_000, 140_000, -40_000),
+    (100, 1, 3, 0, 100_333),
+    (100, 0, 0, 100_001, -1),
+    (4_294_967_295, 16_777_214, 16_777_215, 0, 4_294_967_295_999),
+    (
+        0,
+        0,
+        1,
+        18_446_744_073_709_551_615,
+        -9_223_372_036_854_775_807,
+    ),
+];
+
+#[test]
+fn times_ahead_of_a_clock(rt: HostRuntime) {
+    for (soc, frac, base, clock, ahead) in AHEAD {
+        let stamp = Stamp { soc, frac, base };
+        assert_eq!(rt; stamp.ahead_of(clock), ahead, "{soc} {frac}/{base}");
+    }
+}
+
+#[test]
+fn clocks_that_are_probably_wrong(rt: HostRuntime) {
+    for (connected, refused, wrong) in [
+        (0, 0, false),
+        (1, 1, false),
+        (2, 1, false),
+        (2, 2, true),
+        (3, 2, true),
+        (4, 2, false),
+        (4, 3, true),
+        (256, 128, false),
+        (256, 129, true),
+        (4_294_967_295, 4_294_967_295, true),
+    ] {
+        assert_eq!(rt;
+            is_clock_wrong(connected, refused),
+            wrong,
+            "{refused} of {connected}"
+        );
+    }
+}
+
 // ---- reads
 
 /// Reads of 4,096 bytes until none is given, put behind what is there. How many were given, and the kind of the last fault.
@@ -243,5 +293,83 @@ fn budget_of_no_read(rt: HostRuntime) -> Result<(), Fail> {
     let mut buf = [0; 8];
     assert!(rt; budget.read(&mut buf).is_err());
     same(&rt, budget.reader.len(), 1);
+    Ok(())
+}
+
+// ---- how far one may be ahead
+
+#[test]
+fn credit_by_turns(rt: HostRuntime) {
+    let mut credit = Credit::new(8);
+    same(&rt, credit.left(), 8);
+    same(&rt, credit.has_spent(), false);
+    credit.spend(3);
+    same(&rt, credit.left(), 5);
+    same(&rt, credit.has_spent(), true);
+    // the mark is behind three; two more come
+    credit.mark();
+    same(&rt, credit.has_spent(), false);
+    credit.spend(2);
+    same(&rt, credit.left(), 3);
+    same(&rt, credit.is_half_free(), false);
+    credit.spend(3);
+    same(&rt, credit.left(), 0);
+    // the three are handed out, the five are not
+    credit.confirm();
+    same(&rt, credit.left(), 3);
+    same(&rt, credit.is_half_free(), false);
+    credit.mark();
+    credit.confirm();
+    same(&rt, credit.left(), 8);
+    same(&rt, credit.is_half_free(), true);
+}
+
+#[test]
+fn credit_at_its_edges(rt: HostRuntime) {
+    let mut one = Credit::new(0);
+    same(&rt, one.left(), 1);
+    one.spend(1);
+    same(&rt, one.left(), 0);
+    same(&rt, one.is_half_free(), false);
+    one.mark();
+    one.confirm();
+    same(&rt, one.is_half_free(), true);
+    // of three, two are half
+    let mut three = Credit::new(3);
+    three.spend(1);
+    same(&rt, three.is_half_free(), true);
+    three.spend(1);
+    same(&rt, three.is_half_free(), false);
+    // fewer than are out leave none
+    three.resize(1);
+    same(&rt, three.left(), 0);
+    three.resize(0);
+    three.mark();
+    three.confirm();
+    same(&rt, three.left(), 1);
+    three.spend(u32::MAX);
+    three.spend(1);
+    same(&rt, three.left(), 0);
+    three.mark();
+    three.spend(u32::MAX);
+    three.mark();
+    three.confirm();
+    same(&rt, three.left(), 1);
+}
+
+#[test]
+fn portions(rt: HostRuntime) -> Result<(), Fail> {
+    let mut source: &[u8] = b"abcdefgh";
+    let mut buf = [0; 5];
+    let mut reader = Portion::new(&mut source, 3);
+    same(&rt, reader.read(&mut buf)?, 3);
+    same(&rt, buf, *b"abc\0\0");
+    reader.most = 0;
+    same(&rt, reader.read(&mut buf)?, 1);
+    same(&rt, buf, *b"dbc\0\0");
+    reader.most = 9;
+    same(&rt, reader.read(&mut buf)?, 4);
+    same(&rt, buf, *b"efgh\0");
+    same(&rt, reader.read(&mut buf)?, 0);
     Ok(())
 }

@@ -39,3 +39,9 @@ pub next_joined : (all : List Value) (i : ℕ) (v : Value) (s : Subscriber) (old
 next_joined all i v s old new whole l at h grown so_far =
     so_far ∙ at_drop_more (joins old) all i v l ∙ ap (λ y. joins old (y ∷ drop (i + 1) all)) (sym at)
     ∙ rw h (one_joined old s (each subscriber_in (items_view (drop (i + 1) all)))) ∙ ap (λ p. joins p (drop (i + 1) all)) (sym grown)
+
+-- the same, of the edits alone
+pub edits_so : (o : Option (List Subscriber)) (plan : Plans) (make : List Edit → List Edit) → option_map planned o ≡ Some plan
+    → option_map (λ ss. make (edits_of ss)) o ≡ Some (make plan.edits)
+edits_so None plan make h = absurd (search (rules, h))
+edits_so (Some ss) plan make h = let same : planned ss ≡ plan = search (rules, h) in ap (λ p. Some (make p.edits)) same

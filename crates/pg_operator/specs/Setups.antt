@@ -404,3 +404,19 @@ setup_in = only top_names setup_by
 -- what a file asks for, or nothing
 abbrev pub setup_of : Text → Option Settings
 setup_of text = option_and_then setup_in (parse_document text)
+
+-- ---- the edits alone, whatever the tables of one source say together
+
+abbrev pub asked_by : Members → Option (List Edit)
+asked_by ms =
+    option_and_then (λ general. option_and_then (λ pmus. option_map
+    (λ subscribers. map pmu_edit pmus ++ edits_of subscribers)
+    (required (list_of subscriber_in) (codes "subscriber") ms))
+    (required (list_of pmu_in) (codes "pmu") ms))
+    (general_by ms)
+
+abbrev pub asked_in : Members → Option (List Edit)
+asked_in = only top_names asked_by
+
+abbrev pub asked_of : Text → Option (List Edit)
+asked_of text = option_and_then asked_in (parse_document text)

@@ -3,10 +3,11 @@
 ghost use Rattle.std.specs.Prelude.{◌≡◌, IfErr};
 
 use crate::kind::{Heading, Kind, Misfit, PMU, Rule, STREAM, SUBSCRIBER, TOP};
-use crate::place::{Lines, Place};
-use crate::pmu::pmu_in;
+use crate::lines::{SetupLines, SetupTable};
+use crate::pmu::{PmuTable, pmu_in};
 use pg_wire::{PmuId, Refusal};
 use std::alloc::Global;
+use std::collections::BTreeMap;
 use std::fmt;
 use thiserror::Error;
 use toml::{Table, Value};
@@ -85,7 +86,8 @@ fn write_names<W: fmt::Write>(f: &mut fmt::Formatter<W>, rules: &[Rule]) -> fmt:
 }
 
 /// What is wrong with a setup file: each fault, in the order of their lines (own rule). Where `read_setup` takes the text they are the
-/// numbers of streams that are beyond a definition's ranges, which the gateway refuses.
+/// numbers of streams that are beyond a definition's ranges, which the gateway refuses. The time that it takes grows with the length of
+/// the text.
 ///
 /// # Errors
 ///
@@ -93,17 +95,41 @@ fn write_names<W: fmt::Write>(f: &mut fmt::Formatter<W>, rules: &[Rule]) -> fmt:
 pub fn setup_faults(alloc: Global, text: &str) -> Result<Vec<Fault>, Refusal>
     ensures memory { IfErr result (λ refusal. refusal ≡ Refusal.NoMemory) }
 {
+    let table = match toml::table_from_str(alloc, text) {
+        Ok(table) => table,
+        Err(error) => return syntax_fault(alloc, text, &error),
+    };
     let mut search = Search {
         alloc,
-        lines: Lines::of(alloc, text)?,
+        lines: SetupLines::of(alloc, text)?,
         faults: Vec::new(alloc),
     };
-    match toml::table_from_str(alloc, text) {
-        Ok(table) => search.look_at(&table)?,
-        Err(error) => search.tell_syntax(&error)?,
-    }
+    search.look_at(&table)?;
     let mut faults = search.faults;
     faults.sort_by_key(|fault| fault.line)?;
+    Ok(faults)
+}
+
+/// The text is not TOML.
+fn syntax_fault(alloc: Global, text: &str, error: &toml::de::Error) -> Result<Vec<Fault>, Refusal>
+    ensures memory { IfErr result (λ refusal. refusal ≡ Refusal.NoMemory) }
+{
+    let Some(span) = error.span() else {
+        return Err(Refusal::NoMemory);
+    };
+    let mut line = 1usize;
+    for (place, byte) in text.bytes().enumerate() {
+        if place < span.start && byte == b'\n' {
+            line = line.saturating_add(1);
+        }
+    }
+    let message = String::from_str(alloc, error.message())?;
+    let mut faults = Vec::new(alloc);
+    faults.push(Fault {
+        line,
+        key: String::new(alloc),
+        wrong: Wrong::Syntax(message),
+    })?;
     Ok(faults)
 }
 
@@ -111,44 +137,22 @@ pub fn setup_faults(alloc: Global, text: &str) -> Result<Vec<Fault>, Refusal>
 #[derive(Drop)]
 struct Search<'a> {
     alloc: Global,
-    lines: Lines<'a>,
+    lines: SetupLines<'a>,
     faults: Vec<Fault>,
 }
 
 impl Search<'_> {
-    /// The text is not TOML.
-    fn tell_syntax(&mut self, error: &toml::de::Error) -> Result<(), Refusal>
+    /// Something is wrong with a key of this table.
+    fn tell(&mut self, table: SetupTable, key: &str, wrong: Wrong) -> Result<(), Refusal>
         ensures memory { IfErr result (λ refusal. refusal ≡ Refusal.NoMemory) }
     {
-        let Some(span) = error.span() else {
-            return Err(Refusal::NoMemory);
-        };
-        let message = String::from_str(self.alloc, error.message())?;
+        let mut name = String::from_str(self.alloc, table.prefix())?;
+        name.push_str(key)?;
         self.faults.push(Fault {
-            line: self.lines.line_at(span.start),
-            key: String::new(self.alloc),
-            wrong: Wrong::Syntax(message),
-        })?;
-        Ok(())
-    }
-
-    /// Something is wrong at this place.
-    fn tell(&mut self, place: Place<'_>, wrong: Wrong) -> Result<(), Refusal>
-        ensures memory { IfErr result (λ refusal. refusal ≡ Refusal.NoMemory) }
-    {
-        self.tell_as(place, place, wrong)
-    }
-
-    /// Something is wrong at this place, and stands where the other is.
-    fn tell_as(&mut self, place: Place<'_>, at: Place<'_>, wrong: Wrong) -> Result<(), Refusal>
-        ensures memory { IfErr result (λ refusal. refusal ≡ Refusal.NoMemory) }
-    {
-        let fault = Fault {
-            line: self.lines.line_of(self.alloc, at)?,
-            key: place.name(self.alloc)?,
+            line: self.lines.line_of(table, key),
+            key: name,
             wrong,
-        };
-        self.faults.push(fault)?;
+        })?;
         Ok(())
     }
 
@@ -156,19 +160,26 @@ impl Search<'_> {
     fn look_at(&mut self, table: &Table) -> Result<(), Refusal>
         ensures memory { IfErr result (λ refusal. refusal ≡ Refusal.NoMemory) }
     {
-        self.look_at_keys(table, Heading::File, &TOP, Place::top())?;
+        self.look_at_keys(table, Heading::File, &TOP, SetupTable::File)?;
         self.look_at_pmus(tables_at(table, "pmu"))?;
-        for (number, subscriber) in tables_at(table, "subscriber").iter().enumerate() {
-            let Some(subscriber) = subscriber.as_table() else {
-                continue;
-            };
-            let place = Place::top().item("subscriber", number);
-            self.look_at_keys(subscriber, Heading::Subscriber, &SUBSCRIBER, place)?;
-            for (number, stream) in tables_at(subscriber, "stream").iter().enumerate() {
-                if let Some(stream) = stream.as_table() {
-                    let place = place.item("stream", number);
-                    self.look_at_keys(stream, Heading::Stream, &STREAM, place)?;
-                }
+        for (number, item) in tables_at(table, "subscriber").iter().enumerate() {
+            if let Some(subscriber) = item.as_table() {
+                self.look_at_subscriber(subscriber, number)?;
+            }
+        }
+        Ok(())
+    }
+
+    /// Looks at the table of the subscriber with this number, and at those of its streams.
+    fn look_at_subscriber(&mut self, table: &Table, number: usize) -> Result<(), Refusal>
+        ensures memory { IfErr result (λ refusal. refusal ≡ Refusal.NoMemory) }
+    {
+        let place = SetupTable::Subscriber(number);
+        self.look_at_keys(table, Heading::Subscriber, &SUBSCRIBER, place)?;
+        for (stream, item) in tables_at(table, "stream").iter().enumerate() {
+            if let Some(table) = item.as_table() {
+                let place = SetupTable::Stream(number, stream);
+                self.look_at_keys(table, Heading::Stream, &STREAM, place)?;
             }
         }
         Ok(())
@@ -178,50 +189,43 @@ impl Search<'_> {
     fn look_at_pmus(&mut self, items: &[Value]) -> Result<(), Refusal>
         ensures memory { IfErr result (λ refusal. refusal ≡ Refusal.NoMemory) }
     {
+        let mut sources = BTreeMap::new(self.alloc);
         for (number, item) in items.iter().enumerate() {
-            let Some(table) = item.as_table() else {
-                continue;
-            };
-            let place = Place::top().item("pmu", number);
-            self.look_at_keys(table, Heading::Pmu, &PMU, place)?;
-            if let Some(clash) = clash_at(items, number) {
-                self.tell_clash(place, clash)?;
+            if let Some(table) = item.as_table() {
+                let place = SetupTable::Pmu(number);
+                self.look_at_keys(table, Heading::Pmu, &PMU, place)?;
+            }
+            if let Some(pmu) = pmu_in(item) {
+                let own = Said::by(&pmu);
+                self.look_at_source(&mut sources, number, pmu.key.source, own)?;
             }
         }
         Ok(())
     }
 
-    /// Tells what a PMU's table says of its source against another.
-    fn tell_clash(&mut self, place: Place<'_>, clash: Clash) -> Result<(), Refusal>
+    /// Looks at what the PMU's table with this number says of its source, after what the tables before it say.
+    fn look_at_source(
+        &mut self,
+        sources: &mut BTreeMap<u16, Said>,
+        number: usize,
+        source: PmuId,
+        own: Said,
+    ) -> Result<(), Refusal>
         ensures memory { IfErr result (λ refusal. refusal ≡ Refusal.NoMemory) }
     {
-        let source = clash.source;
-        self.tell_if(
-            clash.is_called_twice,
-            place.key("connect"),
-            Wrong::Twice(source),
-        )?;
-        self.tell_if(
-            clash.silence_differs,
-            place.key("silence"),
-            Wrong::Differs(source),
-        )?;
-        self.tell_if(
-            clash.clock_differs,
-            place.key("clock_ms"),
-            Wrong::Differs(source),
-        )
-    }
-
-    /// Something is wrong at this place, where it is so.
-    fn tell_if(&mut self, is_so: bool, place: Place<'_>, wrong: Wrong) -> Result<(), Refusal>
-        ensures memory { IfErr result (λ refusal. refusal ≡ Refusal.NoMemory) }
-    {
-        if is_so {
-            self.tell(place, wrong)
-        } else {
-            Ok(())
+        let place = SetupTable::Pmu(number);
+        let before = sources.get(&source.get()).copied().unwrap_or(Said::NOTHING);
+        if before.is_called && own.is_called {
+            self.tell(place, "connect", Wrong::Twice(source))?;
         }
+        if differ(before.silence, own.silence) {
+            self.tell(place, "silence", Wrong::Differs(source))?;
+        }
+        if differ(before.clock_ms, own.clock_ms) {
+            self.tell(place, "clock_ms", Wrong::Differs(source))?;
+        }
+        sources.insert(source.get(), before.and(own))?;
+        Ok(())
     }
 
     /// Looks at the keys of a table: those that are no keys of it, those that are missing, and their values.
@@ -230,24 +234,25 @@ impl Search<'_> {
         table: &Table,
         heading: Heading,
         rules: &[Rule],
-        place: Place<'_>,
+        place: SetupTable,
     ) -> Result<(), Refusal>
         ensures memory { IfErr result (λ refusal. refusal ≡ Refusal.NoMemory) }
     {
         for key in table.keys() {
             if !rules.iter().any(|rule| rule.name == key.as_str()) {
-                self.tell(place.key(key.as_str()), Wrong::Unknown(heading))?;
+                self.tell(place, key.as_str(), Wrong::Unknown(heading))?;
             }
         }
         for rule in rules {
-            let at = place.key(rule.name);
             match table.get(rule.name) {
                 Some(value) => {
                     if let Some(misfit) = rule.kind.misfit(self.alloc, value)? {
-                        self.tell(at, Wrong::Is(misfit, rule.kind))?;
+                        self.tell(place, rule.name, Wrong::Is(misfit, rule.kind))?;
                     }
                 }
-                None if rule.is_required => self.tell_as(at, place, Wrong::Missing(rule.kind))?,
+                None if rule.is_required => {
+                    self.tell(place, rule.name, Wrong::Missing(rule.kind))?;
+                }
                 None => {}
             }
         }
@@ -255,58 +260,38 @@ impl Search<'_> {
     }
 }
 
-/// What a PMU's table says of its source against those before it.
-#[derive(Clone, Copy)]
-struct Clash {
-    source: PmuId,
-    is_called_twice: bool,
-    silence_differs: bool,
-    clock_differs: bool,
-}
-
-/// What a PMU's table says of its source, as far as two tables may not say it otherwise.
+/// What tables of PMUs say of their source, as far as two of them may not say it otherwise: the first value of each.
 #[derive(Clone, Copy)]
 struct Said {
-    source: PmuId,
     is_called: bool,
     silence: Option<u16>,
     clock_ms: Option<u16>,
 }
 
-/// What the table says, where it is one of a PMU.
-fn said_in(item: &Value) -> Option<Said> {
-    match pmu_in(item) {
-        Some(pmu) => Some(Said {
-            source: pmu.key.source,
+impl Said {
+    const NOTHING: Said = Said {
+        is_called: false,
+        silence: None,
+        clock_ms: None,
+    };
+
+    /// What this table says.
+    fn by(pmu: &PmuTable<'_>) -> Said {
+        Said {
             is_called: pmu.connect.is_some(),
             silence: pmu.silence,
             clock_ms: pmu.clock_ms,
-        }),
-        None => None,
+        }
     }
-}
 
-/// What the PMU's table with this number says against those before it; nothing where it says nothing of a source.
-fn clash_at(items: &[Value], number: usize) -> Option<Clash> {
-    let own = said_in(items.get(number)?)?;
-    let (mut is_called_twice, mut silence_differs, mut clock_differs) = (false, false, false);
-    for (at, item) in items.iter().enumerate() {
-        if at >= number {
-            break;
-        }
-        if let Some(it) = said_in(item) {
-            let is_same = it.source == own.source;
-            is_called_twice = is_called_twice || (is_same && it.is_called && own.is_called);
-            silence_differs = silence_differs || (is_same && differ(it.silence, own.silence));
-            clock_differs = clock_differs || (is_same && differ(it.clock_ms, own.clock_ms));
+    /// What is said by both.
+    fn and(self, later: Said) -> Said {
+        Said {
+            is_called: self.is_called || later.is_called,
+            silence: self.silence.or(later.silence),
+            clock_ms: self.clock_ms.or(later.clock_ms),
         }
     }
-    Some(Clash {
-        source: own.source,
-        is_called_twice,
-        silence_differs,
-        clock_differs,
-    })
 }
 
 /// Whether both say something, and not the same.

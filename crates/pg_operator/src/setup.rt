@@ -1,7 +1,7 @@
 //! The setup file: what it is read as.
 ghost use Rattle.std.specs.Prelude.{◌≡◌, ◌⊎◌, ◌++◌, IfOk, IfErr, OnOk, map, option_map, option_to_list, codes, string_bytes, Some, None, []};
 ghost use Rattle.toml.specs.View.{view, table_view};
-ghost use Rattle.pg_operator.specs.Setups.{absent_or, door_of, edits_by, entry_by, grants_in, list_of, optional, planned, required, settings, setup_in, setup_of, streams_in, subscriber_in, told, whole_in};
+ghost use Rattle.pg_operator.specs.Setups.{absent_or, asked_in, asked_of, door_of, edits_by, entry_by, grants_in, list_of, optional, planned, required, settings, setup_in, setup_of, streams_in, subscriber_in, told, whole_in};
 
 use crate::door::{self, PortRules};
 use crate::general::{self, LogLevel};
@@ -93,6 +93,47 @@ pub fn read_setup(alloc: Global, text: &str) -> Result<Setup, Refusal>
             }
         }
     }
+}
+
+/// The edits that a setup file asks for, those of `Setup::edits`, in a time that grows with the length of the text alone: it is not looked
+/// at what the tables of one source say together.
+///
+/// # Errors
+///
+/// Those of `read_setup`, but for a second `connect`, and tables that differ, of one source.
+pub fn setup_edits(alloc: Global, text: &str) -> Result<Vec<Edit>, Refusal>
+    ensures found { IfOk result (λ v. asked_of text.now ≡ Some v.items) }
+    ensures refused { IfErr result (λ r. (r ≡ Refusal.NoMemory) ⊎ ((r ≡ Refusal.BadSetup) × (asked_of text.now ≡ None))) }
+{
+    match toml::table_from_str(alloc, text) {
+        Ok(table) => edits_in(alloc, &table),
+        Err(error) => {
+            if error.is_memory() {
+                Err(Refusal::NoMemory)
+            } else {
+                Err(Refusal::BadSetup)
+            }
+        }
+    }
+}
+
+/// The edits that the file's table asks for.
+fn edits_in(alloc: Global, table: &Table) -> Result<Vec<Edit>, Refusal>
+    ensures ok { IfOk result (λ v. asked_in (table_view table.now) ≡ Some v.items) }
+    ensures err { IfErr result (λ r. (r ≡ Refusal.NoMemory) ⊎ ((r ≡ Refusal.BadSetup) × (asked_in (table_view table.now) ≡ None))) }
+{
+    if !table::keys_within(&TOP_KEYS, table) {
+        return Err(Refusal::BadSetup);
+    }
+    let Some(_general) = general::general_at(table) else {
+        return Err(Refusal::BadSetup);
+    };
+    let pmus = pmu::pmus_at(alloc, table)?;
+    let subscribers = subscribers_at(alloc, table)?;
+    let mut edits = pmu::edits_of(alloc, pmus.as_slice())?;
+    let mut rest = subscribers.edits;
+    edits.append(&mut rest)?;
+    Ok(edits)
 }
 
 /// The keys of the file's own table.

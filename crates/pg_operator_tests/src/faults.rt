@@ -324,6 +324,102 @@ tick_ms = 10\r
 id = = 7\r
 =>
 3: invalid value, expected a string, number, boolean, date-time, array or inline table; a setup file is TOML
+----
+# What looks like headings, in texts of several lines.
+control = \"\"\"
+[[pmu]]
+id = 0
+\"\"\"
+log = '''
+[[subscriber]]
+''''
+[[pmu]]
+id = 0
+[[subscriber]]
+id = 1
+ring = 64
+=>
+6: log: is the text \"[[subscriber]]\\n'\"; it has to be \"error\", \"warn\", \"info\" or \"debug\"
+10: pmu.id: is the number 0; it has to be a whole number from 1 to 65534
+----
+[[pmu]]
+id = 7
+[[subscriber]]
+id = 1
+ring = 64
+[[subscriber.stream]]
+header = \"a \\\" # [ ' b\"
+id = 101
+rate = 30
+base = 1000000
+wait = 2
+window = 4
+members = [ # ] \"
+    7, '7/8',
+]
+rat = 1 # '
+[[subscriber]]
+id = 0
+ring = 64
+=>
+16: subscriber.stream.rat: is no key here; the keys here are id, rate, base, wait, window, header, members
+18: subscriber.id: is the number 0; it has to be a whole number from 1 to 65535
+----
+\"serve\" = 9
+log = \"\"\"[\"\"\"\"
+ingest = 9
+[[ pmu ]]
+'id' = 7
+\"silenc\" = 5
+[pmu.extra]
+id = 1
+[[subscriber]]
+id = 1
+ring = 64
+other . key = 1
+[subscriber.more.deep]
+ring = 0
+[subscriber.more.steep]
+ring = 0
+=>
+1: serve: is the number 9; it has to be a whole number from 1 to 8
+2: log: is the text \"[\\\"\"; it has to be \"error\", \"warn\", \"info\" or \"debug\"
+3: ingest: is the number 9; it has to be a whole number from 1 to 8
+6: pmu.silenc: is no key here; the keys here are id, source, connect, silence, clock_ms
+7: pmu.extra: is no key here; the keys here are id, source, connect, silence, clock_ms
+12: subscriber.other: is no key here; the keys here are id, port, ring, bytes, grants, stream, address, allow, takeover, stall, idle
+13: subscriber.more: is no key here; the keys here are id, port, ring, bytes, grants, stream, address, allow, takeover, stall, idle
+----
+[[pmu]]
+id = 7
+[[subscriber]]
+id = 1
+ring = 64
+stream = [{ id = 1, rate = 600, base = 1000000, wait = 2, window = 4, members = [7] }]
+[[subscriber]]
+id = 2
+ring = 64
+[[subscriber.stream]]
+id = 1
+rate = 600
+base = 1000000
+wait = 2
+window = 4
+members = [7]
+[subscriber.stream.x]
+rate = 1
+[[subscriber.stream]]
+id = 0
+rate = 30
+base = 1000000
+wait = 2
+window = 4
+members = [7]
+=>
+6: subscriber.stream.rate: is the number 600; it has to be a whole number from 1 to 120
+12: subscriber.stream.rate: is the number 600; it has to be a whole number from 1 to 120
+17: subscriber.stream.x: is no key here; the keys here are id, rate, base, wait, window, header, members
+20: subscriber.stream.id: is the number 0; it has to be a whole number from 1 to 65534
 ";
 
 /// What is told, a line each.
@@ -351,5 +447,5 @@ fn wrong_setups(rt: HostRuntime) {
         }
         count = count.saturating_add(1);
     }
-    same(&rt, count, 28);
+    same(&rt, count, 32);
 }

@@ -6,6 +6,7 @@ mod making;
 mod opening;
 mod operator;
 mod patient;
+mod redefined;
 mod reloading;
 mod running;
 mod serving;

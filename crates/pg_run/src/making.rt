@@ -10,7 +10,7 @@ use crate::workers::{Worker, share_ports, share_sources, told_as};
 use pg_console::{Counter, Told};
 use pg_operator::Setup;
 use pg_service::{
-    Detail, Dial, Entry, Finder, Journal, Logger, Neighbours, Notice, Port, PortWorker,
+    Detail, Dial, Entry, Journal, Logger, Neighbours, Notice, Port, PortWorker, ResolverWorker,
     SourceWorker, Ticker, Waiting, Whom,
 };
 use pg_shared::{Named, Seat, Shared, SharedGate};
@@ -89,6 +89,7 @@ pub(crate) fn make_workers<
         window,
     } = waits;
     let mut workers = Vec::new(makings.alloc);
+    makings.told.tell_room(makings.rt);
     let seat = add_callers(makings, seat, sources, plan.dials, &mut workers)?;
     let seat = add_servers(makings, seat, ports, plan.ports, &mut workers)?;
     let seat = add_watchers(
@@ -117,7 +118,7 @@ fn add_watchers<
 >(
     makings: &Makings<'a, R>,
     seat: Seat,
-    names: Waiting,
+    names: Vec<Waiting>,
     window: Option<Waiting>,
     openings: Openings,
     tick: Duration,
@@ -127,7 +128,7 @@ fn add_watchers<
     requires seat { seat.table ≡ N.table }
     ensures seat { IfOk result (λ rest. rest ≡ seat) }
 {
-    add_finder(makings, names, workers)?;
+    add_resolver(makings, names, workers)?;
     let seat = add_window(makings, seat, window, openings, workers)?;
     let seat = add_ticker(makings, seat, tick, workers)?;
     add_logger(makings, workers)?;
@@ -265,6 +266,7 @@ fn servers<'a, R: Wait + Net + Clock, N: Named>(
             gate,
             waiting,
             mailbox,
+            makings.told.sources,
             journal,
             board,
             makings.now,
@@ -284,8 +286,8 @@ fn tell_ports<R: Wait>(rt: &R, journal: &Journal, ports: &[Port]) {
     }
 }
 
-/// Adds the worker that looks up names.
-fn add_finder<
+/// Adds the workers that look up names, one for each of these waits.
+fn add_resolver<
     'a,
     R: Input<Reader = StdinLock<'static>>
         + Print
@@ -296,7 +298,7 @@ fn add_finder<
     N: Named,
 >(
     makings: &Makings<'a, R>,
-    waiting: Waiting,
+    waits: Vec<Waiting>,
     workers: &mut Vec<Worker<'a, R, N>>,
 ) -> Result<(), Refusal> {
     let Told {
@@ -305,12 +307,15 @@ fn add_finder<
         ..
     } = makings.told;
     let Neighbours {
-        finder,
+        resolver,
         journal,
         ..
     } = neighbours;
-    let names = Finder::new(makings.rt, makings.alloc, waiting, finder, sources, journal);
-    workers.push(Worker::Names(names))?;
+    let Makings { rt, alloc, .. } = makings;
+    for (number, waiting) in waits.into_iter().enumerate() {
+        let worker = ResolverWorker::new(*rt, *alloc, waiting, number, resolver, sources, journal);
+        workers.push(Worker::Names(worker))?;
+    }
     Ok(())
 }
 

@@ -1,5 +1,6 @@
 //! The line `reload`: the setup file is read again, and what changed is done.
 
+use crate::redefined::started_streams;
 use crate::running::{dial_by, door_rules, rules_of};
 use crate::workers::told_as;
 use log::LevelFilter;
@@ -99,6 +100,7 @@ impl<R: Net + Clock> InForce<'_, R> {
         rt: &Q,
         console: &mut Console<'_, W>,
         gate: &mut Watched<G>,
+        old: &Setup,
         changes: Changes,
     ) -> Report {
         let Changes {
@@ -107,11 +109,21 @@ impl<R: Net + Clock> InForce<'_, R> {
             restarts,
         } = changes;
         let told = console.told();
-        let mut report = Report::new(console.alloc());
+        let alloc = console.alloc();
+        let mut report = Report::new(alloc);
+        let started = started_streams(alloc, gate, old, &edits);
         for edit in edits {
             let asked = Asked::of(&edit);
             let reply = console.post_edit(rt, gate, edit);
-            report.edited(rt, told.neighbours.journal, asked, &reply);
+            report.edited(asked, &reply);
+        }
+        match started {
+            Ok(started) => {
+                for stream in started {
+                    stream.follow(rt, told);
+                }
+            }
+            Err(_) => told.neighbours.journal.note(Notice::MailFault),
         }
         for order in orders {
             self.obey(rt, told, order, &mut report);
@@ -144,22 +156,14 @@ impl Report {
         }
     }
 
-    /// An edit that asks for this was answered so. Where it was refused, that is told, here and to the log: whom it concerns, what was
-    /// asked for, and why.
-    fn edited<Q: Wait>(
-        &mut self,
-        rt: &Q,
-        journal: &Journal,
-        asked: Option<(Whom, Asked)>,
-        reply: &Reply,
-    ) {
+    /// An edit that asks for this was answered so. Where it was refused, a line says whom it concerns, what was asked for, and why.
+    fn edited(&mut self, asked: Option<(Whom, Asked)>, reply: &Reply) {
         let (Reply::Refused(refusal), Some((whom, asked))) = (reply, asked) else {
             self.edits = self.edits.saturating_add(1);
             return;
         };
         let entry = Entry::new(Notice::NotDone, whom, Detail::Edit(asked, *refusal));
         let written = writeln!(self.lines, "{entry}");
-        journal.tell(rt, entry);
         self.refused(written, *refusal);
     }
 
@@ -276,7 +280,7 @@ impl<R: Net + Clock> InForce<'_, R> {
         let changes = changes_between(alloc, &setup, &new);
         match changes {
             Ok(changes) => {
-                let report = self.change(rt, console, gate, changes);
+                let report = self.change(rt, console, gate, &setup, changes);
                 journal.set_filter(rt, filter_of(new.log));
                 *setup = new;
                 drop(setup);

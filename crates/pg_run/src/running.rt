@@ -2,6 +2,7 @@
 
 ghost use Rattle.std.specs.Prelude.{◌≡◌, IfOk, IfSome, map, option_map};
 ghost use Rattle.std.specs.Duration.{as_nanos};
+ghost use Rattle.pg_run.specs.Doors.{opened_by};
 ghost use Rattle.pg_run.specs.Limits.{limit_of};
 
 use crate::failure::{Failure, not_bound};
@@ -304,7 +305,7 @@ pub(crate) fn door_rules(rules: PortRules) -> DoorRules
 
 /// Listens on a port.
 fn port_of<R: Net>(rt: &R, plan: PortPlan) -> Result<Port, Failure>
-    ensures { IfOk result (λ port. port.sub ≡ plan.sub) }
+    ensures { IfOk result (λ port. port ≡ opened_by plan.sub plan.rules) }
 {
     let PortPlan { sub, port, rules } = plan;
     let address = SocketAddr::from((rules.address, port));
@@ -316,7 +317,7 @@ fn port_of<R: Net>(rt: &R, plan: PortPlan) -> Result<Port, Failure>
 
 /// Listens on the subscribers' ports, in their order.
 fn ports_of<R: Net>(rt: &R, alloc: Global, plans: Vec<PortPlan>) -> Result<Vec<Port>, Failure>
-    ensures { IfOk result (λ bound. map (λ p. p.sub) bound.items ≡ map (λ p. p.sub) plans.items) }
+    ensures { IfOk result (λ bound. bound.items ≡ map (λ p. opened_by p.sub p.rules) plans.items) }
 {
     let mut bound = Vec::new(alloc);
     'plans: for plan in plans {

@@ -9,7 +9,7 @@ use crate::operator::Desk;
 use crate::workers::{Worker, mailbox, mailboxes};
 use pg_console::{Told, serve_by};
 use pg_service::{
-    Board, Dial, Journal, Lookup, Mailbox, Neighbours, Port, PortOrder, Registered, SourceOrder,
+    Board, Dial, Journal, Mailbox, Neighbours, Port, PortOrder, Registered, Resolver, SourceOrder,
     Waiting,
 };
 use pg_shared::{Named, Seat, Shared};
@@ -22,6 +22,9 @@ use std::sync::atomic::AtomicBool;
 use std::sync::{Mutex, Wait};
 use std::thread::Threads;
 use std::time::{Duration, Instant};
+
+/// How many names are looked up at a time (own rule).
+const LOOKUPS: usize = 4;
 
 /// What is served, and by how many.
 #[derive(Drop)]
@@ -48,7 +51,7 @@ pub(crate) struct Known {
 struct Boxes {
     sources: Vec<Mailbox<SourceOrder>>,
     ports: Vec<Mailbox<PortOrder>>,
-    names: Mailbox<Lookup>,
+    resolver: Resolver,
     window: Option<Mailbox<()>>,
 }
 
@@ -57,7 +60,7 @@ struct Boxes {
 pub(crate) struct Waits {
     pub(crate) sources: Vec<Waiting>,
     pub(crate) ports: Vec<Waiting>,
-    pub(crate) names: Waiting,
+    pub(crate) names: Vec<Waiting>,
     pub(crate) window: Option<Waiting>,
 }
 
@@ -123,7 +126,7 @@ fn workers_of<
 {
     let neighbours = Neighbours {
         ports: &boxes.ports,
-        finder: &boxes.names,
+        resolver: &boxes.resolver,
         journal: &known.journal,
         board: &known.board,
     };
@@ -148,7 +151,7 @@ fn workers_of<
 fn waits_of<R: Net>(rt: &R, alloc: Global, plan: &Plan) -> Result<(Waits, Boxes), Refusal> {
     let (source_waits, sources) = mailboxes(rt, alloc, plan.ingest)?;
     let (port_waits, ports) = mailboxes(rt, alloc, plan.serve)?;
-    let (name_wait, names) = mailbox(rt, alloc)?;
+    let (names, workers) = mailboxes(rt, alloc, LOOKUPS)?;
     let (window_wait, window) = if plan.openings.is_any() {
         let (wait, mailbox) = mailbox(rt, alloc)?;
         (Some(wait), Some(mailbox))
@@ -158,13 +161,13 @@ fn waits_of<R: Net>(rt: &R, alloc: Global, plan: &Plan) -> Result<(Waits, Boxes)
     let waits = Waits {
         sources: source_waits,
         ports: port_waits,
-        names: name_wait,
+        names,
         window: window_wait,
     };
     let boxes = Boxes {
         sources,
         ports,
-        names,
+        resolver: Resolver::new(alloc, workers),
         window,
     };
     Ok((waits, boxes))

@@ -8,7 +8,7 @@ use crate::operator::Operator;
 use crate::reloading::InForce;
 use pg_console::{Counter, Seated};
 use pg_service::{
-    Dial, Finder, Logger, Mailbox, Port, PortWorker, Rota, SourceWorker, Ticker, Waiting,
+    Dial, Logger, Mailbox, Port, PortWorker, ResolverWorker, Rota, SourceWorker, Ticker, Waiting,
 };
 use pg_shared::{Named, Seat, Work};
 use pg_window::Window;
@@ -34,7 +34,7 @@ pub enum Worker<
 > {
     Sources(SourceWorker<'a, R, N>),
     Subscribers(PortWorker<'a, R, N>),
-    Names(Finder<'a, R>),
+    Names(ResolverWorker<'a, R>),
     Ticks(Ticker<'a, R, N>),
     Lines(Operator<'a, R, N>),
     Window(Window<'a, R, Counter<'a, R, N, InForce<'a, R>>>),

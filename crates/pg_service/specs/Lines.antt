@@ -10,7 +10,7 @@ use Rattle.pg_limits.specs.declared.guard.ClockGuard.{ClockGuard}
 use Rattle.pg_service.specs.declared.source.Turn.{Turn}
 use Rattle.pg_service.specs.declared.source.Turn.TheVariants.{Waits, More, Ended}
 use Rattle.pg_service.specs.declared.watched.Seen.{Seen}
-use Rattle.pg_service.specs.Plans.{Plan, heard, ended}
+use Rattle.pg_service.specs.Plans.{Plan, announced, ended, measured}
 
 -- its link, when it is called, and the guard of its measurements
 pub record Line : Type 0 where
@@ -31,10 +31,17 @@ abbrev pub unguarded : Option ClockGuard → Option (List Posted) → Option (Li
 unguarded None posts = posts
 unguarded (Some g) posts = None
 
--- the plan after so many events, with the last DATA_RATE that was announced by them
-abbrev pub hearing : ℕ → ℕ → Option ℤ → Plan → Plan
-hearing zero now rate p = p
-hearing (suc n) now rate p = heard now rate p
+-- the plan after what went through the gate: the DATA_RATE of the last announcement, if there was one, and so many measurements
+abbrev pub announcing : Option ℤ → ℕ → Plan → Plan
+announcing None now p = p
+announcing (Some rate) now p = announced now rate p
+
+abbrev pub measuring : ℕ → ℕ → Plan → Plan
+measuring zero now p = p
+measuring (suc n) now p = measured now p
+
+abbrev pub hearing : Seen → ℕ → Plan → Plan
+hearing seen now p = measuring seen.measured now (announcing seen.rate now p)
 
 -- Where the connection ended or failed, the link starts anew and the plan has ended.
 abbrev pub settled : End → ℕ → Line → Line
@@ -56,7 +63,7 @@ pub record Turned (now reads : ℕ) (turn : Turn) (seen : Seen) (l l' : Line) (b
   pub end : End
   pub link : Linking
   pub call : IsCall end 10000 l.link link before after
-  pub line : l' ≡ settled end now (record l { link = link; plan = hearing seen.events now seen.rate l.plan })
+  pub line : l' ≡ settled end now (record l { link = link; plan = hearing seen now l.plan })
   pub used_up : Bool
   pub used : IsTrue used_up ↔ (reads ≡ 0)
   pub turn_is : turn ≡ turn_after end used_up

@@ -3,17 +3,22 @@ use Rattle.std.specs.Prelude.{ℕ, ◌-◌, min, Bool, true, false, nat_le, ◌|
 use Rattle.std.specs.Option.{option_map_or}
 use Rattle.pg_service.specs.declared.patience.Overdue.{Overdue}
 use Rattle.pg_service.specs.declared.patience.Overdue.TheVariants.{Stalled, Idle}
-use Rattle.pg_service.specs.Plans.{Awaited, is_over}
+use Rattle.pg_service.specs.Plans.{Awaited, is_over, least, left_of, seconds}
 
--- its limits, since when bytes wait of which its socket takes none, and when a byte went either way last
+-- since when it is connected, its limits, since when bytes wait of which its socket takes none, and when a byte went either way last
 pub record Waited : Type 0 where
+  pub since : ℕ
   pub stall : Option ℕ
   pub idle : Option ℕ
   pub blocked : Option ℕ
   pub active : ℕ
 
 abbrev pub connected : Option ℕ → Option ℕ → ℕ → Waited
-connected stall idle now = record { stall = stall; idle = idle; blocked = None; active = now }
+connected stall idle now = record { since = now; stall = stall; idle = idle; blocked = None; active = now }
+
+-- It is connected for 5 seconds at least, so that another connection may take its place.
+abbrev pub is_settled : ℕ → Waited → Bool
+is_settled now w = nat_le (seconds 5) (now - w.since)
 
 -- its socket takes no more: from now on, where it took a byte just now, else from when it took none before
 abbrev pub blocked_since : Bool → ℕ → Option ℕ → ℕ
@@ -41,14 +46,6 @@ overdue_by now w =
     if option_map_or (is_over now) (stalls w) false then Some Stalled
     else if option_map_or (is_over now) (idles w) false then Some Idle else None
 
-abbrev pub left_of : ℕ → Awaited → ℕ
-left_of now a = a.limit - (now - a.since)
-
 -- how long until it is hung up
-abbrev pub least : Option ℕ → Option ℕ → Option ℕ
-least None b = b
-least (Some a) None = Some a
-least (Some a) (Some b) = Some (min a b)
-
 abbrev pub left_by : ℕ → Waited → Option ℕ
 left_by now w = least (option_map (left_of now) (stalls w)) (option_map (left_of now) (idles w))

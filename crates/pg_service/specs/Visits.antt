@@ -11,7 +11,7 @@ use Rattle.pg_gateway.specs.Posting.{Posted, Notes}
 use Rattle.pg_limits.specs.Hosts.{Net}
 use Rattle.pg_service.specs.declared.door.Knock.{Knock}
 use Rattle.pg_service.specs.declared.door.Knock.TheVariants.{Welcome, Refused}
-use Rattle.pg_service.specs.Patience.{Waited, connected}
+use Rattle.pg_service.specs.Patience.{Waited, connected, is_settled}
 use Rattle.pg_service.specs.Posts.{Asks}
 
 -- its session, and how long it is waited for
@@ -38,12 +38,16 @@ abbrev pub HungUp : Bool → ℕ → Option (List Posted) → Option (List Poste
 HungUp true sub before after = Asks sub hangup before after
 HungUp false sub before after = after ≡ before
 
--- who stands in the way of a new connection, and is hung up for it
-abbrev pub makes_room : Doorway → Bool
-makes_room d = d.takeover && is_some d.guest
+-- With `takeover` a connection that stands for 5 seconds is hung up for a new one.
+abbrev pub gives_way : ℕ → Option Visit → Bool
+gives_way now None = false
+gives_way now (Some v) = is_settled now v.patience
 
-abbrev pub with_room : Doorway → Doorway
-with_room d = record d { guest = if d.takeover then None else d.guest }
+abbrev pub makes_room : ℕ → Doorway → Bool
+makes_room now d = d.takeover && gives_way now d.guest
+
+abbrev pub with_room : ℕ → Doorway → Doorway
+with_room now d = record d { guest = if makes_room now d then None else d.guest }
 
 -- the door of a subscriber that connects now
 abbrev pub entered : ℕ → Doorway → Doorway
@@ -61,19 +65,19 @@ refusal_of (reply.Audit e) = Some NoMemory
 refusal_of (reply.Standing s) = Some NoMemory
 
 -- what becomes of a connection that is refused for this, or not at all
-abbrev pub knock_by : Option Refusal → Doorway → Knock
-knock_by None d = Welcome (is_some d.guest)
-knock_by (Some r) d = Refused r (makes_room d)
+abbrev pub knock_by : Option Refusal → ℕ → Doorway → Knock
+knock_by None now d = Welcome (is_some d.guest)
+knock_by (Some r) now d = Refused r (makes_room now d)
 
 abbrev pub door_by : Option Refusal → ℕ → Doorway → Doorway
 door_by None now d = entered now d
-door_by (Some r) now d = with_room d
+door_by (Some r) now d = with_room now d
 
 -- Who stands in the way is hung up, then the connection is asked for, and it is the subscriber's just where that is done.
 pub record Admits (now : ℕ) (d d' : Doorway) (knock : Knock) (before after : Option (List Posted)) : Type 0 where
   pub room : Option (List Posted)
-  pub hung : HungUp (makes_room d) d.sub before room
+  pub hung : HungUp (makes_room now d) d.sub before room
   pub answer : Reply
   pub asked : Notes room after ((asks d.sub connect, told answer) ∷ [])
-  pub becomes : knock ≡ knock_by (refusal_of answer) d
+  pub becomes : knock ≡ knock_by (refusal_of answer) now d
   pub door : d' ≡ door_by (refusal_of answer) now d

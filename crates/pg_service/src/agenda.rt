@@ -15,6 +15,8 @@ pub(crate) struct Agenda {
     serving: Vec<usize>,
     /// When something is due, or before; None where nothing is.
     pub(crate) due: Option<Instant>,
+    /// Until when nobody is served, but where the worker is woken; None where those that are ready are.
+    pub(crate) held: Option<Instant>,
     /// The clock, as it was read last.
     pub(crate) now: Instant,
 }
@@ -26,6 +28,7 @@ impl Agenda {
             ready: Vec::new(alloc),
             serving: Vec::new(alloc),
             due: None,
+            held: None,
             now,
         }
     }
@@ -57,11 +60,11 @@ impl Agenda {
 
     /// How long a turn waits at most.
     fn patience(&self) -> Duration {
-        if !self.ready.is_empty() {
+        if !self.ready.is_empty() && self.held.is_none() {
             return Duration::ZERO;
         }
         let most = Duration::from_millis(PATIENCE_MS);
-        match self.due {
+        match sooner(self.due, self.held) {
             Some(due) => most.min(due.saturating_duration_since(self.now)),
             None => most,
         }
@@ -81,6 +84,28 @@ impl Agenda {
     pub(crate) fn begin(&mut self) {
         self.serving.clear();
         mem::swap(&mut self.ready, &mut self.serving);
+    }
+
+    /// Those of this turn from this one on are served in the next one, before those that were added meanwhile.
+    pub(crate) fn put_off(&mut self, from: usize) {
+        let mut kept = 0;
+        for at in from..self.serving.len() {
+            if let Some(place) = self.serving.get(at).copied() {
+                if let Some(free) = self.serving.get_mut(kept) {
+                    *free = place;
+                    kept = kept.saturating_add(1);
+                }
+            }
+        }
+        self.serving.truncate(kept);
+        for at in 0..self.ready.len() {
+            if let Some(place) = self.ready.get(at).copied() {
+                // There is room for each place once.
+                let _ = self.serving.push(place);
+            }
+        }
+        mem::swap(&mut self.ready, &mut self.serving);
+        self.serving.clear();
     }
 
     /// How many are served in this turn.

@@ -46,6 +46,26 @@ impl Asked {
     }
 }
 
+/// What was done.
+pub(crate) fn write_done<W: fmt::Write>(asked: Asked, f: &mut fmt::Formatter<W>) -> fmt::Result {
+    match asked {
+        Asked::AddPmu(pmu) => write!(f, "PMU {} is registered", pmu.get()),
+        Asked::DropPmu(pmu) => write!(f, "PMU {} is dropped", pmu.get()),
+        Asked::AddSub => f.write_str("added"),
+        Asked::DropSub => f.write_str("dropped"),
+        Asked::Grant(key) => {
+            let (source, pmu) = (key.source.get(), key.pmu.get());
+            write!(f, "PMU {source}/{pmu} is granted")
+        }
+        Asked::Revoke(key) => {
+            let (source, pmu) = (key.source.get(), key.pmu.get());
+            write!(f, "the grant of PMU {source}/{pmu} is revoked")
+        }
+        Asked::Define(stream) => write!(f, "stream {} is defined", stream.get()),
+        Asked::Remove(stream) => write!(f, "stream {} is removed", stream.get()),
+    }
+}
+
 /// What can't be done.
 pub(crate) fn write_asked<W: fmt::Write>(asked: Asked, f: &mut fmt::Formatter<W>) -> fmt::Result {
     match asked {

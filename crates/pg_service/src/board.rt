@@ -1,5 +1,6 @@
 //! What workers tell of their sources and ports, to whoever asks.
 
+use crate::clocks::Clocks;
 use crate::journal::{Journal, Notice};
 use crate::mail::{Mailbox, PortOrder, SourceOrder};
 use pg_audit::PmuStats;
@@ -98,6 +99,8 @@ pub struct Board {
     // The number of the last asking: held while one asks.
     asking: Mutex<u64>,
     reports: Mutex<Reports>,
+    // How the clocks of the sources of each worker stand, by the workers' numbers.
+    clocks: Mutex<Vec<Clocks>>,
 }
 
 impl Board {
@@ -106,7 +109,32 @@ impl Board {
         Board {
             asking: Mutex::new(0),
             reports: Mutex::new(Reports::new(alloc, 0)),
+            clocks: Mutex::new(Vec::new(alloc)),
         }
+    }
+
+    /// The clocks of the sources of the worker of this number stand so. Where there is no memory for it, that is noted.
+    pub(crate) fn put_up<R: Wait>(&self, rt: &R, journal: &Journal, worker: usize, own: Clocks) {
+        let mut held = self.clocks.lock(rt);
+        for _ in held.len()..worker.saturating_add(1) {
+            if held.push(Clocks::none()).is_err() {
+                journal.note(Notice::MailFault);
+                return;
+            }
+        }
+        if let Some(place) = held.get_mut(worker) {
+            *place = own;
+        }
+    }
+
+    /// How the clocks of the sources of all workers stand.
+    pub(crate) fn clocks<R: Wait>(&self, rt: &R) -> Clocks {
+        let mut all = Clocks::none();
+        let held = self.clocks.lock(rt);
+        for own in held.iter() {
+            all = all.with(*own);
+        }
+        all
     }
 
     /// Asks all these workers, and waits for their answers, a second at most. Where one does not answer in time, that is noted, and

@@ -51,6 +51,7 @@ pub struct StopsShort<R> {
     inner: R,
     is_ending: bool,
     has_stopped: bool,
+    has_read: bool,
 }
 
 impl<R> StopsShort<R> {
@@ -60,7 +61,18 @@ impl<R> StopsShort<R> {
             inner,
             is_ending,
             has_stopped: false,
+            has_read: false,
         }
+    }
+
+    /// Whether a read filled less than it could, or failed, as where it would block: nothing more has come by now.
+    pub fn has_stopped(&self) -> bool {
+        self.has_stopped
+    }
+
+    /// Whether a read gave bytes.
+    pub fn has_read(&self) -> bool {
+        self.has_read
     }
 }
 
@@ -71,9 +83,15 @@ impl<R: Read> Read for StopsShort<R> {
         if self.has_stopped {
             return Err(io::Error::from(ErrorKind::WouldBlock));
         }
-        let size = self.inner.read(buf)?;
-        self.has_stopped = size < buf.len() && !self.is_ending;
-        Ok(size)
+        let read = self.inner.read(buf);
+        match &read {
+            Ok(size) => {
+                self.has_stopped = *size < buf.len() && !self.is_ending;
+                self.has_read = self.has_read || *size > 0;
+            }
+            Err(_) => self.has_stopped = true,
+        }
+        read
     }
 }
 

@@ -122,7 +122,7 @@ impl Digest {
 /// How long what is like this is held back.
 fn window(notice: Notice) -> u64 {
     match notice {
-        Notice::Ignored | Notice::FarMeasurement => LONG_WINDOW_MS,
+        Notice::Ignored | Notice::FarMeasurement | Notice::WrongClock => LONG_WINDOW_MS,
         _ => WINDOW_MS,
     }
 }

@@ -30,7 +30,7 @@ use std::time::{Duration, Instant};
 pub struct DoorRules {
     /// The hosts that may connect.
     pub allow: Allow,
-    /// Whether a new connection takes the place of one that stands.
+    /// Whether a new connection takes the place of one that stands for 5 seconds.
     pub takeover: bool,
     /// How long the socket may take none of the bytes that wait; `None` for ever.
     pub stall: Option<Duration>,
@@ -110,8 +110,8 @@ impl Door {
         self.guest.as_ref()
     }
 
-    /// Somebody connects from this host: its connection is posted, unless its host may not connect or there is no memory for
-    /// its session. With `takeover` it is posted before that who has connected hangs up.
+    /// A subscriber connects from this host: its connection is posted, unless its host may not connect or there is no memory for
+    /// its session. With `takeover` it is posted before that the connection hangs up that stands, if it stands for 5 seconds at least.
     #[tactic(auto, using(crate::proofs::Own::own_as, crate::proofs::Own::own_nil, crate::proofs::Own::own_more))]
     pub fn knock<G: Gate>(
         &mut self,
@@ -145,7 +145,7 @@ impl Door {
                 };
             }
         };
-        let replaced = self.make_room(gate);
+        let replaced = self.make_room(gate, now);
         let reply = post_connect(self.sub, gate);
         match refusal_in(&reply) {
             Some(refusal) => Knock::Refused { refusal, replaced },
@@ -158,17 +158,28 @@ impl Door {
         }
     }
 
-    /// With `takeover`, hangs up who has connected, and tells whether somebody had.
+    /// Whether the connection that stands is hung up for a new one: with `takeover`, once it stands for 5 seconds.
+    fn gives_way(&self, now: Instant) -> bool
+        ensures way { result ≡ makes_room (instant_nanos now) self.now }
+        ensures some { result ≡ true → is_some self.now.guest ≡ true }
+    {
+        match &self.guest {
+            Some(guest) => self.rules.takeover && guest.patience().is_settled(now),
+            None => false,
+        }
+    }
+
+    /// Hangs up the connection that stands, if it gives way to a new one, and tells whether it does.
     #[tactic(auto, using(crate::proofs::Own::own_nil))]
-    fn make_room<G: Gate>(&mut self, gate: &mut G) -> bool
+    fn make_room<G: Gate>(&mut self, gate: &mut G, now: Instant) -> bool
         ensures sub { self.new.sub ≡ self.old.sub }
         ensures same { self.new ≡ record self.old { guest = self.new.guest } }
-        ensures room { self.new ≡ with_room self.old }
-        ensures stood { result ≡ makes_room self.old }
-        ensures hung { HungUp (makes_room self.old) self.old.sub (G.posts gate.old) (G.posts gate.new) }
+        ensures room { self.new ≡ with_room (instant_nanos now) self.old }
+        ensures stood { result ≡ makes_room (instant_nanos now) self.old }
+        ensures hung { HungUp (makes_room (instant_nanos now) self.old) self.old.sub (G.posts gate.old) (G.posts gate.new) }
         ensures own { OwnOnly self.old.sub (G.posts gate.old) (G.posts gate.new) }
     {
-        self.rules.takeover && self.hang_up(gate)
+        self.gives_way(now) && self.hang_up(gate)
     }
 
     /// Hangs up who has connected, and tells whether somebody had.
@@ -205,6 +216,13 @@ impl Door {
         let overdue = self.guest.as_ref()?.patience().overdue(now)?;
         self.hang_up(gate);
         Some(overdue)
+    }
+
+    /// Whether the socket of the connection that stands takes no more bytes by now.
+    pub fn is_blocked(&self) -> bool {
+        self.guest
+            .as_ref()
+            .is_some_and(|guest| guest.patience().is_blocked())
     }
 
     /// How long until who has connected is hung up, if nothing goes either way; `None` for ever.

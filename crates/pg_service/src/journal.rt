@@ -1,6 +1,7 @@
 //! What the service notes of what it meets.
 
 use crate::asked::Asked;
+use crate::change::ConfigChange;
 use log::{Level, LevelFilter};
 use pg_ingest::End;
 use pg_wire::{PmuId, Refusal, SubId};
@@ -86,17 +87,27 @@ pub enum Notice {
     Opened = 34,
     /// A subscriber was hung up, since another connection of it took its place.
     Replaced = 35,
-    /// An edit of a setup that was read again was refused.
+    /// An edit was refused, by a line or a reload.
     NotDone = 36,
     /// The port of a setup that was read again could not be bound.
     NotBound = 37,
+    /// A source sent no measurement for some seconds, and is asked again for its configuration and data.
+    AskedAgain = 38,
+    /// A source announced a configuration that differs from its last one.
+    Reconfigured = 39,
+    /// This machine's clock is probably wrong.
+    WrongClock = 40,
+    /// The address of a source's name was not found in time.
+    NotFound = 41,
+    /// An edit was done, by a line or a reload.
+    Edited = 42,
 }
 
 /// The PMUs of a configuration at most.
 pub(crate) const MOST_PMUS: usize = 16;
 
 /// How many kinds of notices there are.
-const KINDS: usize = 38;
+const KINDS: usize = 43;
 
 impl Notice {
     /// The kinds that are counted where nobody is named, so that the log tells how often they were met.
@@ -112,15 +123,20 @@ impl Notice {
     /// How much it matters (own rule): an error is a fault of this machine, a warning what an operator may have to mend.
     pub fn level(self) -> Level {
         match self {
-            Notice::PollFault | Notice::ClockFault | Notice::MailFault | Notice::SocketFault => {
-                Level::Error
-            }
+            Notice::PollFault
+            | Notice::ClockFault
+            | Notice::MailFault
+            | Notice::SocketFault
+            | Notice::WrongClock => Level::Error,
             Notice::NotMade
             | Notice::GivenUp
             | Notice::NoAddress
+            | Notice::NotFound
             | Notice::SourceEnded
             | Notice::Silent
             | Notice::FarMeasurement
+            | Notice::AskedAgain
+            | Notice::Reconfigured
             | Notice::Foreign
             | Notice::Refused
             | Notice::Stalled
@@ -148,6 +164,7 @@ impl Notice {
             | Notice::Unlistened
             | Notice::Shown
             | Notice::Opened
+            | Notice::Edited
             | Notice::Reloaded => Level::Info,
         }
     }
@@ -181,8 +198,16 @@ pub enum Detail {
     Config(i16, [u16; MOST_PMUS]),
     /// Of this stream.
     Stream(u16),
+    /// What was asked for, and done.
+    Done(Asked),
     /// What was asked for, and why it was refused.
     Edit(Asked, Refusal),
+    /// By how many milliseconds a time is ahead of this machine's clock; behind it where negative.
+    Off(i64),
+    /// What differs between two configurations.
+    Differs(ConfigChange),
+    /// From where a connection came that was refused, and from where the one came that stands.
+    Between(SocketAddr, SocketAddr),
 }
 
 /// What was met, for the log.
@@ -209,22 +234,29 @@ impl Entry {
         }
     }
 
-    /// Whether it is of the same kind, of the same one and for the same reason, so that one line may stand for both. Where from is
-    /// no difference.
+    /// Whether it is of the same kind, of the same one and for the same reason, so that one line may stand for both. Addresses and times are
+    /// no reasons.
     pub fn is_like(&self, other: &Entry) -> bool {
         self.notice == other.notice
             && self.whom == other.whom
-            && (self.detail == other.detail || (self.is_at() && other.is_at()))
-    }
-
-    /// Whether an address is known beside.
-    fn is_at(&self) -> bool {
-        matches!(self.detail, Detail::At(_))
+            && (self.detail == other.detail || self.detail.is_of_kind(&other.detail))
     }
 }
 
-/// As many entries wait for the log at most.
-const WAITING: usize = 1_024;
+impl Detail {
+    /// Whether both are addresses, or both are times.
+    fn is_of_kind(&self, other: &Detail) -> bool {
+        matches!(
+            (self, other),
+            (Detail::At(_), Detail::At(_))
+                | (Detail::Off(_), Detail::Off(_))
+                | (Detail::Between(..), Detail::Between(..))
+        )
+    }
+}
+
+/// As many entries of one source or subscriber, or of none, wait for the log at most (own rule): so that none hides what another does.
+const WAITING: usize = 128;
 
 /// What the service met, which all its workers share: its counts, what waits for the log, and what the log tells of it.
 #[derive(Drop)]
@@ -306,7 +338,8 @@ impl Journal {
     }
 }
 
-/// Keeps an entry behind the others, and tells whether there was room. One that is like the last is counted with it.
+/// Keeps an entry behind the others, and tells whether there was room for one more of its source or subscriber. One that is like the last is
+/// counted with it.
 fn keep(entries: &mut Vec<Entry>, entry: Entry) -> bool {
     if let Some(last) = entries.last_mut() {
         if last.is_like(&entry) && last.detail == entry.detail {
@@ -314,5 +347,6 @@ fn keep(entries: &mut Vec<Entry>, entry: Entry) -> bool {
             return true;
         }
     }
-    entries.len() < WAITING && entries.push(entry).is_ok()
+    let own = entries.iter().filter(|it| it.whom == entry.whom).count();
+    own < WAITING && entries.push(entry).is_ok()
 }

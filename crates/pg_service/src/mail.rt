@@ -5,10 +5,10 @@ use crate::journal::{Journal, Notice};
 use crate::sources::Dial;
 use mio::net::TcpListener;
 use mio::{Poll, Token, Waker};
-use pg_wire::{PmuId, SubId};
+use pg_wire::{PmuId, StreamId, SubId};
 use std::alloc::Global;
 use std::net::SocketAddr;
-use std::sync::atomic::{AtomicBool, Ordering};
+use std::sync::atomic::{AtomicBool, AtomicUsize, Ordering};
 use std::sync::{Mutex, Wait};
 use std::{io, mem};
 
@@ -26,10 +26,19 @@ pub enum SourceOrder {
     Renew(PmuId),
     /// This source has no PMU any more: it is left alone until one is added.
     Rest(PmuId),
-    /// The address of this source's name was found, or it has none.
-    Found(PmuId, Option<SocketAddr>),
+    /// A source's name was looked up.
+    Found {
+        /// The source.
+        source: PmuId,
+        /// The dial for which it was.
+        dial: u64,
+        /// The address that was found; `None` where the name has none, or no server answered.
+        address: Option<SocketAddr>,
+    },
     /// Its worker tells at the board how its sources stand, in answer to this asking.
     Report(u64),
+    /// So many events of its sources may make frames before those that were made are handed out.
+    Room(u32),
 }
 
 /// What a worker that serves subscribers is told.
@@ -48,6 +57,9 @@ pub enum PortOrder {
     Close(SubId),
     /// Who has connected is hung up.
     HangUp(SubId),
+    /// A stream that was on is defined anew with the same members, and goes on: once what waits for its subscriber is handed out, it is
+    /// sent CFG-2 and the stream is started. Nothing is done where the subscriber is not connected.
+    Resume(SubId, StreamId),
     /// Its worker tells at the board how its ports stand, in answer to this asking.
     Report(u64),
 }
@@ -58,6 +70,10 @@ pub struct Mailbox<O> {
     orders: Mutex<Vec<O>>,
     pending: AtomicBool,
     waker: Waker,
+    // The turns that the worker began by a wake, the last of them that it ended, and whether somebody waits for the end of one.
+    begun: AtomicUsize,
+    ended: AtomicUsize,
+    is_awaited: AtomicBool,
 }
 
 impl<O: Drop> Mailbox<O> {
@@ -71,6 +87,9 @@ impl<O: Drop> Mailbox<O> {
             orders: Mutex::new(Vec::new(alloc)),
             pending: AtomicBool::new(false),
             waker: Waker::new(poll.registry(), WAKE)?,
+            begun: AtomicUsize::new(0),
+            ended: AtomicUsize::new(0),
+            is_awaited: AtomicBool::new(false),
         })
     }
 
@@ -94,9 +113,37 @@ impl<O: Drop> Mailbox<O> {
         self.wake(journal);
     }
 
+    /// Whether the worker was woken since it took its orders last.
+    pub(crate) fn is_pending(&self) -> bool {
+        self.pending.load(Ordering::SeqCst)
+    }
+
+    /// The number of a turn that begins later than now, if the worker is woken now.
+    pub(crate) fn next_turn(&self) -> usize {
+        self.begun.load(Ordering::SeqCst).wrapping_add(1)
+    }
+
+    /// Whether the worker has ended the turn of this number.
+    pub(crate) fn has_ended(&self, turn: usize) -> bool {
+        self.ended.load(Ordering::SeqCst) >= turn
+    }
+
+    /// From now on somebody waits until the worker ends a turn.
+    pub(crate) fn wait_for_end(&self) {
+        self.is_awaited.store(true, Ordering::SeqCst);
+    }
+
+    /// The worker ends the turn that it began last, and is told whether somebody waits for that.
+    pub(crate) fn end_turn(&self) -> bool {
+        let begun = self.begun.load(Ordering::SeqCst);
+        self.ended.store(begun, Ordering::SeqCst);
+        self.is_awaited.load(Ordering::SeqCst) && self.is_awaited.swap(false, Ordering::SeqCst)
+    }
+
     /// All orders that were left, in the order in which they came. From now on the worker can be woken again.
     pub fn take<R: Wait>(&self, rt: &R, alloc: Global) -> Vec<O> {
         self.pending.store(false, Ordering::SeqCst);
+        self.begun.fetch_add(1, Ordering::SeqCst);
         let mut held = self.orders.lock(rt);
         mem::replace(&mut *held, Vec::new(alloc))
     }

@@ -3,11 +3,16 @@
 ghost use Rattle.std.specs.Prelude.{◌≡◌, option_map, is_some};
 ghost use Rattle.std.specs.Duration.{as_nanos};
 ghost use Rattle.std.specs.Time.{instant_nanos};
-ghost use Rattle.pg_service.specs.Patience.{connected, idles, least, left_by, overdue_by, served, stalls};
+ghost use Rattle.pg_service.specs.Patience.{connected, idles, is_settled, left_by, overdue_by, served, stalls};
+ghost use Rattle.pg_service.specs.Plans.{least};
 
 use pg_limits::Deadline;
 use std::marker::Model;
 use std::time::{Duration, Instant};
+
+/// How long a connection stands before another one may take its place, in seconds (own rule): two clients that both connect again at once
+/// would hang each other up for ever.
+const SETTLED_SECONDS: u64 = 5;
 
 /// Why a subscriber is to be hung up.
 #[derive(Clone, Copy, Debug, PartialEq, Eq)]
@@ -22,6 +27,7 @@ pub enum Overdue {
 /// byte either way.
 #[derive(Drop)]
 pub struct Patience {
+    since: Instant,
     stall: Option<Duration>,
     idle: Option<Duration>,
     blocked: Option<Instant>,
@@ -36,7 +42,7 @@ impl Model for Patience {
 
     ghost Value = { Waited };
 
-    ghost view = { λ p. record { stall = option_map as_nanos p.stall; idle = option_map as_nanos p.idle; blocked = option_map instant_nanos p.blocked; active = instant_nanos p.active } };
+    ghost view = { λ p. record { since = instant_nanos p.since; stall = option_map as_nanos p.stall; idle = option_map as_nanos p.idle; blocked = option_map instant_nanos p.blocked; active = instant_nanos p.active } };
 }
 
 impl Patience {
@@ -45,11 +51,23 @@ impl Patience {
         ensures { result ≡ connected (option_map as_nanos stall) (option_map as_nanos idle) (instant_nanos now) }
     {
         Patience {
+            since: now,
             stall,
             idle,
             blocked: None,
             active: now,
         }
+    }
+
+    /// Whether it is connected for 5 seconds by now, so that another connection may take its place.
+    pub fn is_settled(&self, now: Instant) -> bool
+        ensures { result ≡ is_settled (instant_nanos now) self.now }
+    {
+        let settles = Deadline {
+            last: self.since,
+            limit: Duration::from_secs(SETTLED_SECONDS),
+        };
+        settles.is_over(now)
     }
 
     /// Whether its socket takes no more bytes by now.

@@ -1,6 +1,7 @@
 //! Workers that serve subscribers.
 
 ghost use Rattle.std.specs.Prelude.{◌≡◌, None, option_map, true};
+ghost use Rattle.std.specs.Duration.{as_nanos};
 ghost use Rattle.pg_service.specs.Posts.{OwnOnly, through};
 
 use crate::agenda::Agenda;
@@ -9,8 +10,9 @@ use crate::counted::Counted;
 use crate::door::{Door, DoorRules, Knock};
 use crate::guest::{Gone, Stay};
 use crate::journal::{Detail, Entry, Journal, Notice, Whom};
-use crate::mail::{Mailbox, PortOrder};
+use crate::mail::{Mailbox, PortOrder, SourceOrder};
 use crate::patience::Overdue;
+use crate::resume::post_resume;
 use crate::sources::READS;
 use crate::stamps::{Aged, Stamps};
 use crate::switches::Switches;
@@ -22,7 +24,7 @@ use pg_gateway::{Event, Gate, Reply};
 use pg_limits::Budget;
 use pg_shared::{Named, SharedGate, Work};
 use pg_status::Histogram;
-use pg_wire::SubId;
+use pg_wire::{Refusal, StreamId, SubId};
 use std::alloc::Global;
 use std::io::ErrorKind;
 use std::marker::Model;
@@ -59,6 +61,8 @@ pub struct Port {
     gaps: u64,
     // What goes out to who has connected.
     stamps: Stamps,
+    // The streams that go on once what waits is handed out.
+    resumes: [Option<StreamId>; STREAMS],
 }
 
 impl Model for Port {
@@ -74,6 +78,9 @@ impl Port {
     pub fn new(sub: SubId, rules: DoorRules, listener: TcpListener) -> Port
         ensures sub { result.sub ≡ sub }
         ensures allow { result.allow ≡ option_map (λ v. v.items) rules.allow.networks }
+        ensures takeover { result.takeover ≡ rules.takeover }
+        ensures stall { result.stall ≡ option_map as_nanos rules.stall }
+        ensures idle { result.idle ≡ option_map as_nanos rules.idle }
         ensures nobody { result.guest ≡ None }
     {
         Port {
@@ -87,6 +94,7 @@ impl Port {
             since: None,
             gaps: 0,
             stamps: Stamps::new(),
+            resumes: no_streams(),
         }
     }
 
@@ -115,8 +123,8 @@ impl Port {
 }
 
 /// A worker that serves subscribers at their ports (own rule). A turn waits until a socket is ready, it is woken, or one of its
-/// subscribers is waited for no longer. Then those whose sockets are ready are served; where it was woken, what waits is handed
-/// out to all that have connected.
+/// subscribers is waited for no longer. Where it was woken, what waits is handed out to all that have connected; then those whose sockets
+/// are ready are served.
 #[derive(Drop)]
 pub struct PortWorker<'a, R: Wait + Net + Clock, N: Named> {
     rt: &'a R,
@@ -124,6 +132,8 @@ pub struct PortWorker<'a, R: Wait + Net + Clock, N: Named> {
     gate: Watched<SharedGate<'a, R, N>>,
     waiting: Waiting,
     mailbox: &'a Mailbox<PortOrder>,
+    // Those who may wait until it has handed out what they made.
+    sources: &'a [Mailbox<SourceOrder>],
     journal: &'a Journal,
     board: &'a Board,
     ports: Vec<Option<Port>>,
@@ -154,6 +164,7 @@ impl<'a, R: Wait + Net + Clock, N: Named> PortWorker<'a, R, N> {
         gate: SharedGate<'a, R, N>,
         waiting: Waiting,
         mailbox: &'a Mailbox<PortOrder>,
+        sources: &'a [Mailbox<SourceOrder>],
         journal: &'a Journal,
         board: &'a Board,
         now: Instant,
@@ -166,6 +177,7 @@ impl<'a, R: Wait + Net + Clock, N: Named> PortWorker<'a, R, N> {
             gate: Watched::new(gate),
             waiting,
             mailbox,
+            sources,
             journal,
             board,
             ports: Vec::new(alloc),
@@ -235,6 +247,7 @@ impl<'a, R: Wait + Net + Clock, N: Named> PortWorker<'a, R, N> {
             }
             PortOrder::Close(sub) => self.close(sub),
             PortOrder::HangUp(sub) => self.hang_up(sub),
+            PortOrder::Resume(sub, stream) => self.resume(sub, stream),
             PortOrder::Report(asking) => self.report(asking),
         }
     }
@@ -291,6 +304,21 @@ impl<'a, R: Wait + Net + Clock, N: Named> PortWorker<'a, R, N> {
                 port.part(self.agenda.now);
                 let entry = port.entry(Notice::HungUp, Detail::Nothing);
                 self.journal.tell(self.rt, entry);
+            }
+        }
+    }
+
+    /// A stream of this subscriber goes on, if it is connected.
+    fn resume(&mut self, sub: SubId, stream: StreamId) {
+        for place in 0..self.ports.len() {
+            let Some(Some(port)) = self.ports.get_mut(place) else {
+                continue;
+            };
+            if port.is_of(sub) && port.stream.is_some() {
+                if let Some(free) = port.resumes.iter_mut().find(|it| it.is_none()) {
+                    *free = Some(stream);
+                }
+                self.mark(place, false);
             }
         }
     }
@@ -364,15 +392,26 @@ impl<'a, R: Wait + Net + Clock, N: Named> PortWorker<'a, R, N> {
             if let Some(place) = self.agenda.serving(at) {
                 self.serve(place);
             }
+            // So a subscriber that sends much delays what others are handed by its own turn at most.
+            if self.mailbox.is_pending() {
+                self.pass();
+            }
         }
     }
 
-    /// Asks for whom of those that have connected something waits, but for those that are served in this turn anyway.
+    /// Does what it was told, and hands out what waits.
+    fn pass(&mut self) {
+        self.obey_all();
+        self.hand_out_all();
+        self.tell_end();
+    }
+
+    /// Asks for whom of those that have connected something waits.
     fn ask_who_waits(&mut self) {
         let mut asked = mem::replace(&mut self.asked, Vec::new(self.alloc));
         asked.clear();
         for port in self.ports.iter().flatten() {
-            if port.stream.is_some() && !port.is_ready {
+            if port.stream.is_some() {
                 // There is room for each port.
                 let _ = asked.push(port.sub());
             }
@@ -382,8 +421,16 @@ impl<'a, R: Wait + Net + Clock, N: Named> PortWorker<'a, R, N> {
         }
     }
 
-    /// Hands out what waits to those that have connected, but to those that are served in this turn anyway. One call tells for whom
-    /// something waits, in the order of the ports.
+    /// Tells those who wait for it that all that waited was handed out, but what sockets did not take.
+    fn tell_end(&self) {
+        if self.mailbox.end_turn() {
+            for mailbox in self.sources {
+                mailbox.wake(self.journal);
+            }
+        }
+    }
+
+    /// Hands out what waits to those that have connected. One call tells for whom something waits, in the order of the ports.
     fn hand_out_all(&mut self) {
         self.ask_who_waits();
         let mut next = 0;
@@ -391,7 +438,7 @@ impl<'a, R: Wait + Net + Clock, N: Named> PortWorker<'a, R, N> {
             let Some(Some(port)) = self.ports.get_mut(place) else {
                 continue;
             };
-            if port.is_ready || !self.asked.get(next).is_some_and(|sub| port.is_of(*sub)) {
+            if !self.asked.get(next).is_some_and(|sub| port.is_of(*sub)) {
                 continue;
             }
             next += 1;
@@ -405,6 +452,11 @@ impl<'a, R: Wait + Net + Clock, N: Named> PortWorker<'a, R, N> {
             self.after(place, is_more);
         }
     }
+}
+
+/// No stream is to go on.
+fn no_streams() -> [Option<StreamId>; STREAMS] {
+    [None; STREAMS]
 }
 
 /// The token of a port's listener, and of its connection.
@@ -451,6 +503,7 @@ impl Port {
         self.peer = None;
         self.since = Some(now);
         self.stamps.restart();
+        self.resumes = no_streams();
     }
 
     /// How it stands.
@@ -470,7 +523,7 @@ impl Port {
     }
 
     /// Serves who has connected, and tells whether more is to be done.
-    #[tactic(auto, using(crate::proofs::Own::own_nil))]
+    #[tactic(auto, using(crate::proofs::Own::own_nil, crate::proofs::Own::own_more, crate::proofs::Own::own_as))]
     fn serve<R: Wait + Clock, G: Gate>(
         &mut self,
         rt: &R,
@@ -494,12 +547,13 @@ impl Port {
             ages,
         });
         let stay = self.door.serve(&mut reader, &mut writer, gate, now);
+        let is_more = self.go_on(stay, gate);
         self.tell_seen(rt, gate, journal);
-        self.leave(rt, stay, journal, now)
+        self.leave(rt, stay, journal, now) || is_more
     }
 
     /// Hands out what waits for who has connected, and tells whether more is to be done.
-    #[tactic(auto, using(crate::proofs::Own::own_nil))]
+    #[tactic(auto, using(crate::proofs::Own::own_nil, crate::proofs::Own::own_more, crate::proofs::Own::own_as))]
     fn hand_out<R: Wait + Clock, G: Gate>(
         &mut self,
         rt: &R,
@@ -522,8 +576,35 @@ impl Port {
             ages,
         });
         let stay = self.door.hand_out(&mut writer, gate, now);
+        let is_more = self.go_on(stay, gate);
         self.tell_seen(rt, gate, journal);
-        self.leave(rt, stay, journal, now)
+        self.leave(rt, stay, journal, now) || is_more
+    }
+
+    /// Has a stream go on that is to, if it was served so that nothing waits; tells whether one does.
+    #[tactic(auto, using(crate::proofs::Own::own_nil))]
+    fn go_on<G: Gate>(&mut self, stay: Stay, gate: &mut Watched<G>) -> bool
+        ensures sub { self.new.sub ≡ self.old.sub }
+        // It posts of its own subscriber alone.
+        ensures own { OwnOnly self.old.sub (through gate.old.guarding (G.posts gate.old.gate)) (through gate.new.guarding (G.posts gate.new.gate)) }
+    {
+        if stay != Stay::Waits || self.door.is_blocked() {
+            return false;
+        }
+        let Some(place) = self.resumes.iter().position(|it| it.is_some()) else {
+            return false;
+        };
+        let next = match self.resumes.get_mut(place) {
+            Some(next) => next.take(),
+            None => None,
+        };
+        let Some(stream) = next else {
+            return false;
+        };
+        if !post_resume(self.door.sub(), stream, gate) {
+            self.resumes[place] = Some(stream);
+        }
+        true
     }
 
     /// What is told of it.
@@ -666,7 +747,11 @@ impl Port {
                 if replaced {
                     self.give_way(rt, journal, now);
                 }
-                journal.tell(rt, self.entry(Notice::Refused, Detail::Because(refusal)));
+                let detail = match (refusal, self.peer) {
+                    (Refusal::Busy, Some(peer)) => Detail::Between(address, peer),
+                    _ => Detail::Because(refusal),
+                };
+                journal.tell(rt, self.entry(Notice::Refused, detail));
             }
         }
     }
@@ -675,9 +760,8 @@ impl Port {
 impl<R: Wait + Net + Clock, N: Named> Work for PortWorker<'_, R, N> {
     fn turn(&mut self) -> bool {
         self.agenda.wait(self.rt, &mut self.waiting, self.journal);
-        let is_woken = self.waiting.is_woken();
-        if is_woken {
-            self.obey_all();
+        if self.waiting.is_woken() {
+            self.pass();
         }
         for at in 0..self.waiting.named().len() {
             if let Some(named) = self.waiting.named().get(at).copied() {
@@ -688,9 +772,6 @@ impl<R: Wait + Net + Clock, N: Named> Work for PortWorker<'_, R, N> {
             self.do_due();
         }
         self.serve_ready();
-        if is_woken {
-            self.hand_out_all();
-        }
         true
     }
 }

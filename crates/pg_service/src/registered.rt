@@ -11,6 +11,9 @@ const MOST: usize = 256;
 /// As many subscribers as a gateway has at most.
 const MOST_SUBS: usize = 64;
 
+/// As many frames as a ring holds at most.
+const MOST_ROOM: u16 = 1_024;
+
 /// What workers are to be told after an edit that was done (own rule).
 #[derive(Clone, Copy, Debug, PartialEq, Eq)]
 pub enum After {
@@ -31,10 +34,14 @@ pub enum Change {
     Adds(PmuKey),
     /// A PMU leaves the registry.
     Drops(PmuKey),
-    /// A subscriber is added.
-    Enters(SubId),
+    /// A subscriber is added, with a ring of so many frames.
+    Enters(SubId, u16),
     /// A subscriber leaves.
     Leaves(SubId),
+    /// A subscriber has one stream more.
+    Defines(SubId),
+    /// A subscriber has one stream less.
+    Removes(SubId),
     /// Something else.
     Other,
 }
@@ -45,9 +52,20 @@ impl Change {
         match edit {
             Edit::AddPmu(key) => Change::Adds(*key),
             Edit::DropPmu(key) => Change::Drops(*key),
-            Edit::AddSub(sub, ..) => Change::Enters(*sub),
+            Edit::AddSub(sub, ring, _) => Change::Enters(*sub, ring.get()),
             Edit::DropSub(sub) => Change::Leaves(*sub),
+            Edit::Define(sub, _) => Change::Defines(*sub),
+            Edit::Remove(sub, _) => Change::Removes(*sub),
             _ => Change::Other,
+        }
+    }
+
+    /// Whether it concerns the rings of subscribers, or their streams.
+    pub fn is_of_ring(&self) -> bool {
+        match self {
+            Change::Enters(..) | Change::Leaves(_) | Change::Defines(_) | Change::Removes(_) =>
+                true,
+            Change::Adds(_) | Change::Drops(_) | Change::Other => false,
         }
     }
 }
@@ -61,6 +79,8 @@ pub struct Registered {
     pub servers: Rota,
     keys: Vec<PmuKey>,
     subs: Vec<SubId>,
+    // The frames that the ring of each holds, and its streams, in the same order.
+    rings: Vec<(u16, u16)>,
 }
 
 impl Registered {
@@ -75,6 +95,7 @@ impl Registered {
             servers: Rota::new(alloc),
             keys: Vec::with_capacity(alloc, MOST)?,
             subs: Vec::with_capacity(alloc, MOST_SUBS)?,
+            rings: Vec::with_capacity(alloc, MOST_SUBS)?,
         })
     }
 
@@ -104,7 +125,33 @@ impl Registered {
     fn drop_sub(&mut self, gone: SubId) {
         if let Some(place) = self.subs.iter().position(|sub| *sub == gone) {
             self.subs.swap_remove(place);
+            if place < self.rings.len() {
+                self.rings.swap_remove(place);
+            }
         }
+    }
+
+    /// A subscriber has one stream more, or one less.
+    fn count_stream(&mut self, of: SubId, is_more: bool) {
+        let Some(place) = self.subs.iter().position(|sub| *sub == of) else {
+            return;
+        };
+        if let Some((_, streams)) = self.rings.get_mut(place) {
+            *streams = if is_more {
+                streams.saturating_add(1)
+            } else {
+                streams.saturating_sub(1)
+            };
+        }
+    }
+
+    /// How many events at least fill the ring of a subscriber, where each makes a frame of each of its streams. One at least.
+    pub fn room(&self) -> u32 {
+        let mut least = MOST_ROOM;
+        for (ring, streams) in &self.rings {
+            least = least.min((*ring / (*streams).max(1)).max(1));
+        }
+        u32::from(least)
     }
 
     /// Keeps what an edit changed that was answered so, and tells what workers are to be told.
@@ -131,8 +178,17 @@ impl Registered {
                     Ok(After::Rest(source))
                 }
             }
-            Change::Enters(sub) => {
+            Change::Enters(sub, ring) => {
                 self.subs.push(sub)?;
+                self.rings.push((ring, 0))?;
+                Ok(After::Nothing)
+            }
+            Change::Defines(sub) => {
+                self.count_stream(sub, true);
+                Ok(After::Nothing)
+            }
+            Change::Removes(sub) => {
+                self.count_stream(sub, false);
                 Ok(After::Nothing)
             }
             Change::Leaves(sub) => {

@@ -8,7 +8,7 @@ ghost use Rattle.pg_ingest.specs.Linking.{unfed};
 ghost use Rattle.pg_ingest.specs.Runs.{wires};
 ghost use Rattle.pg_ingest.specs.Served.{IsCall};
 ghost use Rattle.pg_service.specs.Lines.{Turned, hearing, settled, turn_after, unguarded, unlinked, with_plan};
-ghost use Rattle.pg_service.specs.Plans.{begun, called, due_by, ended, made, renewed, rested};
+ghost use Rattle.pg_service.specs.Plans.{asked, begun, called, due_by, ended, made, received, renewed, rested, sought};
 ghost use Rattle.pg_service.specs.Posts.{through};
 
 use crate::plan::{CallPlan, Due};
@@ -53,8 +53,8 @@ impl Model for SourceLine {
 }
 
 impl SourceLine {
-    /// The line to a source that is to be called at once. A connection may be without an event for `silence`, and its
-    /// measurements as far from this machine's clock as `guard` says; `None` is no limit.
+    /// The line to a source that is to be called at once. A connection may be silent for `silence`, and its measurements as far from this
+    /// machine's clock as `guard` says; `None` is no limit.
     ///
     /// # Errors
     ///
@@ -111,11 +111,33 @@ impl SourceLine {
         self.plan.called(now);
     }
 
+    /// Its name is looked up for a call.
+    pub fn sought(&mut self, now: Instant)
+        ensures { self.new ≡ with_plan (sought (instant_nanos now) self.old.plan) self.old }
+    {
+        self.plan.sought(now);
+    }
+
     /// The connection was made.
     pub fn made(&mut self, now: Instant)
         ensures { self.new ≡ with_plan (made (instant_nanos now) self.old.plan) self.old }
     {
         self.plan.made(now);
+    }
+
+    /// Bytes of it came.
+    pub fn received(&mut self, now: Instant)
+        ensures { self.new ≡ with_plan (received (instant_nanos now) self.old.plan) self.old }
+    {
+        self.plan.received(now);
+    }
+
+    /// It is asked again over its connection: the link starts anew, so that it owes command 5, and then command 2.
+    pub fn ask_again(&mut self)
+        ensures { self.new ≡ with_plan (asked self.old.plan) (unlinked self.old) }
+    {
+        self.link.reset();
+        self.plan.asked();
     }
 
     /// The call failed or was given up, or the connection ended: the link starts anew.
@@ -164,12 +186,15 @@ impl SourceLine {
         (self.settle(end, reader.is_used_up(), now), seen)
     }
 
-    /// The next event is waited for, where one came.
+    /// The plan goes by the announcements and measurements that came.
     fn hear(&mut self, seen: &Seen, now: Instant)
-        ensures { self.new ≡ record self.old { plan = hearing seen.now.events (instant_nanos now) seen.now.rate self.old.plan } }
+        ensures { self.new ≡ record self.old { plan = hearing seen.now (instant_nanos now) self.old.plan } }
     {
-        if seen.events > 0 {
-            self.plan.heard(now, seen.rate);
+        if let Some(rate) = seen.rate {
+            self.plan.announced(now, rate);
+        }
+        if seen.measured > 0 {
+            self.plan.measured(now);
         }
     }
 

@@ -4,19 +4,23 @@ ghost use Rattle.std.specs.Prelude.{◌≡◌, IfSome, Some, option_map, slice_g
 
 use crate::agenda::Agenda;
 use crate::board::{Board, Reach, SourceReport};
+use crate::change::ConfigChange;
+use crate::clocks::Clocks;
 use crate::counted::StopsShort;
-use crate::finder::Lookup;
-use crate::journal::{Detail, Entry, Journal, Notice, Whom};
+use crate::journal::{Detail, Entry, Journal, MOST_PMUS, Notice, Whom};
 use crate::mail::{Mailbox, PortOrder, SourceOrder};
+use crate::pace::Pace;
 use crate::plan::{Due, Phase};
+use crate::resolver::{Lookup, Resolver};
 use crate::source::{SourceLine, Turn};
 use crate::waiting::{Waiting, sooner};
 use crate::watched::{Seen, Watched};
 use mio::net::TcpStream;
 use mio::{Interest, Poll, Token};
 use pg_audit::PmuStats;
+use pg_config::SourceConfig;
 use pg_gateway::Gate;
-use pg_limits::{Budget, ClockGuard};
+use pg_limits::{Budget, ClockGuard, Portion};
 use pg_shared::{Named, SharedGate, Work};
 use pg_wire::{PmuId, Refusal};
 use std::alloc::{AllocError, Global};
@@ -24,11 +28,17 @@ use std::io::ErrorKind;
 use std::marker::Model;
 use std::net::{Net, SocketAddr};
 use std::rt::Clock;
-use std::sync::Wait;
+use std::sync::{Arc, Wait};
 use std::time::{Duration, Instant, SystemTime};
 
 /// The reads of one turn of a source.
 pub(crate) const READS: u32 = 16;
+
+/// How soon it is looked at the clocks of all sources once more, in milliseconds.
+const CLOCKS_MS: u64 = 1_000;
+
+/// The bytes of the shortest data frame: one PMU without phasors, analogs and digitals (C37.118.2, 6.3).
+const SHORTEST: usize = 22;
 
 /// Each reason for which a frame can be ignored.
 pub const REASONS: [Refusal; 40] = [
@@ -101,17 +111,26 @@ pub struct Dial {
 struct Source {
     line: SourceLine,
     address: Option<Address>,
+    // The number of its last dial, the address of its name that was found since, and whether the name is being looked up.
+    dial: u64,
+    found: Option<SocketAddr>,
+    is_sought: bool,
     stream: Option<TcpStream>,
     is_ready: bool,
     // Whether its connection has failed or it sends no more: then it is read until it has ended.
     is_ending: bool,
-    // Whether it has announced a configuration since it was called.
+    // Whether it has announced a configuration since it was called, and the last one that it announced.
     has_announced: bool,
+    config: Option<Arc<SourceConfig>>,
+    // The bytes of its data frames, as of the last one; the shortest there is before one came.
+    size: usize,
     // What its link had counted when the log was told of it last.
     told: PmuStats,
-    // The measurements that were too far from the clock, and when the last event came.
+    // The measurements that were too far from the clock, and when the last event came that was not.
     far: u64,
     heard: Option<Instant>,
+    // By how many milliseconds its last measurement was ahead of the clock, where it was refused for that.
+    off: Option<i64>,
 }
 
 /// The place of this source, if it is one of these.
@@ -122,13 +141,13 @@ fn place_of(sources: &[Source], id: PmuId) -> Option<usize>
     sources.iter().position(|it| it.line.source() == id)
 }
 
-/// Whom a worker tells what: the subscribers' workers, whom it wakes where frames were made, and who looks up names.
+/// What a worker that calls sources shares with others: the workers of subscribers, which it wakes where frames were made, and the resolver.
 #[derive(Clone, Copy)]
 pub struct Neighbours<'a> {
     /// The mailboxes of the workers that serve subscribers.
     pub ports: &'a [Mailbox<PortOrder>],
-    /// The mailbox of who looks up names.
-    pub finder: &'a Mailbox<Lookup>,
+    /// The names that wait to be looked up.
+    pub resolver: &'a Resolver,
     /// Where it is noted what was met.
     pub journal: &'a Journal,
     /// Where workers tell how their sources and ports stand.
@@ -136,9 +155,13 @@ pub struct Neighbours<'a> {
 }
 
 impl Neighbours<'_> {
-    /// Has a name looked up.
-    fn look_up<R: Wait>(&self, rt: &R, lookup: Lookup) {
-        self.finder.send(rt, self.journal, lookup);
+    /// Has a name looked up, and tells whether there was memory for it. Where there was none, that is noted.
+    fn look_up<R: Wait>(&self, rt: &R, lookup: Lookup) -> bool {
+        let is_asked = self.resolver.ask(rt, self.journal, lookup);
+        if !is_asked {
+            self.journal.note(Notice::MailFault);
+        }
+        is_asked
     }
 
     /// Wakes all workers that serve subscribers.
@@ -163,7 +186,14 @@ pub struct SourceWorker<'a, R: Wait + Net + Clock, N: Named> {
     sources: Vec<Source>,
     // The places of sources that are served, and when a source is waited for no longer.
     agenda: Agenda,
+    // How far its sources may be ahead of those who hand their frames out.
+    pace: Pace,
     clock: u64,
+    // How often a source was dialed.
+    dials: u64,
+    // How the clocks of its sources stand, and when it was looked at them last.
+    clocks: Clocks,
+    looked: Instant,
 }
 
 impl<'a, R: Wait + Net + Clock, N: Named> Model for SourceWorker<'a, R, N> {
@@ -201,7 +231,11 @@ impl<'a, R: Wait + Net + Clock, N: Named> SourceWorker<'a, R, N> {
             neighbours,
             sources: Vec::new(alloc),
             agenda: Agenda::new(alloc, now),
+            pace: Pace::new(alloc),
             clock: 0,
+            dials: 0,
+            clocks: Clocks::none(),
+            looked: now,
         }
     }
 
@@ -220,25 +254,37 @@ impl<'a, R: Wait + Net + Clock, N: Named> SourceWorker<'a, R, N> {
         let line = SourceLine::new(self.alloc, source, silence, guard, self.agenda.now)?;
         self.agenda.reserve(self.sources.len() + 1)?;
         self.agenda.due = Some(self.agenda.now);
+        self.dials = self.dials.wrapping_add(1);
+        let dial = self.dials;
         if let Some(old) = self.source_mut(source) {
             old.line = line;
             old.address = Some(address);
+            old.dial = dial;
+            old.found = None;
+            old.is_sought = false;
             old.stream = None;
             old.told = PmuStats::new();
             old.far = 0;
             old.heard = None;
+            old.off = None;
             return Ok(());
         }
         self.sources.push(Source {
             line,
             address: Some(address),
+            dial,
+            found: None,
+            is_sought: false,
             stream: None,
             is_ready: false,
             is_ending: false,
             has_announced: false,
+            config: None,
+            size: SHORTEST,
             told: PmuStats::new(),
             far: 0,
             heard: None,
+            off: None,
         })?;
         Ok(())
     }
@@ -324,8 +370,13 @@ impl<'a, R: Wait + Net + Clock, N: Named> SourceWorker<'a, R, N> {
                     source.rest();
                 }
             }
-            SourceOrder::Found(id, address) => self.connect_found(id, address),
+            SourceOrder::Found {
+                source,
+                dial,
+                address,
+            } => self.connect_found(source, dial, address),
             SourceOrder::Report(asking) => self.report(asking),
+            SourceOrder::Room(events) => self.pace.resize(events),
         }
     }
 
@@ -360,76 +411,127 @@ impl<'a, R: Wait + Net + Clock, N: Named> SourceWorker<'a, R, N> {
         board.tell_sources(self.rt, journal, asking, told);
     }
 
-    /// A source's name was looked up.
-    fn connect_found(&mut self, id: PmuId, address: Option<SocketAddr>) {
-        for place in 0..self.sources.len() {
-            let Some(source) = self.sources.get_mut(place) else {
-                return;
-            };
-            if source.line.source() == id && source.awaits_address() {
-                let entry = match address {
-                    Some(address) => source.connect(
-                        self.rt,
-                        self.waiting.poll(),
-                        place,
-                        address,
-                        self.agenda.now,
-                    ),
-                    None => {
-                        source.line.ended(self.agenda.now);
-                        source.entry(Notice::NoAddress, Detail::Nothing)
-                    }
-                };
-                self.agenda.due = Some(self.agenda.now);
-                self.neighbours.journal.tell(self.rt, entry);
-            }
+    /// A source's name was looked up: the source is called there, if its call waits for the address. It is passed over where the source was
+    /// dialed anew meanwhile.
+    fn connect_found(&mut self, id: PmuId, dial: u64, address: Option<SocketAddr>) {
+        let Some(place) = place_of(&self.sources, id) else {
+            return;
+        };
+        let Some(source) = self.sources.get_mut(place) else {
+            return;
+        };
+        if source.dial != dial {
+            return;
         }
+        source.is_sought = false;
+        source.found = address.or(source.found);
+        let entry = match address {
+            Some(address) if source.awaits_address() => source.connect(
+                self.rt,
+                self.waiting.poll(),
+                place,
+                address,
+                self.agenda.now,
+            ),
+            Some(_) => return,
+            None => {
+                if source.awaits_address() {
+                    source.line.ended(self.agenda.now);
+                }
+                source.entry(Notice::NoAddress, Detail::Nothing)
+            }
+        };
+        self.agenda.due = Some(self.agenda.now);
+        self.neighbours.journal.tell(self.rt, entry);
     }
 
     /// Does what is due by now, and finds out when something is due next.
     fn do_due(&mut self) {
         let mut next = None;
+        let mut clocks = Clocks::none();
         for place in 0..self.sources.len() {
-            let Some(source) = self.sources.get_mut(place) else {
-                break;
-            };
-            match source.line.due(self.agenda.now) {
-                Due::Nothing => {}
-                Due::Call => {
-                    if let Some(entry) = source.call(
-                        self.rt,
-                        self.alloc,
-                        self.waiting.poll(),
-                        self.number,
-                        place,
-                        self.neighbours,
-                        self.agenda.now,
-                    ) {
-                        self.neighbours.journal.tell(self.rt, entry);
-                    }
-                }
-                Due::GiveUp => {
-                    source.end(self.agenda.now);
-                    let entry = source.entry(Notice::GivenUp, Detail::Nothing);
-                    self.neighbours.journal.tell(self.rt, entry);
-                }
-                Due::Silent => {
-                    source.end(self.agenda.now);
-                    let entry = source.entry(Notice::Silent, Detail::Nothing);
-                    self.neighbours.journal.tell(self.rt, entry);
+            let due = self.do_due_of(place);
+            next = sooner(next, due);
+            if let Some(source) = self.sources.get(place) {
+                if source.line.plan().phase() == Phase::Up {
+                    clocks.add(source.off);
                 }
             }
-            let due = match source.line.plan().left(self.agenda.now) {
-                Some(left) => self.agenda.now.checked_add(left),
-                None => None,
-            };
-            next = sooner(next, due);
         }
         self.agenda.due = next;
+        self.tell_clocks(clocks);
     }
 
-    /// Serves the source at this place, whose socket is ready or whose reads were used up.
+    /// Does what is due by now of the source at this place, and tells when something is due next.
+    fn do_due_of(&mut self, place: usize) -> Option<Instant> {
+        let source = self.sources.get_mut(place)?;
+        let due = source.line.due(self.agenda.now);
+        let entry = match due {
+            Due::Nothing => None,
+            Due::Call => source.call(
+                self.rt,
+                self.alloc,
+                self.waiting.poll(),
+                self.number,
+                place,
+                self.neighbours,
+                self.agenda.now,
+            ),
+            Due::GiveUp => {
+                let notice = if source.awaits_address() {
+                    Notice::NotFound
+                } else {
+                    Notice::GivenUp
+                };
+                source.end(self.agenda.now);
+                Some(source.entry(notice, Detail::Nothing))
+            }
+            Due::Silent => {
+                source.end(self.agenda.now);
+                Some(source.entry(Notice::Silent, Detail::Nothing))
+            }
+            Due::Ask => {
+                source.line.ask_again();
+                Some(source.entry(Notice::AskedAgain, Detail::Nothing))
+            }
+        };
+        let left = source.line.plan().left(self.agenda.now);
+        if let Some(entry) = entry {
+            self.neighbours.journal.tell(self.rt, entry);
+        }
+        if due == Due::Ask {
+            // Its commands are written where it is served.
+            self.mark(place);
+        }
+        self.agenda.now.checked_add(left?)
+    }
+
+    /// Puts up at the board how the clocks of its sources stand, and reports where this machine's clock is probably the wrong one.
+    fn tell_clocks(&mut self, clocks: Clocks) {
+        let Neighbours { journal, board, .. } = self.neighbours;
+        if clocks != self.clocks {
+            self.clocks = clocks;
+            board.put_up(self.rt, journal, self.number, clocks);
+        }
+        if clocks.has_refused() {
+            if let Some(off) = board.clocks(self.rt).wrong_by() {
+                journal.tell(
+                    self.rt,
+                    Entry::new(Notice::WrongClock, Whom::Nobody, Detail::Off(off)),
+                );
+            }
+        }
+        self.looked = self.agenda.now;
+    }
+
+    /// Serves the source at this place, whose socket is ready or whose reads were used up, and wakes those who hand out the frames made.
     fn serve(&mut self, place: usize) {
+        self.read_in(place);
+        self.pace.wake(&self.neighbours);
+    }
+
+    /// Reads of the source at this place, and posts what came.
+    fn read_in(&mut self, place: usize) {
         let Some(source) = self.sources.get_mut(place) else {
             return;
         };
@@ -440,36 +542,61 @@ impl<'a, R: Wait + Net + Clock, N: Named> SourceWorker<'a, R, N> {
             }
             self.agenda.due = Some(self.agenda.now);
         }
-        let Some((turn, seen)) = source.serve(&mut self.gate, self.agenda.now, self.clock) else {
-            return;
-        };
-        if seen.made > 0 {
-            self.neighbours.wake_ports();
-        }
-        if seen.events > 0 {
-            source.heard = Some(self.agenda.now);
-        }
-        source.far = source.far.saturating_add(seen.far);
-        source.tell_seen(self.rt, self.neighbours.journal, &seen);
-        match turn {
-            Turn::Waits => {}
-            Turn::More => self.mark(place),
-            Turn::Ended(end) => {
+        for _ in 0..READS {
+            let events = self.pace.left();
+            if events == 0 {
+                break;
+            }
+            let Some((turn, seen)) = source.serve(
+                &mut self.gate,
+                events,
+                self.agenda.now,
+                self.clock,
+            ) else {
+                return;
+            };
+            if seen.makers > 0 {
+                self.pace.spend(seen.makers, &self.neighbours);
+            }
+            let is_other = source.note_seen(&seen, self.clock, self.agenda.now);
+            source.tell_seen(self.rt, &mut self.gate, self.neighbours.journal, &seen);
+            if let Turn::Ended(end) = turn {
                 let entry = source.entry(Notice::SourceEnded, Detail::Ended(end));
                 self.agenda.due = Some(self.agenda.now);
                 self.neighbours.journal.tell(self.rt, entry);
             }
+            if is_other {
+                // It is looked at the clocks of all sources, a second after the last time at the earliest.
+                let soon = self.looked.checked_add(Duration::from_millis(CLOCKS_MS));
+                self.agenda.expect(soon);
+            }
+            if turn != Turn::More {
+                return;
+            }
         }
+        self.mark(place);
     }
 
-    /// Serves those that are ready. Those whose reads are used up are served again in the next turn.
+    /// Serves those that are ready. Those whose reads are used up are served again in the next turn, and so is who is left once as many
+    /// frames are out as may be.
     fn serve_ready(&mut self) {
         self.agenda.begin();
         for at in 0..self.agenda.served() {
+            if self.pace.left() == 0 {
+                self.agenda.put_off(at);
+                break;
+            }
             if let Some(place) = self.agenda.serving(at) {
                 self.serve(place);
             }
         }
+    }
+
+    /// Finds out whether its sources are held, since as many frames are out as may be.
+    fn hold(&mut self) {
+        self.agenda.held = self
+            .pace
+            .hold(self.agenda.held, self.agenda.now, &self.neighbours);
     }
 }
 
@@ -487,7 +614,7 @@ impl Source {
             None => None,
         };
         let reach = match self.line.plan().phase() {
-            Phase::Up { .. } => Reach::Up,
+            Phase::Up => Reach::Up,
             Phase::Calling => Reach::Calling,
             Phase::Resting => match self.line.plan().left(now) {
                 Some(left) => Reach::Pause(left),
@@ -508,23 +635,63 @@ impl Source {
         })
     }
 
-    /// Tells what was met while it was served.
-    fn tell_seen<R: Wait>(&mut self, rt: &R, journal: &Journal, seen: &Seen) {
-        if let Some(rate) = seen.rate {
-            if !self.has_announced {
-                self.has_announced = true;
-                let config = Detail::Config(rate, seen.pmus);
-                journal.tell(rt, self.entry(Notice::Announced, config));
-            }
+    /// Keeps when it was heard and how far its clock is off, and tells whether its data are refused for that from now on, or no longer.
+    fn note_seen(&mut self, seen: &Seen, clock: u64, now: Instant) -> bool {
+        if seen.events > seen.far {
+            self.heard = Some(now);
         }
-        if seen.far > 0 {
-            let mut entry = self.entry(Notice::FarMeasurement, Detail::Nothing);
+        self.far = self.far.saturating_add(seen.far);
+        let was_off = self.off.is_some();
+        if seen.measured > 0 {
+            self.off = match seen.far_at {
+                Some(stamp) => Some(stamp.ahead_of(clock)),
+                None => None,
+            };
+        }
+        self.off.is_some() != was_off
+    }
+
+    /// Tells what was met while it was served.
+    fn tell_seen<R: Wait, G: Gate>(
+        &mut self,
+        rt: &R,
+        gate: &mut Watched<G>,
+        journal: &Journal,
+        seen: &Seen,
+    ) {
+        if let Some(config) = gate.take_announced() {
+            self.tell_config(rt, config, journal);
+        }
+        if let (Some(off), true) = (self.off, seen.far > 0) {
+            let mut entry = self.entry(Notice::FarMeasurement, Detail::Off(off));
             entry.times = seen.far;
             journal.tell(rt, entry);
         }
         if self.line.link().stats().by_reason != self.told.by_reason {
             self.tell_ignored(rt, journal);
         }
+    }
+
+    /// Tells of a configuration that was announced, if it is the first one of its connection or another than the last.
+    fn tell_config<R: Wait>(&mut self, rt: &R, config: Arc<SourceConfig>, journal: &Journal) {
+        let change = match &self.config {
+            Some(last) => Some(ConfigChange::between(last, &config)),
+            None => None,
+        };
+        if !self.has_announced {
+            self.has_announced = true;
+            let detail = Detail::Config(rate_of(&config), pmus_of(&config));
+            journal.tell(rt, self.entry(Notice::Announced, detail));
+        }
+        if let Some(change) = change {
+            if !change.is_nothing() {
+                journal.tell(
+                    rt,
+                    self.entry(Notice::Reconfigured, Detail::Differs(change)),
+                );
+            }
+        }
+        self.config = Some(config);
     }
 
     /// Tells for which reasons its frames were ignored since that was told last.
@@ -546,24 +713,39 @@ impl Source {
         self.told = counted;
     }
 
-    /// Serves its connection, if it stands.
+    /// Serves its connection, if it stands, by one read, in which no more than so many data frames end.
     fn serve<G: Gate>(
         &mut self,
         gate: &mut Watched<G>,
+        events: u32,
         now: Instant,
         clock: u64,
     ) -> Option<(Turn, Seen)> {
-        let Phase::Up { .. } = self.line.plan().phase() else {
+        let Phase::Up = self.line.plan().phase() else {
             return None;
         };
         let stream = self.stream.as_ref()?;
-        let mut budget = Budget::new(StopsShort::new(stream, self.is_ending), READS);
+        let most = self.size.saturating_mul(events as usize);
+        let reader = Portion::new(StopsShort::new(stream, self.is_ending), most);
+        let mut budget = Budget::new(reader, 1);
         let mut writer = stream;
         let (turn, seen) = self.line.serve(&mut budget, &mut writer, gate, now, clock);
-        if let Turn::Ended(_) = turn {
-            self.stream = None;
+        if budget.reader.reader.has_read() {
+            self.line.received(now);
         }
-        Some((turn, seen))
+        if seen.size > 0 {
+            self.size = seen.size;
+        } else if seen.rate.is_some() {
+            self.size = SHORTEST;
+        }
+        match turn {
+            Turn::More if budget.reader.reader.has_stopped() => Some((Turn::Waits, seen)),
+            Turn::Ended(_) => {
+                self.stream = None;
+                Some((turn, seen))
+            }
+            _ => Some((turn, seen)),
+        }
     }
 
     /// Whether its name is being looked up.
@@ -571,7 +753,7 @@ impl Source {
         self.stream.is_none() && self.line.plan().phase() == Phase::Calling
     }
 
-    /// Begins a call, or has its name looked up for it.
+    /// Begins a call. A name is looked up for it; where its address was found before, that is called meanwhile.
     fn call<R: Net + Wait>(
         &mut self,
         rt: &R,
@@ -582,44 +764,52 @@ impl Source {
         neighbours: Neighbours<'_>,
         now: Instant,
     ) -> Option<Entry> {
-        match self.next_address(alloc) {
-            Ok(Some(Address::Known(address))) => {
-                Some(self.connect(rt, poll, place, address, now))
+        let known = match &self.address {
+            Some(Address::Known(address)) => Some(*address),
+            Some(Address::Name(_)) => {
+                if self.seek(rt, alloc, worker, neighbours).is_err() {
+                    self.line.ended(now);
+                    let detail = Detail::System(ErrorKind::OutOfMemory);
+                    return Some(self.entry(Notice::NotMade, detail));
+                }
+                self.found
             }
-            Ok(Some(Address::Name(name))) => {
-                self.line.called(now);
-                let source = self.line.source();
-                neighbours.look_up(
-                    rt,
-                    Lookup {
-                        worker,
-                        source,
-                        name,
-                    },
-                );
-                None
-            }
-            Ok(None) => {
+            None => {
                 self.line.rest();
-                None
+                return None;
             }
-            Err(_) => {
-                self.line.ended(now);
-                Some(self.entry(Notice::NotMade, Detail::System(ErrorKind::OutOfMemory)))
+        };
+        match known {
+            Some(address) => Some(self.connect(rt, poll, place, address, now)),
+            None => {
+                self.line.sought(now);
+                None
             }
         }
     }
 
-    /// Where the next call goes to.
-    fn next_address(&self, alloc: Global) -> Result<Option<Address>, AllocError> {
-        match &self.address {
-            Some(Address::Known(address)) => Ok(Some(Address::Known(*address))),
-            Some(Address::Name(name)) => {
-                let name = String::from_str(alloc, name.as_str())?;
-                Ok(Some(Address::Name(name)))
-            }
-            None => Ok(None),
+    /// Has its name looked up, unless it is being looked up.
+    fn seek<R: Wait>(
+        &mut self,
+        rt: &R,
+        alloc: Global,
+        worker: usize,
+        neighbours: Neighbours<'_>,
+    ) -> Result<(), AllocError> {
+        let Some(Address::Name(name)) = &self.address else {
+            return Ok(());
+        };
+        if self.is_sought {
+            return Ok(());
         }
+        let lookup = Lookup {
+            worker,
+            source: self.line.source(),
+            dial: self.dial,
+            name: String::from_str(alloc, name.as_str())?,
+        };
+        self.is_sought = neighbours.look_up(rt, lookup);
+        Ok(())
     }
 
     /// Begins a connection to this address.
@@ -650,6 +840,7 @@ impl Source {
         }
         self.stream = Some(stream);
         self.is_ending = false;
+        self.size = SHORTEST;
         self.line.called(now);
         self.entry(Notice::Called, Detail::At(address))
     }
@@ -699,6 +890,23 @@ impl Source {
     }
 }
 
+/// DATA_RATE of a configuration.
+fn rate_of(config: &SourceConfig) -> i16 {
+    match config.parts.first() {
+        Some(part) => part.rate,
+        None => 0,
+    }
+}
+
+/// The IDCODEs of the PMUs of a configuration in their order, 0 behind the last.
+fn pmus_of(config: &SourceConfig) -> [u16; MOST_PMUS] {
+    let mut pmus = [0; MOST_PMUS];
+    for (place, part) in pmus.iter_mut().zip(config.parts.iter()) {
+        *place = part.id();
+    }
+    pmus
+}
+
 /// This machine's clock: milliseconds since 1970-01-01 00:00 UTC, as far as it tells.
 fn clock_ms<R: Clock>(rt: &R) -> Option<u64> {
     let now = SystemTime::now(rt).ok()?;
@@ -718,7 +926,11 @@ impl<R: Wait + Net + Clock, N: Named> Work for SourceWorker<'_, R, N> {
         if self.agenda.is_due() {
             self.do_due();
         }
-        self.serve_ready();
+        self.hold();
+        if self.agenda.held.is_none() {
+            self.serve_ready();
+            self.hold();
+        }
         true
     }
 }

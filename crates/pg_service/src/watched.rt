@@ -4,29 +4,40 @@ ghost use Rattle.std.specs.Prelude.{◌≡◌, None, true, false};
 ghost use Rattle.pg_gateway.specs.Posting.{Answers};
 ghost use Rattle.pg_service.specs.Posts.{through};
 
-use crate::journal::MOST_PMUS;
 use crate::switches::Switches;
 use pg_command::{Command, Word};
 use pg_config::SourceConfig;
 use pg_data::DataFrame;
 use pg_gateway::{Event, Gate, Reply};
-use pg_limits::ClockGuard;
+use pg_limits::{ClockGuard, Stamp};
 use pg_wire::Refusal;
 use std::mem;
+use std::sync::Arc;
+
+/// The bytes of a data frame before and behind its blocks (C37.118.2, 6.3).
+const AROUND: usize = 16;
 
 /// What went through a gate.
 #[derive(Clone, Copy, Debug, PartialEq, Eq)]
 pub struct Seen {
     /// The data frames that its events made.
     pub made: u64,
+    /// The events that made them.
+    pub makers: u64,
+    /// The bytes of the last measurement's frame, or 0.
+    pub size: usize,
     /// The announcements and measurements.
     pub events: u64,
+    /// The measurements among them.
+    pub measured: u64,
     /// DATA_RATE of the last announcement, if there was one.
     pub rate: Option<i16>,
-    /// The IDCODEs of its PMUs in their order, 0 behind the last.
-    pub pmus: [u16; MOST_PMUS],
-    /// The measurements that were too far from this machine's clock.
+    /// The measurements that were refused as too far from this machine's clock (21), by the guard or by the gateway.
     pub far: u64,
+    /// The time of the last of those.
+    pub far_at: Option<Stamp>,
+    /// The time of the last measurement.
+    pub last: Stamp,
     /// The bytes that the last drain handed out.
     pub handed: usize,
     /// The frames that were dropped before those that were handed out.
@@ -40,10 +51,18 @@ impl Seen {
     pub fn nothing() -> Seen {
         Seen {
             made: 0,
+            makers: 0,
+            size: 0,
             events: 0,
+            measured: 0,
             rate: None,
-            pmus: [0; MOST_PMUS],
             far: 0,
+            far_at: None,
+            last: Stamp {
+                soc: 0,
+                frac: 0,
+                base: 1,
+            },
             handed: 0,
             gap: 0,
             switched: Switches::none(),
@@ -52,6 +71,25 @@ impl Seen {
 }
 
 impl Seen {
+    /// A measurement of this frame goes through.
+    #[inline(always)]
+    fn note_measurement(&mut self, frame: &DataFrame) {
+        self.events = self.events.saturating_add(1);
+        self.measured = self.measured.saturating_add(1);
+        self.size = frame.body.len().saturating_add(AROUND);
+        self.last = Stamp {
+            soc: frame.soc,
+            frac: frame.frac,
+            base: frame.base(),
+        };
+    }
+
+    /// The last measurement was refused as too far from the clock.
+    fn note_far(&mut self) {
+        self.far = self.far.saturating_add(1);
+        self.far_at = Some(self.last);
+    }
+
     /// Keeps that a command switched its stream, if it did.
     fn note_switch(&mut self, switch: Option<Command>) {
         if let Some(command) = switch {
@@ -59,16 +97,6 @@ impl Seen {
             self.switched.switch(command.stream, is_on);
         }
     }
-}
-
-/// The IDCODEs of the PMUs of a configuration in their order, 0 behind the last.
-#[inline(never)]
-fn pmus_of(config: &SourceConfig) -> [u16; MOST_PMUS] {
-    let mut pmus = [0; MOST_PMUS];
-    for (place, part) in pmus.iter_mut().zip(config.parts.iter()) {
-        *place = part.id();
-    }
-    pmus
 }
 
 /// A measurement's distance from the clock is looked at.
@@ -101,6 +129,8 @@ pub struct Watched<G> {
     pub guarding: Option<Guarding>,
     /// What went through it since it was asked last.
     pub seen: Seen,
+    /// The configuration that was announced last, until it is taken.
+    pub announced: Option<Arc<SourceConfig>>,
 }
 
 impl<G: Gate> Watched<G> {
@@ -113,6 +143,7 @@ impl<G: Gate> Watched<G> {
             gate,
             guarding: None,
             seen: Seen::nothing(),
+            announced: None,
         }
     }
 
@@ -130,6 +161,14 @@ impl<G: Gate> Watched<G> {
         ensures same { self.new.guarding ≡ self.old.guarding }
     {
         mem::replace(&mut self.seen, Seen::nothing())
+    }
+
+    /// The configuration that was announced last, if one was since it was taken.
+    pub fn take_announced(&mut self) -> Option<Arc<SourceConfig>>
+        ensures gate { self.new.gate ≡ self.old.gate }
+        ensures same { self.new.guarding ≡ self.old.guarding }
+    {
+        self.announced.take()
     }
 
     /// The bytes that the last drain handed out.
@@ -174,14 +213,14 @@ impl<G: Gate> Watched<G> {
                     Some(part) => Some(part.rate),
                     None => None,
                 };
-                self.seen.pmus = pmus_of(config);
+                self.announced = Arc::try_clone(config).ok();
                 false
             }
             Event::Measure(frame) => {
-                self.seen.events = self.seen.events.saturating_add(1);
+                self.seen.note_measurement(frame);
                 let is_far = self.is_far(frame);
                 if is_far {
-                    self.seen.far = self.seen.far.saturating_add(1);
+                    self.seen.note_far();
                 }
                 is_far
             }
@@ -211,6 +250,9 @@ impl<G: Gate> Gate for Watched<G> {
         match &reply {
             Reply::Done { made, .. } => {
                 self.seen.made = self.seen.made.saturating_add(*made);
+                if *made > 0 {
+                    self.seen.makers = self.seen.makers.saturating_add(1);
+                }
                 self.seen.note_switch(switch);
             }
             Reply::Drained { out, .. } => {
@@ -220,6 +262,8 @@ impl<G: Gate> Gate for Watched<G> {
                     self.seen.gap = self.seen.gap.saturating_add(drained.gap);
                 }
             }
+            // Of all that is posted a measurement alone is refused so.
+            Reply::Refused(Refusal::FarClock) => self.seen.note_far(),
             _ => {}
         }
         reply

@@ -1,6 +1,6 @@
 //! What the log says.
 
-use crate::asked::{why, write_asked};
+use crate::asked::{why, write_asked, write_done};
 use crate::journal::{Detail, Entry, MOST_PMUS, Notice, Whom};
 use pg_ingest::End;
 use pg_wire::Refusal;
@@ -43,11 +43,14 @@ fn said(notice: Notice) -> &'static str {
         Notice::NotMade => "the call failed; it is called again",
         Notice::GivenUp => "did not answer the call within 10 seconds; it is called again",
         Notice::NoAddress => "its name has no address; it is looked up again",
+        Notice::NotFound => "no name server answers for its name since 5 seconds; it is waited for",
         Notice::SourceEnded => "the connection ended; it is called again",
-        Notice::Silent =>
-            "sent nothing that counts for as long as `silence` says; it is called again",
-        Notice::FarMeasurement =>
-            "its time is further from this machine's clock than `clock_ms` says",
+        Notice::Silent => "sent no data for as long as `silence` says; it is called again",
+        Notice::FarMeasurement => "its data are refused (21 FarClock): their time is",
+        Notice::AskedAgain => "sends no data; it is asked again for its configuration and data",
+        Notice::Reconfigured => "announced another configuration than before: it differs in",
+        Notice::WrongClock =>
+            "this machine's clock is probably wrong: for most sources the time of their data is",
         Notice::Connected => "connected",
         Notice::Foreign => "turned away, since `allow` does not name the host",
         Notice::Refused => "a connection was refused",
@@ -58,7 +61,7 @@ fn said(notice: Notice) -> &'static str {
         Notice::Replaced => "hung up, since another connection takes its place",
         Notice::NotBound => "its port can't be bound",
         // What is known beside says it.
-        Notice::NotDone => "",
+        Notice::NotDone | Notice::Edited => "",
         Notice::NotAccepted => "who wants to connect can't be accepted; tried again in a second",
         Notice::SocketFault => "a socket can't be waited for, or an option of it not be set",
         Notice::PollFault => "the system does not tell which sockets are ready",
@@ -107,12 +110,26 @@ fn write_detail<W: fmt::Write>(
         }
         Detail::Config(rate, pmus) => write_config(*rate, pmus, f),
         Detail::Stream(stream) => write!(f, " {stream}"),
+        Detail::Off(millis) => write_off(*millis, f),
+        Detail::Differs(change) => write!(f, " {change}"),
+        Detail::Between(refused, standing) => {
+            write!(f, ": {refused}, since {standing} is connected (34 Busy)")
+        }
+        Detail::Done(asked) => write_done(*asked, f),
         Detail::Edit(asked, refusal) => {
             write_asked(*asked, f)?;
             let (why, number, name) = (why(*refusal), refusal.number(), refusal.name());
             write!(f, ": {why} ({number} {name})")
         }
     }
+}
+
+/// How far a time is from this machine's clock, in seconds.
+fn write_off<W: fmt::Write>(millis: i64, f: &mut fmt::Formatter<W>) -> fmt::Result {
+    let size = millis.unsigned_abs();
+    let (seconds, rest) = (size / 1_000, size % 1_000);
+    let way = if millis < 0 { "behind" } else { "ahead of" };
+    write!(f, " {seconds}.{rest:03} s {way} this machine's clock")
 }
 
 /// The rate and the PMUs of a configuration.

@@ -102,7 +102,7 @@ fn foreign_host(rt: HostRuntime) {
     assert!(rt; door.guest().is_some());
 }
 
-/// While one connection stands another is refused (34); with `takeover` it takes its place. A door is its own subscriber's.
+/// While one connection stands another is refused (34); with `takeover` it takes its place, once that stands for 5 seconds. A door is its own subscriber's.
 #[test]
 fn one_connection(rt: HostRuntime) {
     let alloc = rt.alloc();
@@ -118,8 +118,13 @@ fn one_connection(rt: HostRuntime) {
     };
     same(&rt, first.knock(alloc, &mut gate, host(), now), busy);
     assert!(rt; first.guest().is_some());
-    let again = second.knock(alloc, &mut gate, host(), now);
+    // A connection stands for 5 seconds before another takes its place.
+    let early = after(&rt, now, 4_999);
+    same(&rt, second.knock(alloc, &mut gate, host(), early), busy);
+    let again = second.knock(alloc, &mut gate, host(), after(&rt, now, 5_000));
     same(&rt, again, Knock::Welcome { replaced: true });
+    let early = after(&rt, now, 9_999);
+    same(&rt, second.knock(alloc, &mut gate, host(), early), busy);
     assert!(rt; first.hang_up(&mut gate));
     assert!(rt; !first.hang_up(&mut gate));
     enter(&rt, alloc, &mut first, &mut gate, now);

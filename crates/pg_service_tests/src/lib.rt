@@ -5,17 +5,11 @@
 #[cfg(test)]
 mod asserts;
 #[cfg(test)]
-mod chain;
-#[cfg(test)]
 mod doors;
-#[cfg(test)]
-mod fairness;
 #[cfg(test)]
 mod frames;
 #[cfg(test)]
 mod logging;
-#[cfg(test)]
-mod loopback;
 #[cfg(test)]
 mod plans;
 #[cfg(test)]
@@ -27,8 +21,6 @@ mod sources;
 #[cfg(test)]
 mod stamping;
 #[cfg(test)]
-mod ticking;
-#[cfg(test)]
-mod turns;
+mod waking;
 #[cfg(test)]
 mod watching;

@@ -2,7 +2,7 @@
 use crate::asserts::same;
 use crate::frames::{key, source, subscriber};
 use pg_ingest::End;
-use pg_service::{Asked, Detail, Digest, Entry, Journal, Notice, Whom};
+use pg_service::{Asked, ConfigChange, Detail, Digest, Entry, Journal, Notice, Whom};
 use pg_wire::Refusal;
 use std::alloc::Global;
 use std::io::ErrorKind;
@@ -168,17 +168,33 @@ fn entries_wait(rt: HostRuntime) {
     assert!(rt; journal.count(Notice::Called) == 2 && journal.count(Notice::Made) == 2);
 }
 
-/// At most 1,024 wait; what is met then is counted as not told.
+/// Of each source and each subscriber at most 128 entries wait, whatever others do; what is met then is counted as not told.
 #[test]
 fn entries_are_bounded(rt: HostRuntime) {
     let alloc = rt.alloc();
     let journal = Journal::new(alloc).expect(&rt, "memory");
-    for number in 1..1_031 {
-        let entry = of_subscriber(&rt, number, Notice::Connected, Detail::Nothing);
-        journal.tell(&rt, entry);
+    for _ in 0..80 {
+        journal.tell(
+            &rt,
+            of_subscriber(&rt, 7, Notice::Connected, Detail::Nothing),
+        );
+        journal.tell(
+            &rt,
+            of_subscriber(&rt, 7, Notice::GuestEnded, Detail::Nothing),
+        );
     }
-    same(&rt, journal.take(&rt, alloc).len(), 1_024);
-    assert!(rt; journal.count(Notice::Connected) == 1_030 && journal.count(Notice::Untold) == 6);
+    for number in 1..65 {
+        journal.tell(
+            &rt,
+            of_subscriber(&rt, number, Notice::Stalled, Detail::Nothing),
+        );
+    }
+    journal.tell(&rt, of_source(&rt, Notice::Silent, Detail::Nothing));
+    let taken = journal.take(&rt, alloc);
+    // Sixteen ends of subscriber 7 are counted with the last one that is kept; as many connections and its stall are not told. Source 7 is another.
+    same(&rt, taken.len(), 128 + 63 + 1);
+    assert!(rt; journal.count(Notice::Connected) == 80 && journal.count(Notice::Stalled) == 64);
+    same(&rt, journal.count(Notice::Untold), 17);
 }
 
 /// An edit that is refused is told with whom it concerns, what was asked for, and why.
@@ -248,4 +264,48 @@ fn lines_of_the_log(rt: HostRuntime) {
     assert!(rt; says(gap, expected));
     let nobody = Entry::new(Notice::PollFault, Whom::Nobody, Detail::Nothing);
     assert!(rt; says(nobody, "the system does not tell which sockets are ready"));
+}
+
+/// What is said of clocks, of changed configurations and of a subscriber's second connection.
+#[test]
+fn lines_of_clocks_and_changes(rt: HostRuntime) {
+    let alloc = rt.alloc();
+    let says = |entry: Entry, expected: &str| same(
+        &rt,
+        line(&rt, alloc, &entry).as_str(),
+        expected,
+    );
+    let mut far = of_source(&rt, Notice::FarMeasurement, Detail::Off(-40_050));
+    far.times = 3;
+    says(
+        far,
+        "source 7: its data are refused (21 FarClock): their time is 40.050 s behind this machine's clock (3 frames)",
+    );
+    let ahead = of_source(&rt, Notice::FarMeasurement, Detail::Off(1_000));
+    assert!(rt; far.is_like(&ahead));
+    says(
+        Entry::new(Notice::WrongClock, Whom::Nobody, Detail::Off(3_600_000)),
+        "this machine's clock is probably wrong: for most sources the time of their data is 3600.000 s ahead of this machine's clock",
+    );
+    let mut change = ConfigChange {
+        pmus: false,
+        channels: false,
+        units: true,
+        nominal: true,
+        rate: false,
+        base: false,
+    };
+    says(
+        of_source(&rt, Notice::Reconfigured, Detail::Differs(change)),
+        "source 7: announced another configuration than before: it differs in units, FNOM",
+    );
+    assert!(rt; !change.is_nothing());
+    change.units = false;
+    change.nominal = false;
+    assert!(rt; change.is_nothing());
+    let [first, second] = [1, 2].map(|port| SocketAddr::from((Ipv4Addr::new(10, 1, 2, 3), port)));
+    says(
+        of_subscriber(&rt, 20, Notice::Refused, Detail::Between(second, first)),
+        "subscriber 20: a connection was refused: 10.1.2.3:2, since 10.1.2.3:1 is connected (34 Busy)",
+    );
 }

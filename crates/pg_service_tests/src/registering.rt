@@ -55,6 +55,21 @@ fn edits_tell_workers(rt: HostRuntime) {
     );
     let grant = Edit::Grant(subscriber(&rt, 1), key(&rt, 7));
     expect_told(&rt, &mut registered, grant, After::Nothing);
+    // A ring of 64 frames for two streams holds 32 frames of each.
+    same(&rt, registered.room(), 1_024);
+    let sub = subscriber(&rt, 1);
+    let done = is_done();
+    for (change, room) in [
+        (Change::Enters(sub, 64), 64),
+        (Change::Defines(sub), 64),
+        (Change::Defines(sub), 32),
+        (Change::Enters(subscriber(&rt, 2), 40), 32),
+        (Change::Removes(sub), 40),
+        (Change::Enters(subscriber(&rt, 3), 1), 1),
+    ] {
+        registered.note(change, &done).expect(&rt, "room");
+        same(&rt, registered.room(), room);
+    }
     assert!(rt; registered.has(source(&rt, 9)));
     assert!(rt; !registered.has(seven));
 }

@@ -5,7 +5,7 @@ use pg_fakes::{FakeGate, FakeReader, FakeWriter};
 use pg_gateway::Event;
 use pg_ingest::End;
 use pg_limits::{Budget, ClockGuard};
-use pg_service::{Due, SourceLine, StopsShort, Turn, Watched};
+use pg_service::{Clocks, Due, SourceLine, StopsShort, Turn, Watched};
 use std::alloc::Global;
 use std::io::{ErrorKind, Read};
 use std::process::Abort;
@@ -113,7 +113,7 @@ fn silent_source(rt: HostRuntime) {
     same(&rt, line.due(after(&rt, start, 10_000)), Due::Nothing);
     same(&rt, line.due(after(&rt, start, 19_000)), Due::Silent);
     line.ended(after(&rt, start, 19_000));
-    same(&rt, line.due(after(&rt, start, 19_000)), Due::Call);
+    same(&rt, line.due(after(&rt, start, 20_000)), Due::Call);
     // The link asks for CFG-2 again, and takes no data before it.
     line.called(start);
     line.made(start);
@@ -122,6 +122,37 @@ fn silent_source(rt: HostRuntime) {
     let (_, seen) = line.serve(&mut budget, &mut out, &mut gate, start, 0);
     same(&rt, seen.events, 0);
     same(&rt, out.taken.as_slice(), &ASKED_7[..18]);
+}
+
+/// A source that sends no data is asked again over its connection: its link owes commands 5 and 2 once more, and forgets half a frame.
+#[test]
+fn source_asked_again(rt: HostRuntime) {
+    let alloc = rt.alloc();
+    let start = Instant::now(&rt).expect(&rt, "a clock");
+    let silence = Some(Duration::from_secs(10));
+    let mut line = SourceLine::new(alloc, source(&rt, 7), silence, None, start).expect(
+        &rt, "memory",
+    );
+    let mut gate = Watched::new(fake_gate(alloc));
+    let mut out = writer(alloc);
+    line.called(start);
+    line.made(start);
+    // Command 2 is lost on the way, and a data frame is cut.
+    let mut bytes = stream_of(&rt, alloc, 0);
+    bytes.extend_from_slice(&DATA_7[..10]).expect(&rt, "memory");
+    let mut budget = reader(bytes.as_slice(), 4096, 1);
+    line.serve(&mut budget, &mut out, &mut gate, start, 0);
+    line.received(start);
+    same(&rt, out.taken.as_slice(), ASKED_7);
+    same(&rt, line.due(after(&rt, start, 2_999)), Due::Nothing);
+    same(&rt, line.due(after(&rt, start, 3_000)), Due::Ask);
+    line.ask_again();
+    out.taken.clear();
+    let good = stream_of(&rt, alloc, 1);
+    let mut budget = reader(good.as_slice(), 4096, 1);
+    let (turn, seen) = line.serve(&mut budget, &mut out, &mut gate, start, 0);
+    assert!(rt; turn == Turn::More && seen.events == 2 && seen.measured == 1);
+    same(&rt, out.taken.as_slice(), ASKED_7);
 }
 
 /// A connection that ends is ended for its link too, whatever was held of a frame; the pause grows without an event.
@@ -175,7 +206,17 @@ fn guarded_source(rt: HostRuntime) {
         let mut budget = reader(bytes.as_slice(), 4096, 1);
         let (_, seen) = line.serve(&mut budget, &mut out, &mut gate, now, clock);
         same(&rt, seen.far, far);
-        same(&rt, seen.events, 2);
+        assert!(rt; seen.events == 2 && seen.measured == 1);
+        let off = seen.far_at.map(|stamp| stamp.ahead_of(clock));
+        same(
+            &rt,
+            off,
+            if far == 1 {
+                Some(100_033 - clock.cast_signed())
+            } else {
+                None
+            },
+        );
         let inner = gate.into_inner();
         same(&rt, inner.calls.len(), posted);
         assert!(rt; matches!(inner.calls.first(), Some(Event::Announce(_))));
@@ -211,4 +252,25 @@ fn a_short_read_is_the_last_one(rt: HostRuntime) {
     let mut ends = StopsShort::new(&b"12"[..], true);
     same(&rt, ends.read(&mut buf).ok(), Some(2));
     same(&rt, ends.read(&mut buf).ok(), Some(0));
+}
+
+/// This machine's clock is probably wrong where more than half of the connected sources are refused for one direction, two at least; it is off
+/// by as much as the nearest of them says.
+#[test]
+fn clocks_of_sources(rt: HostRuntime) {
+    let mut own = Clocks::none();
+    own.add(Some(40_000));
+    own.add(None);
+    assert!(rt; own.has_refused() && own.wrong_by().is_none());
+    let mut others = Clocks::none();
+    others.add(Some(39_500));
+    same(&rt, own.with(others).wrong_by(), Some(39_500));
+    others.add(Some(-31_000));
+    assert!(rt; own.with(others).wrong_by().is_none());
+    let mut behind = Clocks::none();
+    for off in [-50_000i64, -31_000, -60_000] {
+        behind.add(Some(off));
+    }
+    same(&rt, behind.wrong_by(), Some(-31_000));
+    same(&rt, Clocks::none().with(Clocks::none()), Clocks::none());
 }

@@ -69,7 +69,9 @@ fn rate_is_told(rt: HostRuntime) {
     hear(&rt, alloc, &mut link, DATA_7, &mut gate);
     let seen = gate.take_seen();
     same(&rt, seen.rate, Some(30));
-    assert!(rt; seen.pmus[0] == 7 && seen.pmus[1] == 0);
+    let config = gate.take_announced().expect(&rt, "a configuration");
+    same(&rt, config.source.get(), 7);
+    assert!(rt; gate.take_announced().is_none());
     same(&rt, seen.events, 2);
     let again = gate.take_seen();
     assert!(rt; again.rate.is_none() && again.events == 0);

@@ -6,6 +6,7 @@ use pg_wire::Refusal;
 use std::alloc::Global;
 use std::io;
 use std::io::{ErrorKind, Read, Write};
+use std::time::{Duration, Instant};
 
 /// The bytes of answers that may wait for a client.
 pub const OWED_BYTES: usize = 1_048_576;
@@ -54,7 +55,7 @@ enum Flow {
 /// A client that sends lines and is answered in their order (own rule). A line of more than 4,096 bytes is answered as `BadLine`
 /// where it ends. A last line without an end is answered too. The line `end` is answered `end`. The line `quit` is answered once all
 /// answers before it are sent, and is the last: what comes behind it is passed over, and the client is closed. At most 16 lines are
-/// answered in one call. Where more than 1,048,576 bytes of answers wait, the client is closed. It knows no socket.
+/// answered in one call. Where more than 1,048,576 bytes of answers wait, the client is closed. It knows neither sockets nor clocks.
 #[derive(Drop)]
 pub struct Dialogue {
     line: Lines,
@@ -63,11 +64,13 @@ pub struct Dialogue {
     taken: usize,
     owed: Outbox,
     is_ended: bool,
+    // When bytes came last, or the client connected.
+    last: Instant,
 }
 
 impl Dialogue {
     /// A client that connects now.
-    pub fn new(alloc: Global) -> Dialogue {
+    pub fn new(alloc: Global, now: Instant) -> Dialogue {
         Dialogue {
             line: Lines::new(alloc),
             heard: Vec::new(alloc),
@@ -77,7 +80,13 @@ impl Dialogue {
                 sent: 0,
             },
             is_ended: false,
+            last: now,
         }
+    }
+
+    /// For how long it has sent nothing: since its last bytes were read, or it connected.
+    pub fn silent(&self, now: Instant) -> Duration {
+        now.saturating_duration_since(self.last)
     }
 
     /// Reads what has come, has its lines answered, and sends what goes.
@@ -86,8 +95,9 @@ impl Dialogue {
         reader: &mut R,
         writer: &mut W,
         answers: &mut A,
+        now: Instant,
     ) -> Turned {
-        let flow = self.hear(reader, answers);
+        let flow = self.hear(reader, answers, now);
         if flow == Flow::Failed {
             return Turned::Gone;
         }
@@ -106,7 +116,7 @@ impl Dialogue {
     }
 
     /// Reads and answers, so many times and lines at most.
-    fn hear<R: Read, A: Answer>(&mut self, reader: &mut R, answers: &mut A) -> Flow {
+    fn hear<R: Read, A: Answer>(&mut self, reader: &mut R, answers: &mut A, now: Instant) -> Flow {
         let mut lines = 0u32;
         for _ in 0..TURNS {
             if let Some(flow) = self.take(answers, &mut lines) {
@@ -115,7 +125,7 @@ impl Dialogue {
             if self.is_ended {
                 return self.finish(answers);
             }
-            if let Some(flow) = self.read(reader) {
+            if let Some(flow) = self.read(reader, now) {
                 return flow;
             }
         }
@@ -123,11 +133,12 @@ impl Dialogue {
     }
 
     /// Reads once, where all was taken that was read before. None where there is more to do.
-    fn read<R: Read>(&mut self, reader: &mut R) -> Option<Flow> {
+    fn read<R: Read>(&mut self, reader: &mut R, now: Instant) -> Option<Flow> {
         let mut piece = [0u8; PIECE];
         match reader.read(&mut piece) {
             Ok(0) => self.is_ended = true,
             Ok(size) => {
+                self.last = now;
                 self.heard.clear();
                 self.taken = 0;
                 if self.heard.extend_from_slice(&piece[..size]).is_err() {

@@ -16,6 +16,9 @@ const TURNS: u32 = 16;
 /// The bytes of one read.
 const PIECE: usize = 1024;
 
+/// The media type of an answer in words.
+const PLAIN: &str = "text/plain; charset=utf-8";
+
 /// How far a connection is.
 #[derive(Clone, Copy, Debug, PartialEq, Eq)]
 enum Stage {
@@ -54,8 +57,8 @@ enum Flow {
     Failed,
 }
 
-/// A connection of HTTP/1.1 that asks once, gets one answer and is closed (own rule). It lasts 5 seconds at most. It knows neither
-/// sockets nor clocks.
+/// A connection of HTTP/1.1 that asks once, gets one answer and is closed (own rule). It lasts 5 seconds at most. It is idle while it
+/// has sent nothing, and once its answer was sent. It knows neither sockets nor clocks.
 #[derive(Drop)]
 pub struct Exchange {
     alloc: Global,
@@ -63,6 +66,8 @@ pub struct Exchange {
     head: Vec<u8>,
     reply: Outbox,
     deadline: Deadline,
+    // When its answer was sent, or it was accepted.
+    since: Instant,
 }
 
 impl Exchange {
@@ -80,6 +85,30 @@ impl Exchange {
                 last: now,
                 limit: Duration::from_secs(SECONDS),
             },
+            since: now,
+        }
+    }
+
+    /// A connection that was accepted now and is served no further: it is answered 503, and to ask again in a second, whatever it sends.
+    ///
+    /// # Errors
+    ///
+    /// There is no memory: the connection is to be closed.
+    pub fn turned_away(alloc: Global, now: Instant) -> Result<Exchange, AllocError> {
+        let mut exchange = Exchange::new(alloc, now);
+        let told = "As many connections are served as may be: ask again in a second.\n";
+        let status = "503 Service Unavailable\r\nRetry-After: 1";
+        exchange.reply.bytes = reply_with(alloc, status, PLAIN, told.as_bytes(), false)?;
+        exchange.stage = Stage::Sends;
+        Ok(exchange)
+    }
+
+    /// For how long it has been idle: for none where it is not.
+    pub fn idle(&self, now: Instant) -> Duration {
+        match self.stage {
+            Stage::Hears if self.head.is_empty() => now.saturating_duration_since(self.since),
+            Stage::Sent => now.saturating_duration_since(self.since),
+            _ => Duration::ZERO,
         }
     }
 
@@ -109,7 +138,7 @@ impl Exchange {
                 Flow::Ended | Flow::Failed => Step::Gone,
             },
             Stage::Asks { shown, .. } => Step::Asks(shown),
-            Stage::Sends => self.send(writer, flow),
+            Stage::Sends => self.send(writer, flow, now),
         }
     }
 
@@ -167,10 +196,11 @@ impl Exchange {
     }
 
     /// Sends what goes of the answer, after reads that ended so.
-    fn send<W: Write>(&mut self, writer: &mut W, flow: Flow) -> Step {
+    fn send<W: Write>(&mut self, writer: &mut W, flow: Flow, now: Instant) -> Step {
         match self.reply.send(writer, TURNS) {
             Sending::Done => {
                 self.stage = Stage::Sent;
+                self.since = now;
                 if flow == Flow::Ended {
                     Step::Gone
                 } else {
@@ -220,25 +250,24 @@ fn reply_with(
 
 /// The answer to a request that is refused.
 fn refusal(alloc: Global, denial: Denial, is_head: bool) -> Result<Vec<u8>, AllocError> {
-    let plain = "text/plain; charset=utf-8";
     match denial {
         Denial::NoRequest => {
             let told = "This is no request of HTTP/1.1.\n";
-            reply_with(alloc, "400 Bad Request", plain, told.as_bytes(), is_head)
+            reply_with(alloc, "400 Bad Request", PLAIN, told.as_bytes(), is_head)
         }
         Denial::NotFound => {
             let told = "Nothing is here. There are /, /state and /metrics.\n";
-            reply_with(alloc, "404 Not Found", plain, told.as_bytes(), is_head)
+            reply_with(alloc, "404 Not Found", PLAIN, told.as_bytes(), is_head)
         }
         Denial::Method => {
             let told = "All here is read by GET or HEAD.\n";
             let status = "405 Method Not Allowed\r\nAllow: GET, HEAD";
-            reply_with(alloc, status, plain, told.as_bytes(), is_head)
+            reply_with(alloc, status, PLAIN, told.as_bytes(), is_head)
         }
         Denial::TooLarge => {
             let told = "The head of a request has at most 8192 bytes and 64 fields.\n";
             let status = "431 Request Header Fields Too Large";
-            reply_with(alloc, status, plain, told.as_bytes(), is_head)
+            reply_with(alloc, status, PLAIN, told.as_bytes(), is_head)
         }
     }
 }

@@ -13,6 +13,7 @@ mod lines;
 mod metrics;
 mod outbox;
 mod page;
+mod places;
 mod request;
 mod snapshot;
 mod status;
@@ -27,6 +28,7 @@ pub use json::state_json;
 pub use lines::{END, LINE_BYTES, LineKind, Lines, kind_of};
 pub use metrics::print_metrics;
 pub use page::page_text;
+pub use places::place_for;
 pub use request::{Denial, HEAD_BYTES, Request, Shown, read_request};
 pub use snapshot::{
     Call, Ignored, Presence, Queue, Snapshot, SourceState, StreamState, SubscriberState,

@@ -1,13 +1,16 @@
 //! Clients that send lines, over memory.
 
 use crate::asserts::same;
+use crate::exchanges::{later, now};
 use crate::wires::{Sends, Takes};
 use pg_status::{Answer, Dialogue, LINE_BYTES, LineKind, Lines, OWED_BYTES, Turned, kind_of};
 use std::alloc::Global;
 use std::io;
 use std::io::Write;
 use std::process::Abort;
+use std::rt::Clock;
 use std::test::*;
+use std::time::Duration;
 
 /// Answers each line with itself in brackets, and `large` with 600,000 bytes.
 #[derive(Drop)]
@@ -37,8 +40,9 @@ fn taker(alloc: Global) -> Takes {
 }
 
 /// What is answered to these bytes, of which each read gives so many, and then the end.
-fn answered(rt: &impl Abort, alloc: Global, bytes: &[u8], most: usize) -> Vec<u8> {
-    let mut dialogue = Dialogue::new(alloc);
+fn answered(rt: &(impl Abort + Clock), alloc: Global, bytes: &[u8], most: usize) -> Vec<u8> {
+    let start = now(rt);
+    let mut dialogue = Dialogue::new(alloc, start);
     let mut out = taker(alloc);
     let mut reader = Sends {
         left: bytes,
@@ -47,7 +51,7 @@ fn answered(rt: &impl Abort, alloc: Global, bytes: &[u8], most: usize) -> Vec<u8
         is_closed: true,
     };
     for _ in 0..10_000u32 {
-        match dialogue.serve(&mut reader, &mut out, &mut Echo) {
+        match dialogue.serve(&mut reader, &mut out, &mut Echo, start) {
             Turned::More => {}
             turned => {
                 same(rt, turned, Turned::Gone);
@@ -113,28 +117,29 @@ fn long_lines(rt: HostRuntime) {
 #[test]
 fn clients_that_read_late(rt: HostRuntime) {
     let alloc = rt.alloc();
+    let start = now(&rt);
     same(&rt, OWED_BYTES, 1_048_576);
-    let mut dialogue = Dialogue::new(alloc);
+    let mut dialogue = Dialogue::new(alloc, start);
     let mut out = taker(alloc);
     out.writes = 0;
     let mut reader = Sends::all(b"large\n");
     same(
         &rt,
-        dialogue.serve(&mut reader, &mut out, &mut Echo),
+        dialogue.serve(&mut reader, &mut out, &mut Echo, start),
         Turned::Waits,
     );
     same(
         &rt,
-        dialogue.serve(&mut reader, &mut out, &mut Echo),
+        dialogue.serve(&mut reader, &mut out, &mut Echo, start),
         Turned::Waits,
     );
     let mut reader = Sends::all(b"large\n");
     same(
         &rt,
-        dialogue.serve(&mut reader, &mut out, &mut Echo),
+        dialogue.serve(&mut reader, &mut out, &mut Echo, start),
         Turned::Gone,
     );
-    let mut dialogue = Dialogue::new(alloc);
+    let mut dialogue = Dialogue::new(alloc, start);
     let mut reader = Sends::all(b"large\n");
     out.most = 600_000;
     for _ in 0..3u32 {
@@ -142,13 +147,13 @@ fn clients_that_read_late(rt: HostRuntime) {
         reader.left = b"large\n";
         same(
             &rt,
-            dialogue.serve(&mut reader, &mut out, &mut Echo),
+            dialogue.serve(&mut reader, &mut out, &mut Echo, start),
             Turned::Waits,
         );
         out.writes = 1;
         same(
             &rt,
-            dialogue.serve(&mut reader, &mut out, &mut Echo),
+            dialogue.serve(&mut reader, &mut out, &mut Echo, start),
             Turned::Waits,
         );
     }
@@ -159,19 +164,20 @@ fn clients_that_read_late(rt: HostRuntime) {
 #[test]
 fn a_line_without_end(rt: HostRuntime) {
     let alloc = rt.alloc();
-    let mut dialogue = Dialogue::new(alloc);
+    let start = now(&rt);
+    let mut dialogue = Dialogue::new(alloc, start);
     let mut out = taker(alloc);
     let piece = [b'x'; 16_384];
     for _ in 0..64u32 {
         let mut reader = Sends::all(&piece);
         same(
             &rt,
-            dialogue.serve(&mut reader, &mut out, &mut Echo),
+            dialogue.serve(&mut reader, &mut out, &mut Echo, start),
             Turned::More,
         );
         same(
             &rt,
-            dialogue.serve(&mut reader, &mut out, &mut Echo),
+            dialogue.serve(&mut reader, &mut out, &mut Echo, start),
             Turned::Waits,
         );
         assert!(rt; reader.left.is_empty() && out.taken.is_empty());
@@ -179,7 +185,7 @@ fn a_line_without_end(rt: HostRuntime) {
     let mut reader = Sends::all(b"\na\n");
     same(
         &rt,
-        dialogue.serve(&mut reader, &mut out, &mut Echo),
+        dialogue.serve(&mut reader, &mut out, &mut Echo, start),
         Turned::Waits,
     );
     let told = b"refused 36 BadLine\n[a]\n";
@@ -190,7 +196,8 @@ fn a_line_without_end(rt: HostRuntime) {
 #[test]
 fn sixteen_lines_a_call(rt: HostRuntime) {
     let alloc = rt.alloc();
-    let mut dialogue = Dialogue::new(alloc);
+    let start = now(&rt);
+    let mut dialogue = Dialogue::new(alloc, start);
     let mut out = taker(alloc);
     let mut text = Vec::new(alloc);
     for _ in 0..40u32 {
@@ -203,7 +210,7 @@ fn sixteen_lines_a_call(rt: HostRuntime) {
         (40, Turned::Waits),
         (40, Turned::Waits),
     ] {
-        let told = dialogue.serve(&mut reader, &mut out, &mut Echo);
+        let told = dialogue.serve(&mut reader, &mut out, &mut Echo, start);
         assert_eq!(rt; told, turned, "{lines}");
         same(&rt, out.taken.len(), lines.saturating_mul(4));
     }
@@ -212,7 +219,7 @@ fn sixteen_lines_a_call(rt: HostRuntime) {
     let mut reader = Sends::all(&empty);
     same(
         &rt,
-        dialogue.serve(&mut reader, &mut out, &mut Echo),
+        dialogue.serve(&mut reader, &mut out, &mut Echo, start),
         Turned::More,
     );
     same(&rt, out.taken.len(), 40 * 4 + 16 * 3);
@@ -237,6 +244,7 @@ fn kinds_of_lines(rt: HostRuntime) {
 #[test]
 fn quit_is_the_last_line(rt: HostRuntime) {
     let alloc = rt.alloc();
+    let start = now(&rt);
     let text = b"one\r\nend\n quit \r\ntwo\n";
     same(
         &rt,
@@ -248,29 +256,52 @@ fn quit_is_the_last_line(rt: HostRuntime) {
         answered(&rt, alloc, b"a\nquit", 9).as_slice(),
         b"[a]\n[quit]\n".as_slice(),
     );
-    let mut dialogue = Dialogue::new(alloc);
+    let mut dialogue = Dialogue::new(alloc, start);
     let mut out = taker(alloc);
     out.writes = 0;
     let mut reader = Sends::all(b"one\nquit\ntwo\n");
     for _ in 0..3u32 {
         same(
             &rt,
-            dialogue.serve(&mut reader, &mut out, &mut Echo),
+            dialogue.serve(&mut reader, &mut out, &mut Echo, start),
             Turned::Waits,
         );
     }
     out.writes = 1;
     same(
         &rt,
-        dialogue.serve(&mut reader, &mut out, &mut Echo),
+        dialogue.serve(&mut reader, &mut out, &mut Echo, start),
         Turned::More,
     );
     same(&rt, out.taken.as_slice(), b"[one]\n".as_slice());
     out.writes = 9;
     same(
         &rt,
-        dialogue.serve(&mut reader, &mut out, &mut Echo),
+        dialogue.serve(&mut reader, &mut out, &mut Echo, start),
         Turned::Gone,
     );
     same(&rt, out.taken.as_slice(), b"[one]\n[quit]\n".as_slice());
+}
+
+/// A client is silent since its last bytes came, whole line or not, and not since it was served last.
+#[test]
+fn silent_since_the_last_bytes(rt: HostRuntime) {
+    let alloc = rt.alloc();
+    let start = now(&rt);
+    let mut dialogue = Dialogue::new(alloc, start);
+    let mut out = taker(alloc);
+    same(&rt, dialogue.silent(start), Duration::ZERO);
+    let rows: [(u64, &[u8], u64); 4] = [
+        (1_000, b"", 1_000),
+        (2_000, b"on", 0),
+        (60_000, b"", 58_000),
+        (61_000, b"e\n", 0),
+    ];
+    for (millis, bytes, silent) in rows {
+        let at = later(&rt, start, millis);
+        let turned = dialogue.serve(&mut Sends::all(bytes), &mut out, &mut Echo, at);
+        same(&rt, turned, Turned::Waits);
+        same(&rt, dialogue.silent(at), Duration::from_millis(silent));
+    }
+    same(&rt, out.taken.as_slice(), b"[one]\n".as_slice());
 }

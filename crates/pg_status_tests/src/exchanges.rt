@@ -17,6 +17,10 @@ const ANSWER: &str = "HTTP/1.1 200 OK\r\nContent-Type: text/plain; version=0.0.4
 const ALONE: &str = "HTTP/1.1 200 OK\r\nContent-Type: application/json\r\n\
     Content-Length: 5\r\nCache-Control: no-store\r\nConnection: close\r\n\r\n";
 
+const TURNED_AWAY: &str = "HTTP/1.1 503 Service Unavailable\r\nRetry-After: 1\r\n\
+    Content-Type: text/plain; charset=utf-8\r\nContent-Length: 65\r\nCache-Control: no-store\r\nConnection: close\r\n\r\n\
+    As many connections are served as may be: ask again in a second.\n";
+
 /// A request and the beginning of its answer, a line each.
 const REFUSED: &str = "\
 GET /a HTTP/1.1=HTTP/1.1 404 Not Found\r\nContent-Type: text/plain; charset=utf-8\r\nContent-Length: 51\r\n
@@ -24,11 +28,13 @@ HEAD /a HTTP/1.1=HTTP/1.1 404 Not Found\r\nContent-Type: text/plain; charset=utf
 PUT / HTTP/1.1=HTTP/1.1 405 Method Not Allowed\r\nAllow: GET, HEAD\r\nContent-Type: text/plain; charset=utf-8\r\nContent-Length: 33\r\n
 no request=HTTP/1.1 400 Bad Request\r\nContent-Type: text/plain; charset=utf-8\r\nContent-Length: 32\r\n";
 
-fn now(rt: &(impl Abort + Clock)) -> Instant {
+/// This moment.
+pub fn now(rt: &(impl Abort + Clock)) -> Instant {
     Instant::now(rt).expect(rt, "a clock")
 }
 
-fn later(rt: &impl Abort, from: Instant, millis: u64) -> Instant {
+/// The moment so many milliseconds later.
+pub fn later(rt: &impl Abort, from: Instant, millis: u64) -> Instant {
     from.checked_add(Duration::from_millis(millis))
         .expect(rt, "a time")
 }
@@ -244,4 +250,61 @@ fn slow_clients(rt: HostRuntime) {
         Step::Waits,
     );
     same(&rt, exchange.serve(&mut quiet, &mut out, at), Step::Gone);
+}
+
+/// A connection that is turned away gets its 503 in one write before it asks, and then all that it sends is read, so that it is not reset.
+#[test]
+fn turned_away(rt: HostRuntime) {
+    let alloc = rt.alloc();
+    let start = now(&rt);
+    let mut exchange = Exchange::turned_away(alloc, start).expect(&rt, "memory");
+    let mut out = taker(alloc);
+    out.writes = 1;
+    let mut reader = Sends::all(b"");
+    same(
+        &rt,
+        exchange.serve(&mut reader, &mut out, start),
+        Step::Sent,
+    );
+    same(&rt, out.taken.as_slice(), TURNED_AWAY.as_bytes());
+    let mut reader = Sends::all(METRICS);
+    same(
+        &rt,
+        exchange.serve(&mut reader, &mut out, start),
+        Step::Waits,
+    );
+    assert!(rt; reader.left.is_empty());
+    reader.is_closed = true;
+    same(
+        &rt,
+        exchange.serve(&mut reader, &mut out, start),
+        Step::Gone,
+    );
+    same(&rt, out.taken.as_slice(), TURNED_AWAY.as_bytes());
+}
+
+/// A connection is idle until it sends, and once its answer was sent.
+#[test]
+fn idle_connections(rt: HostRuntime) {
+    let alloc = rt.alloc();
+    let start = now(&rt);
+    let at = later(&rt, start, 700);
+    let last = later(&rt, start, 2_000);
+    let mut exchange = Exchange::new(alloc, start);
+    let mut out = taker(alloc);
+    same(&rt, exchange.idle(start), Duration::ZERO);
+    let step = exchange.serve(&mut Sends::all(b""), &mut out, at);
+    same(&rt, step, Step::Waits);
+    same(&rt, exchange.idle(at), Duration::from_millis(700));
+    let step = exchange.serve(&mut Sends::all(b"GET"), &mut out, at);
+    same(&rt, step, Step::Waits);
+    same(&rt, exchange.idle(last), Duration::ZERO);
+    let rest = b" /metrics HTTP/1.1\r\n\r\n";
+    let step = exchange.serve(&mut Sends::all(rest), &mut out, at);
+    same(&rt, step, Step::Asks(Shown::Metrics));
+    exchange.answer(b"up 1\n").expect(&rt, "memory");
+    same(&rt, exchange.idle(last), Duration::ZERO);
+    let step = exchange.serve(&mut Sends::all(b""), &mut out, at);
+    same(&rt, step, Step::Sent);
+    same(&rt, exchange.idle(last), Duration::from_millis(1_300));
 }

@@ -16,6 +16,8 @@ mod exchanges;
 #[cfg(test)]
 mod fixture;
 #[cfg(test)]
+mod placed;
+#[cfg(test)]
 mod printed;
 #[cfg(test)]
 mod state;

@@ -5,7 +5,7 @@ use crate::entrance::{ACCEPTED, Entrance};
 use mio::net::{UnixListener, UnixStream};
 use mio::{Interest, Poll, Token};
 use pg_service::{Detail, Entry, Journal, Notice, Whom};
-use pg_status::{BUSY, Dialogue, Turned};
+use pg_status::{BUSY, Dialogue, Turned, place_for};
 use std::alloc::Global;
 use std::io;
 use std::io::{ErrorKind, Write};
@@ -14,6 +14,9 @@ use std::time::{Duration, Instant};
 
 /// How many may write lines at a time (own rule).
 pub(crate) const SPEAKERS: usize = 8;
+
+/// How long a client has to have sent nothing before it is closed for one that connects, in seconds.
+const SILENT_SECONDS: u64 = 60;
 
 /// Who writes lines.
 #[derive(Drop)]
@@ -25,10 +28,10 @@ struct Speaker {
 
 impl Speaker {
     /// Has its lines answered, and tells whether it stays.
-    fn serve<C: Clerk>(&mut self, clerk: &mut C) -> bool {
+    fn serve<C: Clerk>(&mut self, clerk: &mut C, now: Instant) -> bool {
         let mut reader = &self.stream;
         let mut writer = &self.stream;
-        match self.dialogue.serve(&mut reader, &mut writer, clerk) {
+        match self.dialogue.serve(&mut reader, &mut writer, clerk, now) {
             Turned::Waits => {
                 self.is_ready = false;
                 true
@@ -93,7 +96,7 @@ impl Desk {
         }
     }
 
-    /// Accepts who wants to connect, and serves each that is ready once.
+    /// Serves each client that is ready once, and then accepts those that want to connect: so the place of one that has ended is free.
     pub(crate) fn turn<R: Wait, C: Clerk>(
         &mut self,
         rt: &R,
@@ -102,19 +105,19 @@ impl Desk {
         journal: &Journal,
         now: Instant,
     ) {
-        self.accept(rt, poll, journal, now);
         for place in self.speakers.iter_mut() {
             let stays = match place {
-                Some(speaker) if speaker.is_ready => speaker.serve(clerk),
+                Some(speaker) if speaker.is_ready => speaker.serve(clerk, now),
                 _ => true,
             };
             if !stays {
                 *place = None;
             }
         }
+        self.accept(rt, poll, journal, now);
     }
 
-    /// Accepts who wants to connect.
+    /// Accepts those that want to connect.
     fn accept<R: Wait>(&mut self, rt: &R, poll: &Poll, journal: &Journal, now: Instant) {
         for _ in 0..ACCEPTED {
             let Some(entrance) = &mut self.entrance else {
@@ -126,7 +129,7 @@ impl Desk {
             match entrance.listener.accept() {
                 Ok((stream, _)) => {
                     entrance.go_on();
-                    self.admit(rt, poll, journal, stream);
+                    self.admit(rt, poll, journal, stream, now);
                 }
                 Err(error) if error.kind() == ErrorKind::WouldBlock => entrance.rest(),
                 Err(error) => {
@@ -138,9 +141,18 @@ impl Desk {
         }
     }
 
-    /// Lets a connection in, or tells it that there is no place and closes it.
-    fn admit<R: Wait>(&mut self, rt: &R, poll: &Poll, journal: &Journal, mut stream: UnixStream) {
-        let Some(place) = self.speakers.iter().position(|it| it.is_none()) else {
+    /// Lets a connection in. Where all places are taken, the client that has been silent longest, and for 60 seconds at least, is closed
+    /// for it; where no client has been, the connection is answered `Busy` and closed.
+    fn admit<R: Wait>(
+        &mut self,
+        rt: &R,
+        poll: &Poll,
+        journal: &Journal,
+        mut stream: UnixStream,
+        now: Instant,
+    ) {
+        let least = Duration::from_secs(SILENT_SECONDS);
+        let Some(place) = place_for(&self.silent(now), least) else {
             // A new connection has room for a line; one that has none is closed without it.
             let _ = (&stream).write(BUSY);
             return;
@@ -152,12 +164,23 @@ impl Desk {
             journal.tell(rt, entry);
             return;
         }
-        if let Some(free) = self.speakers.get_mut(place) {
-            *free = Some(Speaker {
+        if let Some(taken) = self.speakers.get_mut(place) {
+            *taken = Some(Speaker {
                 stream,
-                dialogue: Dialogue::new(self.alloc),
+                dialogue: Dialogue::new(self.alloc, now),
                 is_ready: true,
             });
         }
+    }
+
+    /// For how long the client of each place has been silent.
+    fn silent(&self, now: Instant) -> [Duration; SPEAKERS] {
+        let mut silent = [Duration::MAX; SPEAKERS];
+        for (silent, speaker) in silent.iter_mut().zip(self.speakers.iter()) {
+            if let Some(speaker) = speaker {
+                *silent = speaker.dialogue.silent(now);
+            }
+        }
+        silent
     }
 }

@@ -5,16 +5,23 @@ use crate::sight::Sight;
 use mio::net::{TcpListener, TcpStream};
 use mio::{Interest, Poll, Token};
 use pg_service::{Detail, Entry, Journal, Notice, Whom};
-use pg_status::{Exchange, Step};
-use std::alloc::Global;
+use pg_status::{Exchange, Step, place_for};
+use std::alloc::{AllocError, Global};
 use std::io;
 use std::io::ErrorKind;
 use std::net::Shutdown;
 use std::sync::Wait;
 use std::time::{Duration, Instant};
 
-/// How many may look at a time (own rule).
-pub(crate) const VISITORS: usize = 16;
+/// The connections that are served at a time (own rule).
+const SERVED: usize = 16;
+
+/// The connections that are answered 503 at a time. One more closes the first of them, which was given its answer in an earlier turn,
+/// since a turn accepts no more than these.
+const TURNED_AWAY: usize = ACCEPTED as usize;
+
+/// How long a connection has to have been idle before it is closed for a new one, in milliseconds.
+const IDLE_MS: u64 = 1_000;
 
 /// The steps of one connection in one turn: what it asks for, and the answer.
 const STEPS: u32 = 2;
@@ -70,7 +77,10 @@ impl Visitor {
 pub(crate) struct Hall {
     alloc: Global,
     entrance: Option<Entrance<TcpListener>>,
+    // Those that are served, and behind these those that are answered 503.
     visitors: Vec<Option<Visitor>>,
+    // Where the next one goes that is answered 503, counted behind those that are served.
+    next: usize,
     // The token of the listener; those of the connections follow it.
     first: usize,
 }
@@ -78,14 +88,15 @@ pub(crate) struct Hall {
 impl Hall {
     /// Nothing is shown.
     pub(crate) fn new(alloc: Global, first: usize) -> io::Result<Hall> {
-        let mut visitors = Vec::with_capacity(alloc, VISITORS)?;
-        for _ in 0..VISITORS {
+        let mut visitors = Vec::with_capacity(alloc, SERVED + TURNED_AWAY)?;
+        for _ in 0..SERVED + TURNED_AWAY {
             visitors.push(None)?;
         }
         Ok(Hall {
             alloc,
             entrance: None,
             visitors,
+            next: 0,
             first,
         })
     }
@@ -131,7 +142,8 @@ impl Hall {
         }
     }
 
-    /// Accepts who wants to connect, and serves each that is ready or overdue once.
+    /// Serves each connection that is ready or overdue once, and then accepts those that want to connect: so what has come of one is
+    /// read before it counts as idle, and the place of one that has ended is free.
     pub(crate) fn turn<R: Wait>(
         &mut self,
         rt: &R,
@@ -140,7 +152,6 @@ impl Hall {
         journal: &Journal,
         now: Instant,
     ) {
-        self.accept(rt, poll, journal, now);
         for place in self.visitors.iter_mut() {
             let stays = match place {
                 Some(visitor) if visitor.left(now).is_zero() => visitor.serve(sight, now),
@@ -150,9 +161,10 @@ impl Hall {
                 *place = None;
             }
         }
+        self.accept(rt, poll, journal, now);
     }
 
-    /// Accepts who wants to connect.
+    /// Accepts those that want to connect.
     fn accept<R: Wait>(&mut self, rt: &R, poll: &Poll, journal: &Journal, now: Instant) {
         for _ in 0..ACCEPTED {
             let Some(entrance) = &mut self.entrance else {
@@ -176,7 +188,8 @@ impl Hall {
         }
     }
 
-    /// Lets a connection in, or closes it where there is no place.
+    /// Lets a connection in. Where all places are taken, the connection that has been idle longest, and for a second at least, is closed
+    /// for it; where none has been, it is answered 503.
     fn admit<R: Wait>(
         &mut self,
         rt: &R,
@@ -185,7 +198,8 @@ impl Hall {
         mut stream: TcpStream,
         now: Instant,
     ) {
-        let Some(place) = self.visitors.iter().position(|it| it.is_none()) else {
+        let Ok((place, exchange)) = self.place_of_new(now) else {
+            // Without memory it is closed.
             return;
         };
         let token = Token(self.first.saturating_add(1).saturating_add(place));
@@ -195,12 +209,34 @@ impl Hall {
             journal.tell(rt, entry);
             return;
         }
-        if let Some(free) = self.visitors.get_mut(place) {
-            *free = Some(Visitor {
+        if let Some(taken) = self.visitors.get_mut(place) {
+            *taken = Some(Visitor {
                 stream,
-                exchange: Exchange::new(self.alloc, now),
+                exchange,
                 is_ready: true,
             });
         }
+    }
+
+    /// The place of a new connection, and what is done with it there.
+    fn place_of_new(&mut self, now: Instant) -> Result<(usize, Exchange), AllocError> {
+        let least = Duration::from_millis(IDLE_MS);
+        if let Some(place) = place_for(&self.idle(now), least) {
+            return Ok((place, Exchange::new(self.alloc, now)));
+        }
+        let place = SERVED.saturating_add(self.next);
+        self.next = self.next.saturating_add(1) % TURNED_AWAY;
+        Ok((place, Exchange::turned_away(self.alloc, now)?))
+    }
+
+    /// For how long the connection of each place has been idle, of those that are served.
+    fn idle(&self, now: Instant) -> [Duration; SERVED] {
+        let mut idle = [Duration::MAX; SERVED];
+        for (idle, visitor) in idle.iter_mut().zip(self.visitors.iter()) {
+            if let Some(visitor) = visitor {
+                *idle = visitor.exchange.idle(now);
+            }
+        }
+        idle
     }
 }

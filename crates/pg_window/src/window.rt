@@ -25,8 +25,9 @@ const PAGE: usize = LINES + 1 + SPEAKERS;
 
 /// A worker that serves the control socket and the page (own rule). A turn waits until a socket is ready, or it is woken, or a
 /// connection has lasted as long as it may. Then each connection that is ready is served once. At most 8 connections write lines, and
-/// at most 16 look at the page or the metrics; one more is closed at once. Where the page is served, the clerk is asked once a second
-/// for what it shows.
+/// at most 16 look at the page or the metrics. For one more the client is closed that has been silent longest, and for 60 seconds at
+/// least, or the connection that has been idle longest, and for a second at least; without such a one it is answered `Busy`, or 503, and
+/// closed. Where the page is served, the clerk is asked once a second for what it shows.
 #[derive(Drop)]
 pub struct Window<'a, R: Wait + Clock + Net, C: Clerk + Drop> {
     rt: &'a R,

@@ -10,7 +10,7 @@ returns g c =
     let link = c.run_guarded-end.new.link in
     let seen = c.take_seen-seen.result in
     let now = instant_nanos c.args.now in
-    let heard = λ (l : Line). settled c.run_guarded-end.result now (record l { link = link; plan = hearing seen.events now seen.rate l.plan }) in
+    let heard = λ (l : Line). settled c.run_guarded-end.result now (record l { link = link; plan = hearing seen now l.plan }) in
     let same = ap (λ x. through x (g.G.Gate.posts c.take_seen-seen.new.self.gate)) c.take_seen-seen.ensures.same
     ∙ ap (λ x. through c.run_guarded-end.new.gate.guarding (g.G.Gate.posts x)) c.take_seen-seen.ensures.gate in
     record {

@@ -1,0 +1,36 @@
+-- How far one who makes frames may be ahead of those who hand them out.
+use Rattle.std.specs.Prelude.{ℕ, ◌+◌, ◌-◌, ◌*◌, ◌^◌, min, max, Bool, nat_le}
+
+-- how many events may make frames before those that were made are known to be handed out, those of them before the mark that are not, and
+-- those since
+pub record Account : Type 0 where
+  pub most : ℕ
+  pub before : ℕ
+  pub since : ℕ
+
+-- nothing is out
+abbrev pub untouched : ℕ → Account
+untouched most = record { most = max most 1; before = 0; since = 0 }
+
+-- how many more may make frames
+abbrev pub left_of : Account → ℕ
+left_of a = a.most - (a.before + a.since)
+
+-- as many are handed out as is worth going on for: half of all, and where all are an odd number one more
+abbrev pub is_half_free : Account → Bool
+is_half_free a = nat_le a.most (2 * left_of a)
+
+abbrev pub capped : ℕ → ℕ
+capped n = min n (2 ^ 32 - 1)
+
+-- so many more made frames
+abbrev pub spent : ℕ → Account → Account
+spent n a = record a { since = capped (a.since + n) }
+
+-- the mark is set behind all that made frames
+abbrev pub marked : Account → Account
+marked a = record a { before = capped (a.before + a.since); since = 0 }
+
+-- what stands before the mark is handed out
+abbrev pub confirmed : Account → Account
+confirmed a = record a { before = 0 }

@@ -1,0 +1,2 @@
+-- Lemmas of the running program.
+pub mod Joined

@@ -1,0 +1,97 @@
+//! Streams that a reload removes while they are on.
+
+use pg_console::Told;
+use pg_gateway::{Edit, Event, Gate, Reply};
+use pg_operator::Setup;
+use pg_service::Watched;
+use pg_stream::Definition;
+use pg_wire::{StreamId, SubId};
+use std::alloc::{AllocError, Global};
+use std::sync::Wait;
+
+/// The streams of a subscriber at most.
+const STREAMS: u8 = 8;
+
+/// A stream that is on and is removed by a reload (own rule).
+#[derive(Drop)]
+pub(crate) struct Started {
+    sub: SubId,
+    stream: StreamId,
+    // Whether it is defined anew with the same members in the same order.
+    goes_on: bool,
+}
+
+impl Started {
+    /// Has it go on, or its subscriber hung up, so that no stream falls silent, or has other members, under an open connection.
+    pub(crate) fn follow<R: Wait>(&self, rt: &R, told: Told<'_>) {
+        if self.goes_on {
+            told.resume(rt, self.sub, self.stream);
+        } else {
+            told.hang_up(rt, self.sub);
+        }
+    }
+}
+
+/// The streams that these edits remove and that are on by now. `old` is the setup in force.
+///
+/// # Errors
+///
+/// There is no memory for them.
+pub(crate) fn started_streams<G: Gate>(
+    alloc: Global,
+    gate: &mut Watched<G>,
+    old: &Setup,
+    edits: &[Edit],
+) -> Result<Vec<Started>, AllocError> {
+    let mut started = Vec::new(alloc);
+    for edit in edits {
+        if let Edit::Remove(sub, stream) = edit {
+            if is_on(gate, *sub, *stream) {
+                let before = definition_in(old.edits.as_slice(), *sub, *stream);
+                let after = definition_in(edits, *sub, *stream);
+                let goes_on = have_same_members(before, after);
+                started.push(Started {
+                    sub: *sub,
+                    stream: *stream,
+                    goes_on,
+                })?;
+            }
+        }
+    }
+    Ok(started)
+}
+
+/// Whether a stream is on.
+fn is_on<G: Gate>(gate: &mut Watched<G>, sub: SubId, stream: StreamId) -> bool {
+    for place in 0..STREAMS {
+        let Reply::Standing(standing) = gate.post(Event::Standing(sub, place)) else {
+            return false;
+        };
+        match standing.stream {
+            Some(found) if found.stream == stream => return found.is_on,
+            Some(_) => {}
+            None => return false,
+        }
+    }
+    false
+}
+
+/// How these edits define a stream, if they do.
+fn definition_in(edits: &[Edit], sub: SubId, stream: StreamId) -> Option<&Definition> {
+    for edit in edits {
+        if let Edit::Define(of, definition) = edit {
+            if *of == sub && definition.stream == stream {
+                return Some(definition);
+            }
+        }
+    }
+    None
+}
+
+/// Whether both have the same members in the same order.
+fn have_same_members(before: Option<&Definition>, after: Option<&Definition>) -> bool {
+    match (before, after) {
+        (Some(before), Some(after)) => before.members.as_slice() == after.members.as_slice(),
+        _ => false,
+    }
+}

@@ -1,0 +1,297 @@
+"""The control socket: which user may connect, how lines are answered, and that no client of it costs another one anything."""
+import os
+import signal
+import socket
+import stat
+import time
+
+from peers import PATIENCE, Pair, expect, metrics, pmu, same, subscriber, takes, until
+
+
+class Client:
+    """A client of the control socket."""
+
+    def __init__(self, bench, path, seconds=PATIENCE):
+        self.socket, self.got = socket.socket(socket.AF_UNIX), bytearray()
+        bench.made.append(self)
+        self.socket.settimeout(seconds)
+        self.socket.connect(path)
+
+    def send(self, what):
+        self.socket.sendall(what)
+
+    def gets(self, wanted):
+        """These bytes come next."""
+        while len(self.got) < len(wanted):
+            piece = self.socket.recv(1 << 16)
+            if not piece:
+                break
+            self.got += piece
+        same(bytes(self.got[:len(wanted)]), wanted)
+        del self.got[:len(wanted)]
+
+    def is_closed(self):
+        """Whether nothing more comes, and the connection ends."""
+        try:
+            return not self.got and not self.socket.recv(1)
+        except ConnectionError:
+            return True
+        except socket.timeout:
+            return False
+
+    def close(self):
+        self.socket.close()
+
+
+def controlled(bench, **keys):
+    """A pair whose gateway has a control socket: the pair, and the socket's path."""
+    pair, path = Pair(bench, **keys), f"{bench.folder}/setup.control"
+    pair.text = f'control = "{path}"\n' + pair.text
+    return pair, path
+
+
+def test_lines_of_the_control_socket(bench):
+    """Lines of one write are answered in their order, and one whose end comes later; `end` is answered `end`. Standard output has none."""
+    pair, path = controlled(bench)
+    gateway = pair.run()
+    one, other = Client(bench, path), Client(bench, path)
+    one.send(b"pmustats 7\n\n# nothing\npmustats 77\nend\nstats")
+    one.gets(b"pmustats taken 0\nrefused 23 NoSuchPmu\nend\n")
+    other.send(b"grant 1 9\n")
+    other.gets(b"done 0 0\n")
+    one.send(b" 20\n")
+    one.gets(b"stats made 0 dropped 0 lost 0 late 0 twice 0 cleared 0 handed 0 replies 0\n")
+    gateway.does("revoke 1 9", "done 0 0")
+    gateway.quit()
+
+
+def test_ctl(bench):
+    """`pdcgw ctl` prints the answers; its status is 1 where a line is refused, and where no gateway listens."""
+    pair, path = controlled(bench)
+    gateway = pair.run()
+    same(gateway.ctl("addpmu 8", "grant 1 8", "pmustats 8"), (0, "done 0 0\ndone 0 0\npmustats taken 0\n", ""))
+    status, out, errors = gateway.ctl("stats 77", "grant 1 9")
+    same((status, out), (1, "refused 26 NoSuchSub\ndone 0 0\n"))
+    expect(errors.startswith(f"{path}: a line was refused; "), errors)
+    same(gateway.ctl("quit"), (0, "", ""))
+    same(gateway.ended(3), 0)
+    expect(not os.path.exists(path), "the socket goes with the service")
+    status, out, errors = gateway.ctl("status")
+    same((status, out), (1, ""))
+    expect(errors.startswith(f"{path}: there is no such file; ") and errors.endswith("pdcgw: 39 ReadFault\n"), errors)
+
+
+def test_quit_at_the_control_socket_ends_the_program(bench):
+    """`quit` there ends the program within a second, though standard input stays open; answers before it are sent, lines behind it ignored."""
+    pair, path = controlled(bench)
+    gateway = pair.run()
+    pair.start()
+    client = Client(bench, path)
+    time.sleep(1.2)
+    begun = time.monotonic()
+    client.send(b"pmustats 7\nquit\naddpmu 8\n")
+    client.gets(b"pmustats taken 0\n")
+    same(gateway.ended(5), 0)
+    took = time.monotonic() - begun
+    expect(took < 1.2, f"the program ended {took:.2f} s after `quit`")
+    expect(client.is_closed() and pair.second.is_closed(1), "connections end with the program")
+
+
+def test_a_ninth_client_is_refused(bench):
+    """The ninth of nine clients is answered 34 and closed, the others are answered; a place that was left is taken again."""
+    pair, path = controlled(bench)
+    gateway = pair.run()
+    clients = [Client(bench, path) for _ in range(9)]
+    clients[8].gets(b"refused 34 Busy\n")
+    expect(clients[8].is_closed(), "the ninth client was not closed")
+    for client in clients[:8]:
+        client.send(b"pmustats 7\n")
+        client.gets(b"pmustats taken 0\n")
+        expect(not client.got, "more came than the answer")
+    status, out, errors = gateway.ctl("status")
+    same((status, out), (1, "refused 34 Busy\n"))
+    expect(errors.startswith(f"{path}: 8 clients are connected already; ") and errors.endswith("pdcgw: 34 Busy\n"), errors)
+    clients[3].close()
+    time.sleep(0.2)
+    again = Client(bench, path)
+    again.send(b"pmustats 9\n")
+    again.gets(b"pmustats taken 0\n")
+    gateway.quit()
+
+
+def test_a_client_that_does_not_read_is_closed(bench):
+    """A client is closed once more than a million bytes wait for it, and not before; another one is answered meanwhile."""
+    pair, path = controlled(bench)
+    gateway = pair.run()
+    unread, other = Client(bench, path), Client(bench, path)
+    # Each answer to `status` has more than 400 bytes.
+    size = len("\n".join(gateway.answer("status"))) + 1
+    asked, closed_at = 0, None
+    while asked < 40_000_000 // size and closed_at is None:
+        try:
+            unread.send(b"status\n" * 50)
+            asked += 50
+        except OSError:
+            closed_at = asked * size
+        if asked % 1000 == 0:
+            other.send(b"pmustats 7\n")
+            other.gets(b"pmustats taken 0\n")
+    expect(closed_at and closed_at > 1_048_576, f"it was closed after {closed_at} bytes of answers")
+    other.send(b"pmustats 9\n")
+    other.gets(b"pmustats taken 0\n")
+    gateway.quit()
+
+
+def test_a_line_without_an_end_is_refused(bench):
+    """A line of more than 4,096 bytes is refused, however long it goes on; another client is answered."""
+    pair, path = controlled(bench)
+    gateway = pair.run()
+    endless, other = Client(bench, path), Client(bench, path)
+    for _ in range(100):
+        endless.send(b"x" * 1024)
+    other.send(b"pmustats 7\n")
+    other.gets(b"pmustats taken 0\n")
+    endless.send(b"\npmustats 9\n")
+    endless.gets(b"refused 36 BadLine\npmustats taken 0\n")
+    gateway.quit()
+
+
+def test_the_socket_is_its_user_s_alone(bench):
+    """The socket has mode 0600. A stale one is replaced; a living one and a file that is no socket are left, and the start fails."""
+    pair, path = controlled(bench)
+    stale = socket.socket(socket.AF_UNIX)
+    stale.bind(path)
+    stale.close()
+    gateway = pair.run()
+    mode = os.stat(path).st_mode
+    same((stat.S_ISSOCK(mode), oct(stat.S_IMODE(mode))), (True, "0o600"))
+    second = bench.gateway(f'control = "{path}"\n' + pmu(5) + subscriber(5), name="second")
+    same(second.ended(), 1)
+    same(second.log.lines[-2:], [f"{second.file}:1: control: address in use", "pdcgw: 39 ReadFault"])
+    same(gateway.ctl("pmustats 7"), (0, "pmustats taken 0\n", ""))
+    plain = f"{bench.folder}/plain"
+    with open(plain, "w") as f:
+        f.write("text")
+    third = bench.gateway(f'control = "{plain}"\n' + pmu(5) + subscriber(5), name="third")
+    same(third.ended(), 1)
+    same(third.log.lines[-2:], [f"{third.file}:1: control: address in use", "pdcgw: 39 ReadFault"])
+    with open(plain) as f:
+        same(f.read(), "text")
+    gateway.quit()
+
+
+def test_a_flood_of_lines(bench):
+    """Of a client that floods lines at most 16 are answered at a time, so that another client's line does not wait for them."""
+    pair, path = controlled(bench)
+    gateway = pair.run()
+    gateway.does("addpmu 8", "done 0 0")
+    flood, other = Client(bench, path), Client(bench, path)
+    for client in (flood, other):
+        client.send(b"pmustats 8\n")
+        client.gets(b"pmustats taken 0\n")
+    # Both clients' lines wait when the program goes on.
+    gateway.process.send_signal(signal.SIGSTOP)
+    flood.send(b"pmustats 8\n" * 8_000)
+    other.send(b"droppmu 8\n")
+    gateway.process.send_signal(signal.SIGCONT)
+    other.gets(b"done 0 0\n")
+    answers = flood.got
+    while answers.count(b"\n") < 8_000:
+        piece = flood.socket.recv(1 << 16)
+        expect(piece, "the client that floods was closed")
+        answers += piece
+    lines = bytes(answers).splitlines()
+    before = lines.count(b"pmustats taken 0")
+    same(lines, [b"pmustats taken 0"] * before + [b"refused 23 NoSuchPmu"] * (8_000 - before))
+    expect(before <= 64, f"{before} lines were answered before one of another client")
+    gateway.quit()
+
+
+@takes(4)
+def test_misuse_of_page_and_control_socket_costs_a_subscriber_no_frame(bench):
+    """Beside slow and unread clients of page and control socket `status` is answered, and a subscriber gets each frame in time."""
+    page = bench.port()
+    pair, path = controlled(bench, more=f'status = "127.0.0.1:{page}"\n')
+    gateway = pair.run()
+    pair.start()
+    clients = []
+    for _ in range(100):
+        made = socket.create_connection(("127.0.0.1", page))
+        made.sendall(b"G")
+        clients.append(made)
+    endless, unread = Client(bench, path), Client(bench, path)
+    endless.send(b"x" * 100_000)
+    unread.send(b"status\n" * 1000)
+    long = socket.create_connection(("127.0.0.1", page))
+    looking = Client(bench, path)
+    for at in range(60):
+        try:
+            long.sendall(b"a: aaaaaaaaaaaaaaaaaaaaaaaaaaaaaaaaa" * 500)
+        except OSError:
+            # (it was answered and closed; the next one)
+            long = socket.create_connection(("127.0.0.1", page))
+        looking.send(b"status\nend\n")
+        answer = bytearray()
+        while not answer.endswith(b"end\n"):
+            answer += looking.socket.recv(1 << 16)
+        expect(answer.startswith(b"source 7 "), bytes(answer))
+        begun = time.monotonic()
+        pair.first_is_served()
+        pair.second_is_served()
+        took = time.monotonic() - begun
+        expect(took < 0.5, f"frame {at} took {took:.2f} s")
+    for made in clients:
+        made.close()
+    gateway.quit()
+
+
+def test_status_and_metrics_are_the_same(bench):
+    """`status` at the control socket and on standard input, and the metrics, say what was done: of each source, subscriber and stream."""
+    page = bench.port()
+    pair, path = controlled(bench, more=f'status = "127.0.0.1:{page}"\n')
+    gateway = pair.run()
+    first, second = pair.start()
+    pair.first_is_served(3)
+    pair.second_is_served(2)
+    pair.nine.measure(pair.slot, 1)
+    until(lambda: " late 1 " in gateway.status()["subscriber 20"], "a frame of source 9 that came twice")
+    # The page shows what was taken in the last second.
+    time.sleep(1.1)
+    status = gateway.answer("status")
+    same(len(status), 7)
+    same([it.rpartition(" last ")[0] for it in status[:2]],
+         [f"source 7 {pair.seven.address} up frames 4 events 4 ignored -", f"source 9 {pair.nine.address} up frames 4 events 4 ignored -"])
+    # A CFG-2 of one PMU with a phasor has 74 bytes, a data frame 26. Stream 2001 is off.
+    same(status[2:], [f"subscriber 1 {pair.ports[0]} connected {first.name} made 3 dropped 0 lost 0 late 0 twice 0 handed 152 queue 0 0",
+                      f"subscriber 20 {pair.ports[1]} connected {second.name} made 2 dropped 0 lost 0 late 1 twice 0 handed 126 queue 0 0",
+                      "stream 1 101 on members 1/1", "stream 20 2000 on members 1/1", "stream 20 2001 off members 1/1"])
+    same([it.partition(" last ")[0] for it in gateway.ctl("status")[1].splitlines()], [it.partition(" last ")[0] for it in status])
+    shown = metrics(page)
+    for name, value in (('pdcgw_source_up{source="7"}', 1), ('pdcgw_source_frames_total{source="7"}', 4),
+                        ('pdcgw_source_events_total{source="9"}', 4), ('pdcgw_subscriber_connected{subscriber="20"}', 1),
+                        ('pdcgw_subscriber_made_frames_total{subscriber="1"}', 3), ('pdcgw_subscriber_made_frames_total{subscriber="20"}', 2),
+                        ('pdcgw_subscriber_dropped_frames_total{subscriber="1"}', 0), ('pdcgw_subscriber_late_blocks_total{subscriber="20"}', 1),
+                        ('pdcgw_subscriber_handed_bytes_total{subscriber="1"}', 152), ('pdcgw_subscriber_handed_bytes_total{subscriber="20"}', 126),
+                        ('pdcgw_subscriber_handed_frames_total{subscriber="1"}', 3), ('pdcgw_subscriber_handed_frames_total{subscriber="20"}', 2),
+                        ('pdcgw_subscriber_gap_frames_total{subscriber="1"}', 0), ('pdcgw_subscriber_queue_bytes{subscriber="1"}', 0),
+                        ('pdcgw_stream_on{subscriber="1",stream="101"}', 1), ('pdcgw_stream_on{subscriber="20",stream="2001"}', 0),
+                        ("pdcgw_frame_age_seconds_count", 5)):
+        same((name, shown.get(name)), (name, str(value)))
+    gateway.quit()
+
+
+@takes(4)
+def test_orders_that_come_together_are_all_done(bench):
+    """Many lines in one write: the orders to workers that come together with one wake are done, each of its own subscriber and source."""
+    pair, path = controlled(bench, more="ingest = 2\nserve = 2\n")
+    gateway = pair.run()
+    for _ in range(10):
+        pair.start()
+        gateway.say("disconnect 1\ndisconnect 20\ndial 7 {}\ndial 9 {}".format(pair.seven.address, pair.nine.address))
+        same(gateway.lines(4), ["done 0 0"] * 4)
+        begun = time.monotonic()
+        expect(pair.first.is_closed(2) and pair.second.is_closed(2), "a connection stands")
+        pair.nine.come(2)
+        pair.seven.come(2)
+        expect(time.monotonic() - begun < 0.9, "an order waited for a wake")
+    gateway.quit()

@@ -1,0 +1,253 @@
+"""`reload`: what changed in the file is done and nothing else, while a neighbour gets each frame over the connection that it has."""
+import time
+
+from c37118 import CONFIG_2, data_of, stamp
+from peers import RATE, Pair, expect, is_refused, now_soc, number_block, pmu, same, stream, stream_frame, subscriber, takes, until
+
+
+class Reloads(Pair):
+    """A pair of which subscriber 1 and source 7 never change. `tables` are those of the others, by their name."""
+
+    def __init__(self, bench, **keys):
+        super().__init__(bench, more="ingest = 2\nserve = 2\n", **keys)
+        self.tables = {"seven": self.tables[0], "nine": self.tables[1], "first": self.tables[2],
+                       "twenty": subscriber(20, self.ports[1], ring=16, grants=[9]), "streams": stream(2000, [9])}
+        self.more, self.text = "ingest = 2\nserve = 2\n", "ingest = 2\nserve = 2\n" + "".join(self.tables.values())
+
+    def begin(self):
+        self.run()
+        self.first, self.second = self.bench.subscriber(self.ports[0]), self.bench.subscriber(self.ports[1])
+        self.first.start(101)
+        self.second.start(2000)
+        return self
+
+    def change(self, *answer, **tables):
+        """These tables become others; `reload` is answered so, and the neighbour goes on."""
+        self.tables.update(tables)
+        self.gateway.reload(self.more + "".join(self.tables.values()), *answer)
+        self.first_is_served()
+
+    def end(self):
+        same(self.gateway.logged("subscriber 1: (hung up|the connection ended|its port).*"), 0)
+        same(self.gateway.logged("source 7: called at.*"), 1)
+        self.gateway.quit()
+
+
+def test_reload_of_the_same_file_changes_nothing(bench):
+    """A file that says the same by other words, or has a mistake, changes nothing; the mistakes are the answer and the log says so."""
+    pair = Reloads(bench).begin()
+    pair.change("reloaded: 0 edits, 0 orders")
+    pair.change("reloaded: 0 edits, 0 orders", nine="# a comment\n" + pair.tables["nine"] + "silence = 10\n")
+    pair.gateway.logs("INFO the setup was read again, and what changed is done", 2)
+    text = pair.more + "".join(pair.tables.values())
+    line = text.count("\n") + 2
+    pair.gateway.reload(text + "[[pmu]]\nid = 0\n",
+                        f"{pair.gateway.file}:{line}: pmu.id: is the number 0; it has to be a whole number from 1 to 65534",
+                        "refused 37 BadSetup")
+    pair.gateway.logs("WARN the setup was read again; nothing changes")
+    pair.second_is_served()
+    pair.change("reloaded: 0 edits, 0 orders")
+    pair.end()
+
+
+def test_reload_changes_grants_and_streams(bench):
+    """New and changed streams and grants are edits, done over the connection that stands; a changed ring has the subscriber added anew."""
+    pair = Reloads(bench).begin()
+    pair.second_is_served()
+    seven = stream(2001, [7])
+    pair.change("reloaded: 2 edits, 0 orders", twenty=subscriber(20, pair.ports[1], ring=16, grants=[9, 7]),
+                streams=pair.tables["streams"] + seven)
+    pair.second_is_served()
+    pair.second.start(2001)
+    slot, number = next(pair.slots())
+    pair.seven.measure(slot, number)
+    pair.first.comes(stream_frame(101, slot, number))
+    pair.second.comes(stream_frame(2001, slot, number))
+    pair.gateway.reload(pair.more + "".join({**pair.tables, "streams": seven + stream(2000, [9], rate=15)}.values()), "reloaded: 2 edits, 0 orders")
+    same(pair.second.frame()[1] >> 4, CONFIG_2, "the stream goes on behind its CFG-2")
+    slot = (now_soc() + 2) * RATE
+    pair.nine.measure(slot, 77)
+    pair.second.comes(data_of(2000, *stamp(slot // 2, 15), [number_block(77)]))
+    changed = stream(2000, [9], rate=15)
+    pair.change("reloaded: 2 edits, 0 orders", twenty=subscriber(20, pair.ports[1], ring=16, grants=[9]), streams=changed)
+    expect(pair.second.is_closed(3), "a stream that is on is gone, and its connection stays")
+    pair.second = bench.subscriber(pair.ports[1])
+    pair.second.start(2000)
+    pair.change("reloaded: 4 edits, 0 orders", twenty=subscriber(20, pair.ports[1], ring=32, grants=[9]))
+    expect(pair.second.is_closed(3), "a subscriber that is added anew keeps its connection")
+    pair.second = bench.subscriber(pair.ports[1])
+    pair.second.start(2000)
+    pair.nine.measure(slot + 2, 78)
+    pair.second.comes(data_of(2000, *stamp(slot // 2 + 1, 15), [number_block(78)]))
+    pair.end()
+
+
+def test_reload_adds_and_drops_a_source_and_a_subscriber(bench):
+    """A new PMU is called and a new subscriber's port opened; once they are gone the connections are closed, and nobody listens there."""
+    pair = Reloads(bench).begin()
+    eight, port = bench.source(8, host="127.0.0.9"), bench.port()
+    third = subscriber(3, port, ring=16, grants=[8]) + stream(300, [8])
+    pair.change("reloaded: 4 edits, 2 orders", eight=pmu(8, connect=eight.address), third=third)
+    eight.come()
+    pair.gateway.line("source 8: announced")
+    client = bench.subscriber(port)
+    client.start(300)
+    slot = now_soc() * RATE
+    eight.measure(slot, 5)
+    client.comes(stream_frame(300, slot, 5))
+    # Source 8 is called no longer, though its PMU stays.
+    pair.change("reloaded: 0 edits, 1 orders", eight=pmu(8))
+    expect(eight.link.is_closed(3), "the connection of source 8")
+    pair.gateway.logs("source 8: called no longer")
+    pair.change("reloaded: 2 edits, 1 orders", eight="", third="")
+    expect(client.is_closed(3) and is_refused(port), "subscriber 3 is gone")
+    pair.gateway.does("pmustats 8", "refused 23 NoSuchPmu")
+    pair.second_is_served()
+    pair.end()
+
+
+def test_reload_moves_a_port(bench):
+    """A changed port is opened, and the old one closed with its connection; a port that is taken is reported, and the others are done."""
+    pair = Reloads(bench).begin()
+    port = bench.port()
+    pair.change("reloaded: 0 edits, 2 orders", twenty=subscriber(20, port, ring=16, grants=[9]))
+    expect(pair.second.is_closed(3) and is_refused(pair.ports[1]), "the old port")
+    pair.second = bench.subscriber(port)
+    pair.second.start(2000)
+    pair.second_is_served()
+    third = subscriber(3, pair.ports[0], address="127.0.0.1", ring=16)
+    pair.change(f"subscriber 3: port 127.0.0.1:{pair.ports[0]}: address in use", "refused 39 ReadFault", "reloaded: 1 edits, 0 orders",
+                third=third)
+    pair.gateway.logs("WARN subscriber 3: its port can't be bound: address in use")
+    pair.second_is_served()
+    pair.end()
+
+
+@takes(8)
+def test_reload_changes_the_rules_of_a_port(bench):
+    """Changed rules of a port close and open it, and hold from then on."""
+    pair = Reloads(bench).begin()
+    pair.change("reloaded: 0 edits, 2 orders", twenty=subscriber(20, pair.ports[1], ring=16, grants=[9], takeover=True))
+    expect(pair.second.is_closed(3), "the connection of a port whose rules changed")
+    old = bench.subscriber(pair.ports[1])
+    old.start(2000)
+    pair.settle()
+    pair.second = bench.subscriber(pair.ports[1])
+    pair.second.start(2000)
+    expect(old.is_closed(3), "`takeover` after a reload")
+    pair.second_is_served()
+    pair.change("reloaded: 0 edits, 2 orders", twenty=subscriber(20, pair.ports[1], ring=16, grants=[9], idle=1))
+    expect(pair.second.is_closed(3), "the connection of a port whose rules changed")
+    last = bench.subscriber(pair.ports[1])
+    last.start(2000)
+    expect(last.is_closed(3), "`idle` after a reload")
+    pair.gateway.logs("WARN subscriber 20: hung up, since nothing went either way.*")
+    pair.end()
+
+
+def test_reload_changes_a_source(bench):
+    """A new PMU of a source, its rules or its address have it called again, and hold from then on; the other source is not."""
+    pair = Reloads(bench).begin()
+    pair.change("reloaded: 1 edits, 2 orders", ten=pmu(10, source=9, silence=1))
+    expect(pair.nine.link.is_closed(3), "the connection of source 9")
+    pair.nine.pmus = [9, 10]
+    pair.nine.come()
+    pair.gateway.logs("source 9: announced its configuration, DATA_RATE 30, PMUs 9 10")
+    slot, number = next(pair.slots())
+    pair.nine.measure(slot, number)
+    pair.second.comes(stream_frame(2000, slot, number))
+    begun = time.monotonic()
+    expect(pair.nine.link.is_closed(3) and time.monotonic() - begun > 0.5, "`silence` after a reload")
+    pair.nine.pmus = [9]
+    pair.change("reloaded: 1 edits, 2 orders", ten="")
+    pair.nine.come()
+    moved = bench.source(9, host="127.0.0.11")
+    pair.change("reloaded: 0 edits, 2 orders", nine=pmu(9, connect=moved.address))
+    moved.come()
+    expect(pair.nine.link.is_closed(3), "the connection to the old address")
+    pair.nine = moved
+    pair.second_is_served()
+    pair.end()
+
+
+def test_reload_sets_clock_ms(bench):
+    """A changed `clock_ms` holds from the reload on, for its own source."""
+    pair = Reloads(bench).begin()
+    pair.change("reloaded: 0 edits, 2 orders", nine=pmu(9, connect=pair.nine.address, clock_ms=1000))
+    pair.nine.come()
+    pair.nine.measure(now_soc() * RATE, 1, seconds_off=-5)
+    until(lambda: "ignored FarClock=1 " in pair.gateway.status()["source 9"], "FarClock=1 of source 9")
+    same(pair.gateway.counters("pmustats 9"), {"taken": 0})
+    taken = pair.gateway.counters("pmustats 7")["taken"]
+    pair.seven.measure(now_soc() * RATE, 2, seconds_off=-5)
+    until(lambda: pair.gateway.counters("pmustats 7")["taken"] == taken + 1, "data of source 7, which has no `clock_ms`")
+    pair.end()
+
+
+def test_an_edit_that_a_reload_can_not_do_is_reported(bench):
+    """A line had done something else: that edit is reported in the answer and the log, and the others are done."""
+    pair = Reloads(bench).begin()
+    pair.gateway.does("revoke 20 9", "done 0 0")
+    pair.change("subscriber 20: the grant of PMU 9/9 can't be revoked: it has no such grant (35 NotGranted)", "refused 35 NotGranted",
+                "reloaded: 3 edits, 0 orders", twenty=subscriber(20, pair.ports[1], ring=16, grants=[7]),
+                streams=stream(2000, [9], header="west"))
+    pair.gateway.logs(r"WARN subscriber 20: the grant of PMU 9/9 can't be revoked: it has no such grant \(35 NotGranted\)")
+    pair.change("reloaded: 4 edits, 0 orders", twenty=subscriber(20, pair.ports[1], ring=16, grants=[9]), streams=stream(2000, [9]))
+    # Stream 2000 goes on behind each reload, by CFG-2.
+    for _ in range(2):
+        same(pair.second.frame()[1] >> 4, CONFIG_2)
+    pair.second_is_served()
+    pair.end()
+
+
+def test_status_has_each_once_after_many_changes(bench):
+    """`status` has each source, subscriber and stream once, whatever was asked of which thread before."""
+    pair = Reloads(bench).begin()
+    port = bench.port()
+    pair.change("reloaded: 0 edits, 2 orders", twenty=subscriber(20, port, ring=16, grants=[9]))
+    moved = bench.source(9)
+    pair.change("reloaded: 0 edits, 2 orders", nine=pmu(9, connect=moved.address))
+    moved.come()
+    pair.gateway.does(f"listen 20 {pair.ports[1]}", "done 0 0")
+    pair.gateway.does(f"dial 9 {pair.nine.address}", "done 0 0")
+    pair.nine.come()
+    same([" ".join(it.split()[:4 if it.startswith("stream") else 2]) for it in pair.gateway.answer("status")],
+         ["source 7", "source 9", "subscriber 1", "subscriber 20", "stream 1 101 on", "stream 20 2000 off"])
+    pair.end()
+
+
+def test_keys_that_need_a_new_start_are_reported(bench):
+    """A change of `tick_ms`, `ingest`, `serve`, `control` or `status` is reported by a reload, which does the rest."""
+    pair = Reloads(bench).begin()
+    pair.more = f'tick_ms = 20\ncontrol = "{bench.folder}/c"\nstatus = "127.0.0.1:{bench.port()}"\n'
+    answer = sorted(f"{key} needs a new start" for key in ("tick_ms", "ingest", "serve", "control", "status"))
+    pair.gateway.write(pair.more + "".join(pair.tables.values()))
+    came = pair.gateway.ask("reload", 6)
+    same((sorted(came[:5]), came[5]), (answer, "reloaded: 0 edits, 0 orders"))
+    pair.first_is_served()
+    pair.end()
+
+
+@takes(3)
+def test_reload_sets_the_level_of_the_log(bench):
+    """A changed `log` takes effect at once: lines below the level are not logged, and are again once the key is gone."""
+    pair = Reloads(bench).begin()
+    pair.gateway.logs("subscriber 20: connected from.*")
+    pair.more = 'log = "warn"\n' + pair.more
+    pair.change("reloaded: 0 edits, 0 orders")
+    time.sleep(0.3)
+    pair.second.close()
+    for _ in range(2):
+        again = bench.subscriber(pair.ports[1])
+        again.start(2000)
+        expect(bench.subscriber(pair.ports[1]).is_closed(3), "a second connection")
+        again.close()
+    pair.gateway.logs(r"WARN subscriber 20: a connection was refused: \S+, since \S+ is connected \(34 Busy\)")
+    # (a line that is logged again is held back for a second)
+    time.sleep(1.5)
+    same(pair.gateway.logged("subscriber 20: connected from.*"), 1)
+    pair.more = pair.more.replace('log = "warn"\n', "")
+    pair.change("reloaded: 0 edits, 0 orders")
+    bench.subscriber(pair.ports[1])
+    pair.gateway.logs("INFO subscriber 20: connected from.*", 2)
+    pair.end()

@@ -1,0 +1,124 @@
+"""Start: what is printed where the program can't start, `check`, and the demo."""
+import re
+import socket
+import subprocess
+import time
+
+from peers import PATIENCE, Pair, expect, pmu, same, stream, subscriber, takes
+
+
+def printed(bench, text, word="run", name="setup"):
+    """The status, output and errors of the program with a setup file."""
+    file = f"{bench.folder}/{name}.toml"
+    if text is not None:
+        with open(file, "w") as f:
+            f.write(text)
+    done = subprocess.run([bench.program, word, "--setup", f"{name}.toml"], cwd=bench.folder, stdin=subprocess.DEVNULL,
+                          stdout=subprocess.PIPE, stderr=subprocess.PIPE, timeout=PATIENCE)
+    return done.returncode, done.stdout.decode(), done.stderr.decode()
+
+
+def taken_port(bench, host="127.0.0.1"):
+    """A port at which another process listens."""
+    made, port = socket.socket(), bench.port()
+    made.bind((host, port))
+    made.listen(1)
+    bench.made.append(made)
+    return port
+
+
+def test_mistakes_of_a_setup(bench):
+    """Each mistake stands on standard error with its line, and the program ends with 37 and status 1."""
+    text = 'tick_ms = 0\n[[pmu]]\nid = 0\nconect = "a"\n[[subscriber]]\nid = 1\nring = 0\n'
+    wanted = ("setup.toml:1: tick_ms: is the number 0; it has to be a whole number from 1 to 1000\n"
+              "setup.toml:3: pmu.id: is the number 0; it has to be a whole number from 1 to 65534\n")
+    status, out, errors = printed(bench, text)
+    same((status, out, errors[:len(wanted)]), (1, "", wanted))
+    expect(re.search(r"(?m)^setup\.toml:4: pmu\.conect: is no key here; ", errors), errors)
+    expect(errors.endswith("setup.toml:7: subscriber.ring: is the number 0; it has to be a whole number from 1 to 1024\npdcgw: 37 BadSetup\n"),
+           errors)
+    same(printed(bench, text, "check")[2].splitlines()[0], wanted.splitlines()[0], "check:")
+
+
+def test_a_setup_that_can_not_be_read(bench):
+    same(printed(bench, None, name="none"), (1, "", "none.toml: can't be read: there is no such file\npdcgw: 39 ReadFault\n"))
+
+
+def test_edits_that_are_refused(bench):
+    """An edit of the setup that the gateway refuses: whom it concerns, why, and its number."""
+    for word in ("run", "check"):
+        status, out, errors = printed(bench, pmu(7) + subscriber(3, ring=4, grants=[8]), word)
+        same((status, out), (1, ""))
+        expect(errors.startswith("setup.toml:6: subscriber 3: grant of PMU 8/8: refused NoSuchPmu: "), errors)
+        expect(errors.endswith("\npdcgw: 23 NoSuchPmu\n"), errors)
+
+
+def test_what_can_not_be_bound(bench):
+    """A port, the page or the control socket that can't be bound: its line in the file, its name, and the reason."""
+    rest = pmu(7) + subscriber(1, bench.port(), grants=[7])
+    port = taken_port(bench)
+    wanted = f"setup.toml:8: subscriber 5: port {port}: address in use\npdcgw: 39 ReadFault\n"
+    came = printed(bench, rest + subscriber(5, port, grants=[7]))
+    same(came, (1, "", wanted.replace("toml:8", f"toml:{line_of(rest, subscriber(5, port), 'port')}")))
+    page = taken_port(bench)
+    came = printed(bench, f'status = "127.0.0.1:{page}"\n' + rest)
+    same(came, (1, "", f"setup.toml:1: status: 127.0.0.1:{page}: address in use\npdcgw: 39 ReadFault\n"))
+    came = printed(bench, 'ingest = 1\ncontrol = "/no/such/folder"\n' + rest)
+    same(came, (1, "", "setup.toml:2: control: there is no such file\npdcgw: 39 ReadFault\n"))
+
+
+def line_of(before, text, key):
+    lines = (before + text).splitlines()
+    return max(at for at, it in enumerate(lines, 1) if it.startswith(f"{key} = "))
+
+
+def test_check_prints_what_would_run(bench):
+    """`check` binds and connects nothing, and prints what would run."""
+    text = pmu(7, connect="10.0.0.1:4712", silence=3) + subscriber(4, taken_port(bench), address="127.0.0.1", ring=9, grants=[7])
+    status, out, errors = printed(bench, text + stream(44, [7], rate=25), "check")
+    same((status, errors), (0, ""))
+    expect("source 7: PMUs: 1; called at 10.0.0.1:4712, again after 3 s of silence\n" in out, out)
+    expect("subscriber 4: stream 44: 25 frames/s of 7/7\n" in out, out)
+
+
+def test_the_level_of_the_log_at_the_start(bench):
+    """With `log = "warn"` lines of INFO are left out, and those of WARN are not."""
+    pair = Pair(bench, more='log = "warn"\n')
+    gateway = bench.gateway(pair.text)
+    pair.seven.come()
+    pair.nine.come()
+    pair.nine.link.send(b"no frame at all")
+    gateway.line("WARN source 9: the connection ended")
+    time.sleep(0.3)
+    same([it for it in gateway.log.lines if " WARN " not in it], [])
+    gateway.quit()
+
+
+def test_words_of_the_command_line(bench):
+    """Unknown words have status 2; `--version` and `--help` have status 0."""
+    def run(*words):
+        return subprocess.run([bench.program, *words], stdin=subprocess.DEVNULL, stdout=subprocess.PIPE, stderr=subprocess.PIPE,
+                              timeout=PATIENCE)
+
+    for words in (["walk"], ["run"], ["run", "--setup"], ["run", "--setup", "a", "b"], ["demo", "--seconds", "x"]):
+        done = run(*words)
+        same((done.returncode, done.stdout), (2, b""), f"{words}")
+        expect(done.stderr, f"{words}: nothing is printed")
+    same(run("--version").returncode, 0)
+    expect(b"control" in run("run", "--help").stdout, "the help of `run` has the keys")
+
+
+@takes(11)
+def test_the_demo_compares_each_frame(bench):
+    """Ten seconds of the demo: each frame of both streams came byte for byte as its sources sent it, 30 a second of two PMUs and of one."""
+    done = subprocess.run([bench.program, "demo", "--seconds", "10"], stdin=subprocess.DEVNULL, stdout=subprocess.PIPE,
+                          stderr=subprocess.PIPE, timeout=55)
+    out, errors = done.stdout.decode(), done.stderr.decode()
+    same(done.returncode, 0, f"{out[-500:]}{errors[-500:]}\nstatus of the demo")
+    found = re.search(r"every frame came, byte for byte as the sources sent it: (\d+) of the first stream, (\d+) of the second\n$", out)
+    expect(found, f"the verdict is another: {out[-300:]}")
+    first, second = map(int, found.groups())
+    # Both have a frame for each slot of ten seconds, 30 a second, but for those that a busy machine leaves out in both.
+    expect(first == second and 150 <= first <= 301, f"{first} and {second} frames in ten seconds")
+    said = re.search(r"(?m)^(\d+) frames, (\d+) missing, 0 fillers, 0 troubles ", out)
+    expect(said and int(said[1]) == first, f"what `watch` counts: {out[-300:]}")
