@@ -38,7 +38,8 @@ def setup_text(tick_ms, sources, subscribers, ingest=1, serve=1, more=(), window
     lines = [f"tick_ms = {tick_ms}", f"ingest = {ingest}", f"serve = {serve}", *more]
     for at, (source, pmus) in enumerate(sources.items()):
         for place, pmu in enumerate(pmus):
-            lines += ["[[pmu]]", f"id = {pmu}", f"source = {source}"]
+            # (a backlog's frames are of times to come)
+            lines += ["[[pmu]]", f"id = {pmu}", f"source = {source}", "ahead_ms = 0"]
             if place == 0:
                 lines.append(f'connect = "127.0.0.1:{FIRST_SOURCE_PORT + at}"')
     for sub, ring, streams in subscribers:

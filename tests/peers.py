@@ -2,6 +2,7 @@
 
 A test is a function that gets one `Bench`. The bench gives it ports and files of its own, and ends all that it started.
 """
+import ctypes
 import os
 import re
 import socket
@@ -10,9 +11,10 @@ import subprocess
 import sys
 import threading
 import time
+from collections import namedtuple
 
 sys.path.insert(0, os.path.join(os.path.dirname(os.path.abspath(__file__)), "..", "tools"))
-from c37118 import (BASE, COMMAND, CONFIG_2, DATA, SEND_CONFIG_2, START, block, command, configuration, data_of, frame, frames_in,  # noqa: E402
+from c37118 import (BASE, COMMAND, CONFIG_2, DATA, SEND_CONFIG_2, START, STOP, block, command, configuration, data_of, frame, frames_in,  # noqa: E402
                     stamp)
 
 # For how many seconds a test waits for something that has to come.
@@ -28,6 +30,14 @@ class Failed(Exception):
 
 class Closed(Failed):
     """The gateway closed a connection over which something was expected."""
+
+
+class Late(Failed):
+    """No frame came in the time that was given."""
+
+
+class PassedBy(Exception):
+    """This machine does not permit what a test needs."""
 
 
 def expect(holds, what):
@@ -79,8 +89,10 @@ def table(heading, keys):
     return "\n".join([f"[[{heading}]]", *(f"{key} = {text_of(value)}" for key, value in keys.items())]) + "\n"
 
 
-def pmu(number, **keys):
-    return table("pmu", {"id": number, **keys})
+def pmu(number, ahead_ms=0, **keys):
+    """A PMU. Most tests send data of a time to come, so that its clock is not guarded unless a test says so; `None` leaves the key out."""
+    ahead = {} if ahead_ms is None else {"ahead_ms": ahead_ms}
+    return table("pmu", {"id": number, **ahead, **keys})
 
 
 def subscriber(number, port=None, ring=64, **keys):
@@ -109,7 +121,7 @@ class Connection:
         while not self.frames:
             left = end - time.monotonic()
             if left <= 0:
-                raise Failed(f"no frame came within {seconds} s")
+                raise Late(f"no frame came within {seconds} s")
             self.socket.settimeout(left)
             try:
                 piece = self.socket.recv(1 << 16)
@@ -230,6 +242,107 @@ class Source:
         self.listener.close()
 
 
+def named_block(number, slot, phasors=1, fnom=0):
+    """A block that says what it is: each phasor holds the PMU and the slot, and FREQ is the FNOM of its CFG-2."""
+    return bytes(2) + struct.pack(">HH", number, slot % 10_000) * phasors + struct.pack(">HH", fnom, 0)
+
+
+def layout_of(got):
+    """What a CFG-2 says that data frames hold: PMU, phasors and FNOM of each block."""
+    at, found = 20, []
+    for _ in range(struct.unpack(">H", got[18:20])[0]):
+        number, _, phasors, analogs, digitals = struct.unpack(">5H", got[at + 16:at + 26])
+        at += 30 + 20 * phasors + 20 * analogs + (16 * 16 + 4) * digitals
+        found.append((number, phasors, struct.unpack(">H", got[at - 4:at - 2])[0]))
+    return found
+
+
+def slot_of(got, rate):
+    """The slot of a frame, by its SOC and FRACSEC."""
+    soc, frac = struct.unpack(">II", got[6:14])
+    return soc * rate + round((frac & 0xFFFFFF) * rate / BASE)
+
+
+def read_by(got, layout, rate):
+    """How a data frame of named blocks is read by a layout: `right`, and `filled` where a filler stands in it; `unfit` where its length is
+    another one, which each reader sees; `misread` where a block is not what the layout says."""
+    if len(got) != 16 + sum(6 + 4 * phasors for _, phasors, _ in layout):
+        return "unfit"
+    at, verdict = 14, "right"
+    for number, phasors, fnom in layout:
+        part = got[at:at + 6 + 4 * phasors]
+        at += len(part)
+        if part == filler(phasors):
+            verdict = "filled"
+        elif part != named_block(number, slot_of(got, rate), phasors, fnom):
+            return "misread"
+    return verdict
+
+
+class LiveSource(Source):
+    """A source that plays by itself: it answers command 5, and once it is started sends a data frame of named blocks for each slot of
+    this machine's clock. `fnom` is FNOM of its configuration: 0 for 60 Hz, 1 for 50 Hz. Its clock is `ahead` by so many seconds."""
+
+    def __init__(self, idcode, host, port, fnom=0, ahead=0.0, **keys):
+        super().__init__(idcode, host, port, **keys)
+        self.fnom, self.ahead, self.is_on, self.is_over = fnom, ahead, False, False
+        # Mute, it leaves slots out; held, it sends them later.
+        self.is_mute = self.is_held = False
+        self.lock = threading.Lock()
+        threading.Thread(target=self.play, daemon=True).start()
+
+    def configuration(self, count=0):
+        got = bytearray(super().configuration(count)[:-2])
+        for at in range(len(self.pmus)):
+            end = 20 + (30 + 20 * self.phasors) * (at + 1)
+            got[end - 4:end - 2] = struct.pack(">H", self.fnom)
+        return frame_like(bytes(got) + bytes(2))
+
+    def blocks(self, number):
+        return b"".join(named_block(it, number, self.phasors, self.fnom) for it in self.pmus)
+
+    def play(self):
+        while not self.is_over:
+            try:
+                self.accept(1)
+                self.serve_call(self.link)
+            except (Failed, OSError):
+                pass
+
+    def serve_call(self, link):
+        self.is_on, slot = False, int(time.time() * self.rate) + 1
+        while not self.is_over:
+            try:
+                word = link.frame(max(0.005, slot / self.rate - time.time()))[15]
+            except Late:
+                word = 0
+            with self.lock:
+                if word == SEND_CONFIG_2:
+                    link.send(self.configuration())
+                self.is_on = word == START or (self.is_on and word != STOP)
+                while slot / self.rate <= time.time() and not self.is_held:
+                    if self.is_on and not self.is_mute:
+                        at = slot + round(self.ahead * self.rate)
+                        link.send(self.data(at, at))
+                    slot += 1
+
+    def announces(self, **keys):
+        """It has another configuration, which it sends unasked."""
+        with self.lock:
+            vars(self).update(keys)
+            self.link.send(self.configuration())
+
+    def restarts(self, **keys):
+        """Its connection ends, and it comes back with another configuration."""
+        with self.lock:
+            vars(self).update(keys)
+            self.link.socket.shutdown(socket.SHUT_RDWR)
+
+    def close(self):
+        self.is_over = True
+        super().close()
+
+
 class Subscriber(Connection):
     """A subscriber's connection to its port."""
 
@@ -265,6 +378,157 @@ class Subscriber(Connection):
             got = self.frame(seconds)
             if got[1] >> 4 == DATA:
                 return got
+
+
+Came = namedtuple("Came", "what stream layout bytes")
+
+
+class Reader:
+    """A strict reader, which plays by itself: it asks for CFG-2 of each of its streams, starts them, and reads each data frame by the CFG-2
+    of its stream that came last. Where it is closed it connects `again`. `came` is what came: `connected`, `configuration`, `right`, `filled`,
+    `unfit`, `misread`, `broken`, `closed`."""
+
+    def __init__(self, port, streams, rate=RATE, asks=True, again=True):
+        """Where it does not ask for CFG-2, `asks` is the layout of each stream that it takes for granted."""
+        self.port, self.streams, self.rate, self.asks, self.again = port, streams, rate, asks, again
+        self.came, self.layouts, self.link, self.is_over, self.connect = [], {}, None, False, Subscriber
+        threading.Thread(target=self.play, daemon=True).start()
+
+    def play(self):
+        while not self.is_over:
+            served = False
+            try:
+                self.link = self.connect(self.port)
+                for it in self.streams:
+                    if self.asks is True:
+                        self.link.command(it, SEND_CONFIG_2)
+                    else:
+                        self.layouts[it] = self.asks
+                        self.link.command(it, START)
+                self.unstarted = set(self.streams if self.asks is True else [])
+                while not self.is_over:
+                    try:
+                        got = self.link.frame(0.5)
+                    except Late:
+                        continue
+                    except Closed:
+                        break
+                    if not served:
+                        served = self.notes("connected")
+                    self.take(got)
+            except OSError:
+                pass
+            except Failed:
+                self.notes("broken")
+            if served:
+                self.notes("closed")
+                self.is_over = self.is_over or not self.again
+            time.sleep(0.02)
+
+    def notes(self, what, stream=0, layout=None, got=b""):
+        self.came.append(Came(what, stream, layout, got))
+        return True
+
+    def take(self, got):
+        kind, stream = got[1] >> 4, int.from_bytes(got[4:6], "big")
+        if kind == CONFIG_2:
+            self.layouts[stream] = layout_of(got)
+            self.notes("configuration", stream, self.layouts[stream], got)
+            if stream in self.unstarted:
+                self.unstarted.discard(stream)
+                self.link.command(stream, START)
+        elif kind == DATA:
+            self.notes(read_by(got, self.layouts[stream], self.rate), stream, self.layouts[stream], got)
+
+    def count(self, what, stream=None):
+        return sum(it.what == what and stream in (None, it.stream) for it in list(self.came))
+
+    def reads(self, stream, pmus, frames=5, seconds=PATIENCE):
+        """Waits until it reads so many frames more of these PMUs right."""
+        begun = len(self.came)
+        until(lambda: sum(it.what == "right" and it.stream == stream and [number for number, _, _ in it.layout] == pmus
+                          for it in self.came[begun:]) >= frames, f"{frames} frames of stream {stream} with PMUs {pmus}, read right", seconds)
+
+    def is_whole(self, stream, least):
+        """It has one connection, and each frame of the stream from the first on, in order and read right. (A stream that is started between the
+        data of two members has a filler in its first frame.)"""
+        came = list(self.came)
+        frames = [it for it in came if it.stream == stream and it.what != "configuration"]
+        frames = frames[1:] if frames and frames[0].what == "filled" else frames
+        same([(at, it.what) for at, it in enumerate(frames) if it.what != "right"], [], f"frames of stream {stream} that are not right")
+        slots = [slot_of(it.bytes, self.rate) for it in frames]
+        same(slots, list(range(slots[0], slots[0] + len(slots))) if slots else [], f"slots of stream {stream}")
+        same([it.what for it in came if not it.bytes], ["connected"], "connections")
+        expect(len(slots) >= least, f"{len(slots)} frames of stream {stream} came, and there are {least} at least")
+
+    def moves(self, connect):
+        """It ends its connection, and connects by this from now on."""
+        self.connect = connect
+        self.link.socket.shutdown(socket.SHUT_RDWR)
+
+    def close(self):
+        self.is_over = True
+        if self.link:
+            self.link.close()
+
+
+class Host:
+    """A host with a network of its own, joined to the network of the test's thread, where the gateway runs: `inner` is its address, `outer`
+    the gateway's."""
+    clone_newnet = 0x40000000
+
+    @classmethod
+    def enter_own_network(cls):
+        """From now on the test's thread, and what it starts, is on a network that nobody else has."""
+        if ctypes.CDLL(None, use_errno=True).unshare(cls.clone_newnet):
+            raise PassedBy(f"no network namespace can be made: {os.strerror(ctypes.get_errno())}")
+        cls.ip("link", "set", "lo", "up")
+
+    @staticmethod
+    def ip(*words):
+        try:
+            done = subprocess.run(["ip", *words], stdin=subprocess.DEVNULL, stdout=subprocess.DEVNULL, stderr=subprocess.PIPE)
+        except OSError as error:
+            raise PassedBy(f"`ip` of iproute2 can't be run: {error}") from None
+        if done.returncode:
+            raise PassedBy(f"ip {' '.join(words)}: {done.stderr.decode().strip()}")
+
+    def __init__(self, number):
+        self.number, self.inner, self.outer = number, f"10.77.{number}.2", f"10.77.{number}.1"
+        with open("/proc/thread-self/ns/net") as around:
+            self.enter_own_network()
+            self.network = open("/proc/thread-self/ns/net")
+            self.enter(around)
+        self.ip("link", "add", f"to{number}", "type", "veth", "peer", "name", f"in{number}", "netns", f"/proc/{os.getpid()}/fd/{self.network.fileno()}")
+        self.ip("addr", "add", f"{self.outer}/24", "dev", f"to{number}")
+        self.ip("link", "set", f"to{number}", "up")
+        self.within(lambda: self.ip("link", "set", f"in{number}", "up"))
+        self.has_power()
+
+    @classmethod
+    def enter(cls, network):
+        if ctypes.CDLL(None, use_errno=True).setns(network.fileno(), cls.clone_newnet):
+            raise PassedBy(f"a network namespace can't be entered: {os.strerror(ctypes.get_errno())}")
+
+    def within(self, work):
+        """Does something on this host."""
+        with open("/proc/thread-self/ns/net") as around:
+            self.enter(self.network)
+            try:
+                return work()
+            finally:
+                self.enter(around)
+
+    def connect(self, port, **keys):
+        """A subscriber's connection from this host."""
+        return self.within(lambda: Subscriber(port, host=self.outer, own=self.inner, **keys))
+
+    def loses_power(self):
+        """From now on nobody here answers: no acknowledgement, no FIN and no RST."""
+        self.within(lambda: self.ip("addr", "flush", "dev", f"in{self.number}"))
+
+    def has_power(self):
+        self.within(lambda: self.ip("addr", "add", f"{self.inner}/24", "dev", f"in{self.number}"))
 
 
 def is_refused(port, host="127.0.0.1"):
@@ -349,6 +613,15 @@ class Gateway:
         """The file becomes this one; `reload` is answered so."""
         self.write(text)
         self.does("reload", *answer)
+
+    def reloads(self, text):
+        """The file becomes this one; the lines by which `reload` is answered."""
+        self.write(text)
+        self.say("reload")
+        found = self.lines(1)
+        while not found[-1].startswith(("reloaded: ", "refused 37")):
+            found += self.lines(1)
+        return found
 
     def answer(self, line):
         """All lines that answer a line on standard input: up to the answer to a second line, which is no command."""
@@ -443,8 +716,18 @@ class Bench:
         self.made.append(made)
         return made
 
+    def live(self, idcode, host="127.0.0.1", **keys):
+        made = LiveSource(idcode, host, self.port(), **keys)
+        self.made.append(made)
+        return made
+
     def subscriber(self, port, **keys):
         made = Subscriber(port, **keys)
+        self.made.append(made)
+        return made
+
+    def reader(self, port, streams, **keys):
+        made = Reader(port, streams, **keys)
         self.made.append(made)
         return made
 
@@ -557,6 +840,11 @@ class Pair:
             wanted.update({stamp(slot, self.nine_rate): frame(DATA, 2000, *stamp(slot, self.nine_rate), self.nine.blocks(slot - begun))
                            for slot in slots})
         return wanted
+
+
+def with_wrong_check(got):
+    """The same frame, but for its CHK."""
+    return got[:-1] + bytes([got[-1] ^ 1])
 
 
 def stream_frame(idcode, slot, *numbers, rate=RATE):

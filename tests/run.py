@@ -28,6 +28,8 @@ import peers  # noqa: E402
 LIMIT = 60
 # The words by which a process of a test is started.
 ONE = "--one"
+# What a test prints that this machine does not permit, before the reason. It counts as passed.
+PASSED_BY = "passed by: "
 # The last lines of each log that are printed with a failure.
 SHOWN = 12
 
@@ -55,6 +57,8 @@ def run_one(program, name, folder, guard):
     test, bench, status = all_tests()[name], peers.Bench(program, folder), 0
     try:
         test(bench)
+    except peers.PassedBy as reason:
+        print(f"{PASSED_BY}{reason}")
     except Exception as error:  # noqa: B902 (whatever it is, the test failed)
         status = 1
         place = traceback.extract_tb(error.__traceback__)
@@ -116,7 +120,8 @@ def run_all(program, names, lanes, guard):
             for run in [it for it in running if it.is_over()]:
                 running.remove(run)
                 passed, took, printed = run.result()
-                print(f"test {run.name} ... {'ok' if passed else 'FAILED'} ({took:.1f} s)", flush=True)
+                word = printed.splitlines()[0] if passed and printed.startswith(PASSED_BY) else "ok" if passed else "FAILED"
+                print(f"test {run.name} ... {word} ({took:.1f} s)", flush=True)
                 if not passed:
                     failed.append(run.name)
                     print("".join(f"    {it}\n" for it in printed.splitlines()), end="", flush=True)

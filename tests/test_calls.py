@@ -5,7 +5,7 @@ import threading
 import time
 
 from c37118 import SEND_CONFIG_2
-from peers import RATE, Closed, Pair, expect, frame_like, now_soc, pmu, same, stream, stream_frame, subscriber, takes, until
+from peers import RATE, Closed, Pair, expect, frame_like, now_soc, pmu, same, stream, stream_frame, subscriber, takes, until, with_wrong_check
 
 
 def calls_within(source, seconds, answer):
@@ -105,9 +105,7 @@ def test_a_configuration_with_a_wrong_check_is_asked_for_again(bench):
     pair.nine.come()
     pair.seven.accept()
     pair.seven.is_asked(SEND_CONFIG_2)
-    wrong = bytearray(pair.seven.configuration())
-    wrong[-1] ^= 1
-    pair.seven.link.send(bytes(wrong))
+    pair.seven.link.send(with_wrong_check(pair.seven.configuration()))
     begun = time.monotonic()
     pair.seven.announce()
     expect(time.monotonic() - begun < 4.5, "it was asked again late")

@@ -30,7 +30,8 @@ class Chain:
         slot = now_soc() * RATE
         for at in range(30):
             self.seven.measure(slot + at, at)
-            self.client.comes(stream_frame(300, slot + at, at))
+            # (where the stream was on before source 101 announced, CFG-2 comes unasked too)
+            same(self.client.data().hex(), stream_frame(300, slot + at, at).hex(), "another frame came")
 
 
 def test_chain_whose_first_is_started_first(bench):

@@ -3,9 +3,11 @@ import os
 import signal
 import socket
 import stat
+import subprocess
+import sys
 import time
 
-from peers import PATIENCE, Pair, expect, metrics, pmu, same, subscriber, takes, until
+from peers import PATIENCE, Lines, Pair, PassedBy, expect, metrics, pmu, same, subscriber, takes, until
 
 
 class Client:
@@ -178,6 +180,52 @@ def test_the_socket_is_its_user_s_alone(bench):
     with open(plain) as f:
         same(f.read(), "text")
     gateway.quit()
+
+
+# Another user, who connects as soon as it can to the control socket, at its path or where it is made.
+STRANGER = """
+import os, socket, sys
+os.setgid(65534)
+os.setuid(65534)
+print("tries", flush=True)
+while True:
+    for path in (sys.argv[1], sys.argv[2] + "/.0/s"):
+        try:
+            socket.socket(socket.AF_UNIX).connect(path)
+            print("connected at", path, flush=True)
+        except OSError:
+            pass
+"""
+
+
+@takes(9)
+def test_the_socket_is_never_open_to_others(bench):
+    """Under umask 000, in a folder that everybody may enter, another user tries without end to connect while the program starts 20 times: it never may."""
+    if os.getuid():
+        raise PassedBy("only root may start a program as another user")
+    folder, path = bench.folder, f"{bench.folder}/setup.control"
+    os.chmod(folder, 0o755)
+    stranger = subprocess.Popen([sys.executable, "-c", STRANGER, path, folder], stdin=subprocess.DEVNULL, stdout=subprocess.PIPE,
+                                stderr=subprocess.STDOUT)
+    try:
+        printed = Lines(stranger.stdout)
+        until(lambda: printed.lines, "the other user's first try")
+        same(printed.lines[0], "tries")
+        for _ in range(20):
+            gateway = bench.gateway(f'control = "{path}"\n' + pmu(7) + subscriber(20), words=("sh", "-c", 'umask 000; exec "$@"', "sh"))
+            until(lambda: os.path.exists(path) and gateway.ctl("pmustats 7")[0] == 0, "the control socket is served")
+            same(oct(stat.S_IMODE(os.stat(path).st_mode)), "0o600")
+            gateway.quit()
+        same((printed.lines, stranger.poll()), (["tries"], None), "what the other user printed")
+        # The tries are such that a socket which is open to all is found.
+        with socket.socket(socket.AF_UNIX) as opened:
+            os.unlink(path) if os.path.exists(path) else None
+            opened.bind(path)
+            os.chmod(path, 0o777)
+            opened.listen(64)
+            until(lambda: printed.lines[1:], "the other user connects to a socket that is open to all")
+    finally:
+        stranger.kill()
 
 
 def test_a_flood_of_lines(bench):

@@ -5,7 +5,7 @@ import re
 import time
 
 from c37118 import START, STOP, command, frame, stamp
-from peers import Pair, expect, metrics, now_soc, same, takes, until
+from peers import Pair, expect, metrics, now_soc, same, takes, until, with_wrong_check
 
 RING = 16
 # A frame of 16 PMUs of 27 phasors: head, blocks of STAT, phasors, FREQ and DFREQ, and CHK.
@@ -138,10 +138,9 @@ def test_a_source_that_floods_with_garbage(bench):
     pair = Pair(bench)
     gateway = pair.run()
     pair.start()
-    wrong = bytearray(pair.nine.data(now_soc() * 30, 1))
-    wrong[-1] ^= 1
+    wrong = with_wrong_check(pair.nine.data(now_soc() * 30, 1))
     for _ in range(10):
-        pair.nine.link.send(bytes(wrong) * 2600)
+        pair.nine.link.send(wrong * 2600)
         pair.first_is_served(2)
     until(lambda: " BadCheck=26000 " in gateway.status()["source 9"], "26,000 frames of source 9 that are ignored")
     for _ in range(3):

@@ -26,7 +26,7 @@ def test_an_edit_that_makes_frames_hands_them_out_at_once(bench):
     seven, eight, ports = bench.source(7), bench.source(8), (bench.port(), bench.port())
     text = "tick_ms = 1000\nserve = 2\n" + pmu(7, connect=seven.address) + pmu(8, connect=eight.address)
     text += subscriber(1, ports[0], grants=[8]) + stream(101, [8])
-    text += subscriber(20, ports[1], grants=[7, 8]) + stream(2000, [7, 8], wait=60)
+    text += subscriber(20, ports[1], grants=[7, 8], change="keep") + stream(2000, [7, 8], wait=60)
     gateway = bench.gateway(text).serves(1, 20)
     eight.come()
     seven.come()
@@ -123,7 +123,7 @@ def test_a_subscriber_is_dropped_and_added_by_lines(bench):
 
 def test_a_revoked_pmu_is_handed_out_no_more(bench):
     """`revoke` and `grant` decide what one subscriber gets, and nobody else."""
-    pair = Pair(bench)
+    pair = Pair(bench, second={"change": "keep"})
     gateway = pair.run()
     pair.start()
     pair.second_is_served()

@@ -1,8 +1,10 @@
 """`reload`: what changed in the file is done and nothing else, while a neighbour gets each frame over the connection that it has."""
+import socket
 import time
 
 from c37118 import CONFIG_2, data_of, stamp
 from peers import RATE, Pair, expect, is_refused, now_soc, number_block, pmu, same, stream, stream_frame, subscriber, takes, until
+from test_layouts import RATE as SWAP_RATE, WAIT, Swap
 
 
 class Reloads(Pair):
@@ -251,3 +253,114 @@ def test_reload_sets_the_level_of_the_log(bench):
     bench.subscriber(pair.ports[1])
     pair.gateway.logs("INFO subscriber 20: connected from.*", 2)
     pair.end()
+
+
+class Crowded(Swap):
+    """A swap beside 40 subscribers without a port, each of which is granted 20 PMUs that no source has; which ones, each reload changes. So there
+    is time between the edits of one reload."""
+    turn = 0
+
+    def text(self, grants, streams=None):
+        low = 1000 + 20 * (self.turn % 2)
+        crowd = "".join(pmu(it, source=900) for it in range(1000, 1040))
+        crowd += "".join(subscriber(200 + it, grants=[f"900/{low + at}" for at in range(20)]) for it in range(40))
+        return super().text(grants, streams) + crowd
+
+
+@takes(14)
+def test_reload_that_swaps_grants_and_changes_the_same_stream(bench):
+    """Twenty reloads, each of which swaps a grant for one of an equally long block and changes `wait` of the stream: the stream is removed before any grant
+    changes, and so no frame is misread, before the subscriber is disconnected or has its CFG-2."""
+    swap = Crowded(bench, [7])
+    for turn in range(1, 21):
+        swap.turn, number = turn, (7, 20)[turn % 2]
+        swap.reload([number], stream(101, [7, 20, 21, 8], rate=SWAP_RATE, wait=30 + turn % 2, window=20))
+        swap.reader.reads(101, [number], 3)
+    swap.end(closed=swap.reader.count("closed"))
+
+
+def test_the_order_of_a_reload(bench):
+    """The log has the edits of a reload in their order: the stream is removed, then grants change, then the stream is defined."""
+    swap = Swap(bench, [7])
+    swap.reload([20], stream(101, [7, 20, 21, 8], rate=SWAP_RATE, wait=29, window=20))
+    wanted = ["stream 101 is removed", "the grant of PMU 7/7 is revoked", "PMU 20/20 is granted", "stream 101 is defined"]
+    swap.gateway.logs("subscriber 1: stream 101 is defined")
+    same([it.split("subscriber 1: ")[1] for it in swap.gateway.log.lines if it.endswith(tuple(wanted))], wanted, "what the log says of the edits")
+    swap.reader.reads(101, [20])
+    swap.end(closed=swap.reader.count("closed"))
+
+
+@takes(3)
+def test_reload_that_swaps_grants_and_removes_the_stream(bench):
+    """The same where the stream is gone from the file: its subscriber is disconnected, and got no frame of the new grants."""
+    swap = Crowded(bench, [7], again=False)
+    swap.turn = 1
+    swap.reload([20], stream(102, [20], **WAIT))
+    until(lambda: swap.reader.count("closed") == 1, "a stream that is on is gone", 5)
+    swap.end(closed=1)
+
+
+class Taken(Reloads):
+    """Somebody else has bound the port of subscriber 3, which a reload adds."""
+
+    def __init__(self, bench):
+        super().__init__(bench)
+        self.begin()
+        self.port, self.holder = bench.port(), socket.socket()
+        bench.made.append(self.holder)
+        self.holder.bind(("", self.port))
+        self.holder.listen()
+        self.tables["third"] = subscriber(3, self.port, ring=16, grants=[9]) + stream(300, [9])
+        self.is_taken()
+
+    def reloads(self):
+        answer = self.gateway.reloads(self.more + "".join(self.tables.values()))
+        self.first_is_served()
+        return answer
+
+    def is_taken(self):
+        answer = self.reloads()
+        same(answer[:2], [f"subscriber 3: port 0.0.0.0:{self.port}: address in use", "refused 39 ReadFault"], "the answer to `reload`")
+        same(self.gateway.logged("subscriber 3: may connect.*"), 0)
+
+    def is_open(self):
+        client = self.bench.subscriber(self.port)
+        client.start(300)
+        slot, number = next(self.slots())
+        self.nine.measure(slot, number)
+        client.comes(stream_frame(300, slot, number))
+        self.second.comes(stream_frame(2000, slot, number))
+        self.end()
+
+
+def test_a_reload_tries_a_port_again(bench):
+    """A port that is taken is tried again by each reload, also of the same file; once it is free the next reload opens it."""
+    taken = Taken(bench)
+    same(taken.reloads(), ["reloaded: 0 edits, 0 orders"], "the answer to `reload`")
+    same(taken.gateway.logged("subscriber 3: may connect.*"), 0)
+    taken.holder.close()
+    same(taken.reloads(), ["reloaded: 0 edits, 0 orders"], "the answer to `reload`")
+    taken.gateway.logs(rf"subscriber 3: may connect at 0\.0\.0\.0:{taken.port}")
+    taken.is_open()
+    same(taken.gateway.logged("WARN subscriber 3: its port can't be bound: address in use"), 1)
+
+
+@takes(36)
+def test_a_port_is_tried_again_by_itself(bench):
+    """A port that is taken is tried each 30 seconds: it is opened without a reload once it is free."""
+    taken = Taken(bench)
+    begun = time.monotonic()
+
+    def is_opened():
+        # (a source that sends nothing for seconds is asked again)
+        time.sleep(0.5)
+        taken.slot = max(taken.slot, now_soc() * RATE)
+        taken.first_is_served()
+        taken.second_is_served()
+        if time.monotonic() > begun + 22:
+            taken.holder.close()
+        return taken.gateway.logged("subscriber 3: may connect.*")
+
+    until(is_opened, "the port is opened", 36)
+    expect(time.monotonic() > begun + 20, "the port was opened while somebody else had it")
+    taken.is_open()

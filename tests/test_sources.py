@@ -3,7 +3,7 @@ import socket
 import time
 
 from c37118 import SEND_CONFIG_2, START
-from peers import RATE, Pair, expect, now_soc, pmu, same, stream, stream_frame, subscriber, takes, until
+from peers import RATE, Pair, expect, now_soc, pmu, same, stream, stream_frame, subscriber, takes, until, with_wrong_check
 
 
 def ends(source, seconds=3):
@@ -114,14 +114,13 @@ def test_silence_ends_with_data_alone(bench):
     """Frames that count keep a connection; wrong ones do not."""
     pair = Pair(bench, seven={"silence": 1}, nine={"silence": 1})
     gateway = pair.run()
-    wrong = bytearray(pair.nine.data(now_soc() * RATE, 1))
-    wrong[-1] ^= 1
+    wrong = with_wrong_check(pair.nine.data(now_soc() * RATE, 1))
     begun = time.monotonic()
     for slot, number in pair.slots(20):
         pair.seven.measure(slot, number)
         if pair.nine.link.is_closed(0.1):
             break
-        pair.nine.link.send(bytes(wrong))
+        pair.nine.link.send(wrong)
     expect(time.monotonic() - begun < 2, "source 9 sends wrong frames alone, and was not called again")
     stays(pair.seven)
     same(gateway.logged("source 7: called at .*"), 1)
@@ -197,9 +196,7 @@ def test_frames_that_are_ignored_are_counted_by_reason(bench):
     pair = Pair(bench)
     gateway = pair.run()
     pair.start()
-    wrong_check = bytearray(pair.nine.data(now_soc() * RATE, 1))
-    wrong_check[-1] ^= 1
-    pair.nine.link.send(bytes(wrong_check) * 2 + pair.seven.data(now_soc() * RATE, 1))
+    pair.nine.link.send(with_wrong_check(pair.nine.data(now_soc() * RATE, 1)) * 2 + pair.seven.data(now_soc() * RATE, 1))
     pair.second_is_served(2)
     line = gateway.status()["source 9"]
     expect(" up frames 6 events 3 ignored BadCheck=2 WrongId=1 last " in line, f"six frames came, of which three count: {line}")

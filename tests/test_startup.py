@@ -1,10 +1,12 @@
 """Start: what is printed where the program can't start, `check`, and the demo."""
+import os
 import re
+import signal
 import socket
 import subprocess
 import time
 
-from peers import PATIENCE, Pair, expect, pmu, same, stream, subscriber, takes
+from peers import PATIENCE, Pair, expect, metrics, pmu, same, stream, subscriber, takes
 
 
 def printed(bench, text, word="run", name="setup"):
@@ -40,16 +42,69 @@ def test_mistakes_of_a_setup(bench):
     same(printed(bench, text, "check")[2].splitlines()[0], wanted.splitlines()[0], "check:")
 
 
+def test_a_setup_of_many_mistakes(bench):
+    """Of 100,000 tables with a mistake each the first 100 are printed and the others counted, within 5 seconds."""
+    begun = time.monotonic()
+    status, out, errors = printed(bench, "[[pmu]]\nid = 0\n" * 100_000 + subscriber(20), "check")
+    took, lines = time.monotonic() - begun, errors.splitlines()
+    wanted = [f"setup.toml:{2 * at}: pmu.id: is the number 0; it has to be a whole number from 1 to 65534" for at in range(1, 101)]
+    same((status, out, lines), (1, "", [*wanted, "setup.toml: 99900 more faults", "pdcgw: 37 BadSetup"]))
+    expect(took < 5, f"it took {took:.1f} s")
+
+
+def test_a_reload_of_many_mistakes(bench):
+    """A reload of a file with 4,000 unknown keys is answered within 2 seconds by the first 100 of them and a count; a subscriber, the metrics and the
+    control socket are served meanwhile, each within a second."""
+    page, pair = bench.port(), Pair(bench)
+    pair.text = f'status = "127.0.0.1:{page}"\ncontrol = "{bench.folder}/setup.control"\n' + pair.text
+    gateway = pair.run()
+    pair.start()
+    gateway.write(pair.text + "".join(f"key{at} = 1\n" for at in range(4_000)))
+    begun = time.monotonic()
+    gateway.say("reload")
+    for served in (lambda: pair.first_is_served(3), lambda: metrics(page), lambda: same(gateway.ctl("pmustats 9"), (0, "pmustats taken 0\n", ""))):
+        at = time.monotonic()
+        served()
+        expect(time.monotonic() - at < 1, f"amid a reload it took {time.monotonic() - at:.1f} s")
+    answer = gateway.lines(102)
+    took = time.monotonic() - begun
+    same((answer[100].split(": ")[1], answer[101]), ("3900 more faults", "refused 37 BadSetup"), "the end of the answer")
+    expect(took < 2, f"the reload took {took:.1f} s")
+    pair.second_is_served()
+    gateway.quit()
+
+
+def test_a_sighup_ends_the_program_and_the_unit_starts_it_again(bench):
+    """SIGHUP, which the program can't catch, ends it. Started again at once with the same setup, over the socket that was left, it serves; and the unit starts
+    it again however it ended."""
+    pair = Pair(bench)
+    pair.text = f'control = "{bench.folder}/setup.control"\n' + pair.text
+    gateway = pair.run()
+    first, second = pair.start()
+    gateway.process.send_signal(signal.SIGHUP)
+    same(gateway.ended(), -signal.SIGHUP, "the status of the program")
+    expect(first.is_closed(1) and second.is_closed(1), "connections end with the program")
+    gateway = pair.run()
+    pair.start()
+    pair.first_is_served()
+    pair.second_is_served()
+    same(gateway.ctl("pmustats 7"), (0, "pmustats taken 1\n", ""))
+    gateway.quit()
+    with open(os.path.join(os.path.dirname(os.path.abspath(__file__)), "..", "docs", "pdcgw.service")) as f:
+        expect("Restart=always\n" in f.readlines(), "docs/pdcgw.service has Restart=always")
+
+
 def test_a_setup_that_can_not_be_read(bench):
     same(printed(bench, None, name="none"), (1, "", "none.toml: can't be read: there is no such file\npdcgw: 39 ReadFault\n"))
 
 
 def test_edits_that_are_refused(bench):
     """An edit of the setup that the gateway refuses: whom it concerns, why, and its number."""
+    wrong = subscriber(3, ring=4, grants=[8])
     for word in ("run", "check"):
-        status, out, errors = printed(bench, pmu(7) + subscriber(3, ring=4, grants=[8]), word)
+        status, out, errors = printed(bench, pmu(7) + wrong, word)
         same((status, out), (1, ""))
-        expect(errors.startswith("setup.toml:6: subscriber 3: grant of PMU 8/8: refused NoSuchPmu: "), errors)
+        expect(errors.startswith(f"setup.toml:{line_of(pmu(7), wrong, 'grants')}: subscriber 3: grant of PMU 8/8: refused NoSuchPmu: "), errors)
         expect(errors.endswith("\npdcgw: 23 NoSuchPmu\n"), errors)
 
 

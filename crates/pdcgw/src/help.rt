@@ -112,8 +112,11 @@ A setup file is TOML:
     silence                after so many seconds without an event its source is called again: 1 to 3600, or 0 for never;
                            10 where not given
     clock_ms               a measurement of its source that is further from this machine's clock is refused: 1 to 30000
-                           milliseconds; where not given, one that is further than 30 seconds. PMUs of one source that give
-                           it, or `silence`, agree
+                           milliseconds; where not given, one that is further than 30 seconds
+    ahead_ms               a measurement of its source that is further ahead of the reference is refused: 1 to 30000
+                           milliseconds, or 0 for no such rule; 200 where not given. The reference is this machine's clock, or
+                           the lower median of the newest times of all connected sources where that is later. PMUs of one
+                           source that give it, `silence` or `clock_ms`, agree
   [[subscriber]]           a subscriber
     id                     its number: 1 to 65535
     port                   where it connects, 1 to 65535; nowhere where not given
@@ -125,6 +128,9 @@ A setup file is TOML:
                            30 where not given
     idle                   hung up where it neither sent nor was sent a byte for so many seconds: 1 to 3600, or 0 for never;
                            never where not given
+    change                 what is done where the layout of a stream changes while it is on. safe, or not given: hung up where a
+                           data frame could be read by the layout before, else sent a CFG-2 that it did not ask for. hangup:
+                           hung up. keep: nothing
     ring                   at most so many data frames wait for it: 1 to 1024
     bytes                  at most so many bytes of them: 16 to 16777216, which is the value where not given
     grants                 a list of PMUs, each a number N, which is N/N, or a text \"S/N\"

@@ -192,7 +192,12 @@ impl<'a, W: Write> Console<'a, W> {
     ) -> Reply {
         let change = Change::of(&edit);
         let asked = Asked::of(&edit);
+        // It is counted before it is posted, so that no worker that hands out frames by it is unaware of it; and behind that, so that a worker
+        // that asked about streams meanwhile asks again.
+        let changes = self.told.neighbours.board.layout_changes();
+        changes.begin();
         let reply = gate.post(event_of(edit));
+        changes.end();
         self.follow(rt, gate, change, &reply);
         self.log_edit(rt, asked, &reply);
         reply

@@ -7,6 +7,7 @@ use pg_service::{
 };
 use pg_wire::{PmuId, Refusal, StreamId, SubId};
 use std::alloc::Global;
+use std::net::SocketAddr;
 use std::rt::Clock;
 use std::sync::atomic::{AtomicBool, Ordering};
 use std::sync::{Mutex, Wait};
@@ -123,20 +124,40 @@ impl Told<'_> {
 
     /// The subscriber's port is served from now on, by its worker and by these rules.
     pub fn open<R: Wait>(&self, rt: &R, sub: SubId, rules: DoorRules, listener: PortListener) {
+        let order = PortOrder::Open {
+            sub,
+            rules,
+            listener,
+        };
+        self.send_to_server(rt, sub, order);
+    }
+
+    /// The subscriber's port can't be bound now: its worker tries it again later.
+    pub fn bind_later<R: Wait>(&self, rt: &R, sub: SubId, rules: DoorRules, address: SocketAddr) {
+        let order = PortOrder::Bind {
+            sub,
+            rules,
+            address,
+        };
+        self.send_to_server(rt, sub, order);
+    }
+
+    /// Sends this order to the worker that serves the subscriber.
+    fn send_to_server<R: Wait>(&self, rt: &R, sub: SubId, order: PortOrder) {
         let Neighbours { ports, journal, .. } = self.neighbours;
         let mut registered = self.registered.lock(rt);
         let place = registered.servers.worker_of(sub.get(), ports.len());
         drop(registered);
         match mailbox_at(ports, place) {
-            Some(mailbox) => {
-                let order = PortOrder::Open {
-                    sub,
-                    rules,
-                    listener,
-                };
-                mailbox.send(rt, journal, order);
-            }
+            Some(mailbox) => mailbox.send(rt, journal, order),
             None => self.note(Notice::MailFault),
+        }
+    }
+
+    /// The ports that could not be bound are tried again.
+    pub fn bind_again<R: Wait>(&self, rt: &R) {
+        for mailbox in self.neighbours.ports {
+            mailbox.send(rt, self.neighbours.journal, PortOrder::BindAgain);
         }
     }
 

@@ -12,10 +12,10 @@ use crate::stage::Stage;
 use mio::net::TcpListener as PortListener;
 use pg_console::{Console, Counter, EditsAlone, Told};
 use pg_demo_core::{Course, SOURCES, demo_settings};
-use pg_limits::Allow;
+use pg_limits::{Allow, OnChange};
 use pg_service::{
-    Address, Dial, DoorRules, Mailbox, Neighbours, Port, PortOrder, PortWorker, SourceOrder,
-    SourceWorker, Ticker, Waiting,
+    Address, Dial, DoorRules, Guards, Mailbox, Neighbours, Port, PortOrder, PortWorker,
+    SourceOrder, SourceWorker, Ticker, Waiting,
 };
 use pg_shared::{Named, Seat, Shared, SharedGate, Work};
 use pg_tools::{Simulator, Style};
@@ -120,7 +120,7 @@ fn player<R: Net>(rt: &R, alloc: Global, place: u8) -> Result<(Simulator, Dial),
         source: source_id(settings.numbers.first)?,
         address: Address::Known(simulator.address()?),
         silence: None,
-        guard: None,
+        guards: Guards::none(),
     };
     Ok((simulator, dial))
 }
@@ -137,6 +137,7 @@ fn port<R: Net>(rt: &R, number: u16) -> Result<(Port, SocketAddr), Fault> {
         takeover: false,
         stall: None,
         idle: None,
+        change: OnChange::Safe,
     };
     Ok((Port::new(sub_id(number)?, rules, listener), address))
 }

@@ -138,6 +138,8 @@ fn hand(chunk: &[u8], buffer: &mut [u8]) -> usize
 }
 
 impl Gate for FakeGate<'_> {
+    ghost frames = { λ _ _ e. absurd (cc e) };
+
     ghost stays = { λ _. tt };
 
     ghost joins = { λ _ _ _ _ _. tt };

@@ -30,3 +30,4 @@ pub mod RouteLaws
 pub mod RouteKept
 pub mod MaskLaws
 pub mod OnlyLaws
+pub mod Taken

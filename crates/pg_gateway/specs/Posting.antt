@@ -1,15 +1,37 @@
 -- Which replies may come to which events, by their form.
-use Rattle.std.specs.Prelude.{◌≡◌, ◌≤◌, ℕ, List, ◌++◌, length, drop, Option, Some, None}
+use Rattle.std.specs.Prelude.{◌≡◌, ◌≤◌, ℕ, Bool, true, false, List, [], ◌∷◌, ◌++◌, length, drop, Option, Some, None}
 use Rattle.pg_gateway.specs.declared.event.Event.{Event}
 use Rattle.pg_gateway.specs.declared.event.Event.TheVariants as event
 use Rattle.pg_session.specs.Ready.{handed_len}
 use Rattle.pg_gateway.specs.declared.event.Reply.{Reply}
 use Rattle.pg_gateway.specs.declared.event.Reply.TheVariants as reply
-use Rattle.pg_gateway.specs.Occurrences.{Occurrence, Answer}
+use Rattle.pg_gateway.specs.Occurrences.{Occurrence, Answer, add_pmu, drop_pmu, add_sub, drop_sub, grant, asks, announce, measure, tick, stats, pmu_stats, audit, standing, who_waits}
 
 -- an event and what it was answered
 abbrev pub Posted : Type 0
 Posted = Occurrence × Answer
+
+-- what a gate posts of an event: the event with its answer, where it takes the event
+abbrev pub posted_if : Bool → Occurrence → Answer → List Posted
+posted_if true o a = (o, a) ∷ []
+posted_if false o a = []
+
+-- a source's data frame came
+abbrev pub IsMeasured : Occurrence → Type 0
+IsMeasured (measure m) = Unit {0}
+IsMeasured (add_pmu key) = ⊥
+IsMeasured (drop_pmu key) = ⊥
+IsMeasured (add_sub u size bytes) = ⊥
+IsMeasured (drop_sub u) = ⊥
+IsMeasured (grant u key) = ⊥
+IsMeasured (asks u h) = ⊥
+IsMeasured (announce config) = ⊥
+IsMeasured (tick soc) = ⊥
+IsMeasured (stats u) = ⊥
+IsMeasured (pmu_stats key) = ⊥
+IsMeasured (audit u index) = ⊥
+IsMeasured (standing u place) = ⊥
+IsMeasured (who_waits subs) = ⊥
 
 -- What was posted grows by these, where the gate tells it.
 abbrev pub Notes : Option (List Posted) → Option (List Posted) → List Posted → Type 0

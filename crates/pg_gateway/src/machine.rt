@@ -28,6 +28,8 @@ impl Machine for Gateway {
 }
 
 impl Gate for Gateway {
+    ghost frames = { λ _ _ e. absurd (cc e) };
+
     ghost stays = { λ _. tt };
 
     ghost joins = { λ _ _ _ _ _. tt };

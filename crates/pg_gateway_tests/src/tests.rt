@@ -253,6 +253,9 @@ fn stands(
         is_on,
         effective,
         members,
+        ..standing(rt, gateway, sub, place)
+            .stream
+            .expect(rt, "a stream")
     };
     same(rt, standing(rt, gateway, sub, place).stream, Some(expected));
 }

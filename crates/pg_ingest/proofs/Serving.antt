@@ -1,5 +1,5 @@
 -- The steps of a link's loop, cut into turns.
-use Rattle.std.proofs.Common.{◌≡◌, ◌∙◌, sym, subst, ap, ap₂, refl, ◌≤◌, ◌<◌, ◌+◌, ◌⊎◌, inl, inr, Bool, true, false, not, ◌&&◌, ◌||◌, if◌then◌else◌, arith, ℕ, List, [], ◌∷◌, ◌++◌, map, reverse, length, length-append, append-nil, append_assoc, Option, Some, None}
+use Rattle.std.proofs.Common.{◌≡◌, ◌∙◌, sym, subst, ap, ap₂, refl, ◌≤◌, ◌<◌, ◌+◌, ◌⊎◌, inl, inr, Bool, true, false, not, ◌&&◌, ◌||◌, if◌then◌else◌, arith, ℕ, List, [], ◌∷◌, ◌++◌, filter, map, reverse, length, length-append, append-nil, append_assoc, Option, Some, None}
 use Rattle.std.specs.List.{flat_map, list_any}
 use Rattle.std.proofs.lemmas.List.{map-append, reverse-append, length-reverse}
 use Rattle.std.proofs.lemmas.Grind.{flat_map-append}
@@ -15,11 +15,11 @@ use Rattle.pg_ingest.specs.Items.{Item, AreTold}
 use Rattle.pg_ingest.specs.Commands.{Act, tells, asks, told_in, is_accepted, is_start, is_question, owes_config, owes_start, owed_word}
 use Rattle.pg_ingest.specs.Linking.{Linking}
 use Rattle.pg_ingest.specs.Shown.{LinkPast, ShowsLink, IsAllTold, feeding, doing, word_due}
-use Rattle.pg_ingest.specs.Runs.{Step, begins, reads, posts, stepping, after_steps, AreSteps, bytes_of, events_of, events_told, frame_of, Wires, RanFrom}
+use Rattle.pg_ingest.specs.Runs.{wires, Step, begins, reads, posts, stepping, after_steps, AreSteps, bytes_of, events_of, events_told, frame_of, Wires, RanFrom}
 use Rattle.pg_ingest.specs.Ends.{is_cut, LastRead, Why, TookAll, Ends}
 use Rattle.pg_ingest.specs.Served.{IsFresh, EndsDry, IsCall, SoFar, Turn, bytes_read, items_read, words_due, turning, AreTurns, after_turns, commands_in, frames_of, Served}
 use Rattle.pg_ingest.proofs.Telling.{told_in-append}
-use Rattle.pg_ingest.proofs.Stepping.{Bytes, from_more, source_stays}
+use Rattle.pg_ingest.proofs.Stepping.{Bytes, from_more, retaken, source_stays}
 use Rattle.pg_ingest.proofs.Turns.{last_more, told_more, one_told}
 
 -- ---- what is owed, asked for until none
@@ -354,7 +354,7 @@ served_by end past v before after turns unasked fresh so are bytes items words w
   told = served_told past so.ran.steps (bytes_read turns) (items_read turns) fresh so.told bytes items;
   calls = so.ran.calls;
   posted = so.ran.posted;
-  events = so.ran.events ∙ events_are so.ran.steps ∙ ap (flat_map events_told) items;
+  events = so.ran.events ∙ ap (filter before.takes) (events_are so.ran.steps ∙ ap (flat_map events_told) items);
   out = so.ran.out;
   wrote = so.ran.wrote;
   unasked = unasked;
@@ -414,14 +414,19 @@ first_call end turns past v v' before after some shows empty call =
 pub next_call : (end end' : End) (turns : ℕ) (past : LinkPast) (v v' : Linking) (first before after : Wires) → 0 < turns → SoFar end past v first before
     → IsCall end' turns v v' before after → SoFar end' past v' first after
 next_call end end' turns past v v' first before after some so call =
-    let now = after_steps past so.ran.steps in
-    let b = call.ran now so.ran.shows in
-    let both = from_more past [] v v' first.unread before.unread after.unread first.written before.written after.written first.posted before.posted after.posted so.ran b.0 in
+    let t = first.takes in
+    let one = retaken past [] v first before t t refl refl so.ran in
+    let now = after_steps past one.0.steps in
+    let b = call.ran now one.0.shows in
+    let two = retaken now v.left v' before after t t so.ran.takes refl b.0 in
+    let sum = from_more past [] v v' first.unread before.unread after.unread first.written before.written after.written first.posted before.posted after.posted one.0 two.0 in
+    let both = retaken past [] v' first (wires after.unread after.written after.posted t) t after.takes refl (b.0.takes ∙ so.ran.takes) sum.0 in
+    let are : both.0.steps ≡ one.0.steps ++ b.0.steps = both.1 ∙ sum.1 ∙ ap (λ s. one.0.steps ++ s) two.1 in
     record {
       ran = both.0;
-      told = subst (λ s. IsAllTold (after_steps past s)) (sym both.1) (told_more past so.ran.steps b.0.steps b.1.told);
+      told = subst (λ s. IsAllTold (after_steps past s)) (sym are) (told_more past one.0.steps b.0.steps b.1.told);
       last = λ uncut.
           let last = ends_last end' turns v'.left after.unread now b.0.steps b.1 some uncut in
-          (last.0, last.1, subst (LastRead last.0) (sym both.1) (last_more last.0 so.ran.steps b.0.steps last.2));
+          (last.0, last.1, subst (LastRead last.0) (sym are) (last_more last.0 one.0.steps b.0.steps last.2));
       whole = call.whole some;
     }

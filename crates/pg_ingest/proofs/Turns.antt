@@ -16,15 +16,16 @@ use Rattle.pg_ingest.specs.Commands.{tells, asks, told_in}
 use Rattle.pg_ingest.specs.Linking.{Linking}
 use Rattle.pg_ingest.specs.Shown.{LinkPast, ShowsLink, IsAllTold, feeding, doing, word_due}
 use Rattle.pg_wire.specs.Split.{frames_in}
-use Rattle.pg_gateway.specs.Posting.{Posted as Call, Notes}
+use Rattle.pg_gateway.specs.Occurrences.{Occurrence, Answer}
+use Rattle.pg_gateway.specs.Posting.{Notes, posted_if}
 use Rattle.pg_ingest.specs.Begun.{Begins}
-use Rattle.pg_ingest.specs.Runs.{Step, begins, reads, posts, stepping, after_steps, events_told, event_posted, wires, Ran, RanOn}
+use Rattle.pg_ingest.specs.Runs.{Step, begins, reads, posts, stepping, after_steps, events_told, wires, Ran, RanOn}
 use Rattle.pg_ingest.specs.Ends.{AreFed, is_cut, pieces_in, LastRead, break_after, Why, Ends}
 use Rattle.pg_ingest.specs.Transfers.{EndsRead, IsStuck}
 use Rattle.pg_ingest.specs.Turning.{EndsTurn, OnlyBegins, TellsAll}
 use Rattle.pg_ingest.proofs.Known.{appends_nil, notes_nil}
 use Rattle.pg_ingest.proofs.Telling.{told_in-append}
-use Rattle.pg_ingest.proofs.Stepping.{Bytes, Calls, after-append, from_wrote, from_step, from_more, from_begun, from_told, from_ignored}
+use Rattle.pg_ingest.proofs.Stepping.{Bytes, Calls, Takes, after-append, from_wrote, from_step, from_more, from_begun, from_told, from_ignored}
 
 -- ---- lists of steps
 
@@ -104,30 +105,31 @@ pub posted_none : (past : LinkPast) (a : List Step) → a ≡ [] → Posted past
 posted_none past a is = ([], is)
 
 -- a command was begun
-pub ran_begun : (v v' : Linking) (r w : Bytes) (p : Calls) → v.left ≡ [] → ((past : LinkPast) → ShowsLink v past → Begins past v' true) → RanOn Begun v v' (wires r w p) (wires r w p)
+pub ran_begun : {t : Takes} → (v v' : Linking) (r w : Bytes) (p : Calls) → v.left ≡ [] → ((past : LinkPast) → ShowsLink v past → Begins past v' true) → RanOn Begun v v' (wires r w p t) (wires r w p t)
 ran_begun v v' r w p empty gives past shows told =
     let given = gives past shows in
     let did = from_begun past v v' r w p empty told given in
     (did.0, (given.0 ∷ [], did.1))
 
--- what was told was posted
-pub ran_told : (v v' : Linking) (r w : Bytes) (p p' : Calls) (item : Item) (call : Call) → ((past : LinkPast) → ShowsLink v past → ShowsLink v' (doing past (tells item)))
-    → Notes p p' (call ∷ []) → events_told item ≡ event_posted call ∷ [] → v'.left ≡ v.left → Ran Posted v v' (wires r w p) (wires r w p')
-ran_told v v' r w p p' item call told posted is left past shows =
-    let did = from_told past v v' r w p p' item call (told past shows) posted is left in
+-- what was told was posted, where the gate takes it
+pub ran_told : {t : Takes} → (v v' : Linking) (r w : Bytes) (p p' : Calls) (item : Item) (o : Occurrence) (a : Answer) (u : Takes) → u ≡ t
+    → ((past : LinkPast) → ShowsLink v past → ShowsLink v' (doing past (tells item)))
+    → Notes p p' (posted_if (u o) o a) → events_told item ≡ o ∷ [] → v'.left ≡ v.left → Ran Posted v v' (wires r w p t) (wires r w p' t)
+ran_told v v' r w p p' item o a u same told posted is left past shows =
+    let did = from_told past v v' r w p p' item o a (told past shows) (subst (λ (x : Takes). Notes p p' (posted_if (x o) o a)) same posted) is left in
     (did.0, (item ∷ [], did.1))
 
 -- a frame was ignored
-pub ran_ignored : (v v' : Linking) (r w : Bytes) (p : Calls) (refusal : Refusal)
-    → ((past : LinkPast) → ShowsLink v past → (item : Item) × (reason_of item ≡ Some refusal) × ShowsLink v' (doing past (tells item))) → v'.left ≡ v.left → Ran Posted v v' (wires r w p) (wires r w p)
+pub ran_ignored : {t : Takes} → (v v' : Linking) (r w : Bytes) (p : Calls) (refusal : Refusal)
+    → ((past : LinkPast) → ShowsLink v past → (item : Item) × (reason_of item ≡ Some refusal) × ShowsLink v' (doing past (tells item))) → v'.left ≡ v.left → Ran Posted v v' (wires r w p t) (wires r w p t)
 ran_ignored v v' r w p refusal gives left past shows =
     let given = gives past shows in
     let did = from_ignored past v v' r w p refusal given.0 given.1 given.2 left in
     (did.0, (given.0 ∷ [], did.1))
 
 -- the events were told, and there are no more
-pub ran_told_all : (v v' v'' : Linking) (r w : Bytes) (p p' : Calls) (broken : Option Refusal) → Ran Posted v v' (wires r w p) (wires r w p')
-    → ((past : LinkPast) → ShowsLink v' past → IsAllTold past × (break_in past.stream ≡ broken) × ShowsLink v'' past) → v''.left ≡ v'.left → Ran (TellsAll broken) v v'' (wires r w p) (wires r w p')
+pub ran_told_all : {t : Takes} → (v v' v'' : Linking) (r w : Bytes) (p p' : Calls) (broken : Option Refusal) → Ran Posted v v' (wires r w p t) (wires r w p' t)
+    → ((past : LinkPast) → ShowsLink v' past → IsAllTold past × (break_in past.stream ≡ broken) × ShowsLink v'' past) → v''.left ≡ v'.left → Ran (TellsAll broken) v v'' (wires r w p t) (wires r w p' t)
 ran_told_all v v' v'' r w p p' broken first gives left past shows =
     let a = first past shows in
     let now = after_steps past a.0.steps in
@@ -143,10 +145,10 @@ abbrev pub Completes : List ℕ → Option Refusal → LinkPast → List Step �
 Completes piece broken past steps =
     LastRead piece steps × (pieces_in steps ≡ piece ∷ []) × IsAllTold (after_steps past steps) × (break_after past steps ≡ broken)
 
-pub turn_done : (v v1 v2 v3 : Linking) (r r' w w' : Bytes) (p p' : Calls) (piece : List ℕ) (broken : Option Refusal)
-    → RanOn Begun v v1 (wires r w p) (wires r w' p) → ((past : LinkPast) → ShowsLink v1 past → word_due past ≡ None)
+pub turn_done : {t : Takes} → (v v1 v2 v3 : Linking) (r r' w w' : Bytes) (p p' : Calls) (piece : List ℕ) (broken : Option Refusal)
+    → RanOn Begun v v1 (wires r w p t) (wires r w' p t) → ((past : LinkPast) → ShowsLink v1 past → word_due past ≡ None)
     → length piece ≤ 4096 → Consumes r r' piece → ((past : LinkPast) → ShowsLink v1 past → ShowsLink v2 (feeding past piece)) → v2.left ≡ v1.left
-    → Ran (TellsAll broken) v2 v3 (wires r' w' p) (wires r' w' p') → RanOn (Completes piece broken) v v3 (wires r w p) (wires r' w' p')
+    → Ran (TellsAll broken) v2 v3 (wires r' w' p t) (wires r' w' p' t) → RanOn (Completes piece broken) v v3 (wires r w p t) (wires r' w' p' t)
 turn_done v v1 v2 v3 r r' w w' p p' piece broken asked none small read fed left tell past shows told =
     let a = asked past shows told in
     let now = after_steps past a.0.steps in
@@ -230,11 +232,11 @@ ends_cut (Fault n) left r past steps is begun told = (
   λ cut unbroken. ap (break_after past) begun.1 ∙ ap break_in (stream-begins past begun.0) ∙ unbroken,
 )
 
-pub turn_cut : (v v' : Linking) (r w w' : Bytes) (p : Calls) (end : End) → IsStuck end v'.left → RanOn Begun v v' (wires r w p) (wires r w' p) → RanOn (EndsTurn (Some end) v'.left r) v v' (wires r w p) (wires r w' p)
+pub turn_cut : {t : Takes} → (v v' : Linking) (r w w' : Bytes) (p : Calls) (end : End) → IsStuck end v'.left → RanOn Begun v v' (wires r w p t) (wires r w' p t) → RanOn (EndsTurn (Some end) v'.left r) v v' (wires r w p t) (wires r w' p t)
 turn_cut v v' r w w' p end is ran past shows told = let a = ran past shows told in (a.0, ends_cut end v'.left r past a.0.steps is a.1 told)
 
-pub turn_as : (P Q : LinkPast → List Step → Type 0) → ((past : LinkPast) (a : List Step) → P past a → Q past a)
-    → (v v' : Linking) (r r' w w' : Bytes) (p p' : Calls) → RanOn P v v' (wires r w p) (wires r' w' p') → RanOn Q v v' (wires r w p) (wires r' w' p')
+pub turn_as : {t : Takes} → (P Q : LinkPast → List Step → Type 0) → ((past : LinkPast) (a : List Step) → P past a → Q past a)
+    → (v v' : Linking) (r r' w w' : Bytes) (p p' : Calls) → RanOn P v v' (wires r w p t) (wires r' w' p' t) → RanOn Q v v' (wires r w p t) (wires r' w' p' t)
 turn_as P Q is v v' r r' w w' p p' ran past shows told = let a = ran past shows told in (a.0, is past a.0.steps a.1)
 
 -- ---- the turns of a call

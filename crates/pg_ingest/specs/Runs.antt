@@ -1,5 +1,5 @@
 -- What a link's loop reads, posts and writes, step by step.
-use Rattle.std.specs.Prelude.{◌≡◌, ◌≤◌, ℕ, List, [], ◌∷◌, ◌++◌, map, length, Option, Some, None}
+use Rattle.std.specs.Prelude.{◌≡◌, ◌≤◌, ℕ, Bool, List, [], ◌∷◌, ◌++◌, filter, map, length, Option, Some, None}
 use Rattle.std.specs.List.{flat_map}
 use Rattle.std.specs.Io.KnownBytes.{Appends, Consumes}
 use Rattle.pg_command.specs.declared.word.Word.{Word}
@@ -68,17 +68,18 @@ abbrev pub event_posted : Posted → Occurrence
 event_posted p = p.0
 
 -- What stands at the other ends of a link, as far as they tell it: the bytes that its reader has left, the bytes that its writer
--- was given, and what was posted at its gate.
+-- was given, what was posted at its gate, and which events its gate takes.
 pub record Wires : Type 0 where
   pub unread : Option (List ℕ)
   pub written : Option (List ℕ)
   pub posted : Option (List Posted)
+  pub takes : Occurrence → Bool
 
-abbrev pub wires : Option (List ℕ) → Option (List ℕ) → Option (List Posted) → Wires
-wires unread written posted = record { unread = unread; written = written; posted = posted }
+abbrev pub wires : Option (List ℕ) → Option (List ℕ) → Option (List Posted) → (Occurrence → Bool) → Wires
+wires unread written posted takes = record { unread = unread; written = written; posted = posted; takes = takes }
 
--- From this past, with these bytes left to write, some steps were done: the reader gave the pieces, the events that they
--- tell were posted, each once and in order, and the commands were written behind what was left, but for what is left now.
+-- From this past, with these bytes left to write, some steps were done: the reader gave the pieces, those of their events that the
+-- gate takes were posted, each once and in order, and the commands were written behind what was left, but for what is left now.
 pub record RanFrom (past : LinkPast) (left : List ℕ) (v : Linking) (before after : Wires) : Type 0 where
   pub steps : List Step
   pub are : AreSteps past steps
@@ -86,7 +87,8 @@ pub record RanFrom (past : LinkPast) (left : List ℕ) (v : Linking) (before aft
   pub read : Consumes before.unread after.unread (flat_map bytes_of steps)
   pub calls : List Posted
   pub posted : Notes before.posted after.posted calls
-  pub events : map event_posted calls ≡ flat_map events_of steps
+  pub events : map event_posted calls ≡ filter before.takes (flat_map events_of steps)
+  pub takes : after.takes ≡ before.takes
   pub out : List ℕ
   pub wrote : Appends before.written after.written out
   pub goes_on : out ++ v.left ≡ left ++ flat_map (frame_of past.source) steps

@@ -1,5 +1,5 @@
 -- What a link's loop did over all its calls since the link was new or reset.
-use Rattle.std.specs.Prelude.{◌≡◌, ◌≤◌, ◌<◌, ℕ, false, if◌then◌else◌, List, [], ◌∷◌, ◌++◌, map, reverse, length}
+use Rattle.std.specs.Prelude.{◌≡◌, ◌≤◌, ◌<◌, ℕ, false, if◌then◌else◌, List, [], ◌∷◌, ◌++◌, filter, map, reverse, length}
 use Rattle.std.specs.List.{flat_map}
 use Rattle.std.specs.Io.KnownBytes.{Appends, Consumes}
 use Rattle.pg_wire.specs.Split.{frames_in}
@@ -28,9 +28,9 @@ EndsDry Quiet piece = piece ≡ []
 EndsDry Stalled piece = Unit {0}
 EndsDry (Fault n) piece = Unit {0}
 
--- What `run_link` ensures of a call: all events of the bytes that were read are posted, each once and in order, the commands
--- that fall due before a read are written, and the end has its cause; whatever was begun is written whole, but where a write
--- was cut short.
+-- What `run_link` ensures of a call: all events of the bytes that were read are posted, each once and in order, but for those that
+-- the gate does not take; the commands that fall due before a read are written, and the end has its cause; whatever was begun is
+-- written whole, but where a write was cut short.
 pub record IsCall (end : End) (turns : ℕ) (v v' : Linking) (before after : Wires) : Type 0 where
   pub ran : Ran (Ends end turns v'.left after.unread) v v' before after
   pub whole : 0 < turns → is_cut end ≡ false → v'.left ≡ []
@@ -80,8 +80,8 @@ commands_in past (turn ∷ turns) = words_due past ++ commands_in (turning past 
 abbrev pub frames_of : ℕ → List Word → List ℕ
 frames_of source words = flat_map (λ word. written source 0 (word_number word)) words
 
--- For some cutting of the bytes that were read into pieces, what is told of these bytes was posted, each event once and in
--- order; and what was written, with what is left to write, is the frames of the link's commands, but for some at the end that
+-- For some cutting of the bytes that were read into pieces, what is told of these bytes was posted where the gate takes it, each event
+-- once and in order; and what was written, with what is left to write, is the frames of the link's commands, but for some at the end that
 -- were not asked for. Where the last call was not cut short by its writer, there are none of those and nothing is left; and
 -- where its reader had ended or would have blocked, the last piece is empty.
 pub record Served (end : End) (past : LinkPast) (left : List ℕ) (before after : Wires) : Type 0 where
@@ -91,7 +91,7 @@ pub record Served (end : End) (past : LinkPast) (left : List ℕ) (before after 
   pub told : AreTold past.source (reverse (frames_in (bytes_read turns))) (reverse (items_read turns))
   pub calls : List Posted
   pub posted : Notes before.posted after.posted calls
-  pub events : map event_posted calls ≡ flat_map events_told (items_read turns)
+  pub events : map event_posted calls ≡ filter before.takes (flat_map events_told (items_read turns))
   pub out : List ℕ
   pub wrote : Appends before.written after.written out
   pub unasked : List Word

@@ -1,7 +1,8 @@
 //! The loop of a link over any reader, writer and gate.
 
-ghost use Rattle.std.specs.Prelude.{◌≡◌, ◌<◌, ℕ, List, [], length, false, Option, Some, None, IfSome};
+ghost use Rattle.std.specs.Prelude.{◌≡◌, ◌<◌, ℕ, Bool, List, [], length, false, Option, Some, None, IfSome};
 ghost use Rattle.pg_wire.specs.Held.{IsBreak};
+ghost use Rattle.pg_gateway.specs.Occurrences.{Occurrence};
 ghost use Rattle.pg_gateway.specs.Posting.{Posted};
 ghost use Rattle.pg_ingest.specs.Ends.{is_cut};
 ghost use Rattle.pg_ingest.specs.Transfers.{IsStuck};
@@ -32,8 +33,8 @@ pub enum End {
 
 /// Writes what is left of a command.
 fn push_left<W: Write>(link: &mut Link, writer: &mut W) -> Option<End>
-    ensures ran { (r : Option (List ℕ)) (p : Option (List Posted))
-        → Ran (λ past steps. steps ≡ []) link.old link.new (wires r (W.contents writer.old) p) (wires r (W.contents writer.new) p) }
+    ensures ran { (r : Option (List ℕ)) (p : Option (List Posted)) (t : Occurrence → Bool)
+        → Ran (λ past steps. steps ≡ []) link.old link.new (wires r (W.contents writer.old) p t) (wires r (W.contents writer.new) p t) }
     ensures whole { result ≡ None → link.new.left ≡ [] }
     ensures same { link.new ≡ record link.old { left = link.new.left } }
     ensures stuck { IfSome result (λ end. IsStuck end link.new.left) }
@@ -45,8 +46,8 @@ fn push_left<W: Write>(link: &mut Link, writer: &mut W) -> Option<End>
 
 /// Writes what is left of a command, and then all commands that are owed.
 fn write_owed<W: Write>(link: &mut Link, writer: &mut W) -> Option<End>
-    ensures ran { (r : Option (List ℕ)) (p : Option (List Posted))
-        → RanOn (λ past steps. OnlyBegins steps) link.old link.new (wires r (W.contents writer.old) p) (wires r (W.contents writer.new) p) }
+    ensures ran { (r : Option (List ℕ)) (p : Option (List Posted)) (t : Occurrence → Bool)
+        → RanOn (λ past steps. OnlyBegins steps) link.old link.new (wires r (W.contents writer.old) p t) (wires r (W.contents writer.new) p t) }
     ensures whole { result ≡ None → link.new.left ≡ [] }
     ensures none { result ≡ None → (past : LinkPast) → ShowsLink link.new past → word_due past ≡ None }
     ensures held { link.new.bytes ≡ link.old.bytes }
@@ -65,7 +66,8 @@ fn write_owed<W: Write>(link: &mut Link, writer: &mut W) -> Option<End>
 /// Posts the events of a source that are whole, and tells whether its bytes broke behind them.
 fn post_events<G: Gate>(link: &mut Link, gate: &mut G) -> Option<Refusal>
     ensures ran { (r w : Option (List ℕ))
-        → Ran (TellsAll result) link.old link.new (wires r w (G.posts gate.old)) (wires r w (G.posts gate.new)) }
+        → Ran (TellsAll result) link.old link.new (wires r w (G.posts gate.old) (G.takes gate.old)) (wires r w (G.posts gate.new) (G.takes gate.old)) }
+    ensures takes { G.takes gate.new ≡ G.takes gate.old }
     ensures breaks { IfSome result IsBreak }
     ensures room { length link.new.bytes.held < 65535 }
     ensures left { link.new.left ≡ link.old.left }
@@ -100,8 +102,9 @@ fn turn<R: Read, W: Write, G: Gate>(
 ) -> Option<End>
     requires { length link.old.bytes.held < 65535 }
     ensures ran { RanOn (EndsTurn result link.new.left (R.remaining reader.new)) link.old link.new
-        (wires (R.remaining reader.old) (W.contents writer.old) (G.posts gate.old))
-        (wires (R.remaining reader.new) (W.contents writer.new) (G.posts gate.new)) }
+        (wires (R.remaining reader.old) (W.contents writer.old) (G.posts gate.old) (G.takes gate.old))
+        (wires (R.remaining reader.new) (W.contents writer.new) (G.posts gate.new) (G.takes gate.old)) }
+    ensures takes { G.takes gate.new ≡ G.takes gate.old }
     ensures room { length link.new.bytes.held < 65535 }
     ensures goes { result ≡ None → link.new.left ≡ [] }
     ensures whole { IfSome result (λ end. is_cut end ≡ false → link.new.left ≡ []) }
@@ -118,8 +121,8 @@ fn turn<R: Read, W: Write, G: Gate>(
     }
 }
 
-/// Serves a link (own rule): each turn writes what the source is owed, reads at most 4,096 of its bytes, and posts their
-/// events. It ends where the reader ends, fails or would block, where the writer fails or would block, where the bytes break,
+/// Serves a link (own rule): each turn writes what the source is owed, reads at most 4,096 of its bytes, and posts those of their
+/// events that the gate takes. It ends where the reader ends, fails or would block, where the writer fails or would block, where the bytes break,
 /// and after `turns` reads.
 pub fn run_link<R: Read, W: Write, G: Gate>(
     link: &mut Link,
@@ -129,8 +132,8 @@ pub fn run_link<R: Read, W: Write, G: Gate>(
     turns: u64,
 ) -> End
     ensures call { IsCall result turns link.old link.new
-        (wires (R.remaining reader.old) (W.contents writer.old) (G.posts gate.old))
-        (wires (R.remaining reader.new) (W.contents writer.new) (G.posts gate.new)) }
+        (wires (R.remaining reader.old) (W.contents writer.old) (G.posts gate.old) (G.takes gate.old))
+        (wires (R.remaining reader.new) (W.contents writer.new) (G.posts gate.new) (G.takes gate.new)) }
     ensures onward { G.goes_on gate.old gate.new }
 {
     // What it was fed by others comes first, so that there is room. A break shows again in a turn.

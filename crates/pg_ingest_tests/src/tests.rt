@@ -102,6 +102,8 @@ struct TellingGate<'a, R: Abort> {
 impl<R: Abort> Gate for TellingGate<'_, R> {
     ghost posts = { λ g. Some (map (λ call. (occurrence call.0, told call.1)) g.calls.items) };
 
+    ghost frames = { λ _ _ e. absurd (cc e) };
+
     ghost stays = { λ _. tt };
 
     ghost joins = { λ _ _ _ _ _. tt };

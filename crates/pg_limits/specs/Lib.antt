@@ -3,3 +3,6 @@ pub mod Calling
 pub mod Hosts
 pub mod Clocks
 pub mod Credits
+pub mod Layouts
+pub mod Tcp
+pub mod Acknowledged

@@ -1,5 +1,6 @@
 use crate::{
-    Allow, Budget, ClockGuard, Credit, Deadline, Network, Pause, Portion, Stamp, is_clock_wrong,
+    AheadGuard, Allow, Budget, ClockGuard, Credit, Deadline, Network, Pause, Portion, Stamp,
+    TcpRow, Unacknowledged, are_unlike, is_clock_wrong, lower_median, reference,
 };
 use std::collections::VecDeque;
 use std::fmt::Debug;
@@ -228,6 +229,197 @@ fn clocks_that_are_probably_wrong(rt: HostRuntime) {
             "{refused} of {connected}"
         );
     }
+}
+
+/// References in milliseconds, limits, and the SOC, numerator and resolution of measurements; whether they are ahead.
+const AHEAD_OF_ALL: [(u64, u16, u32, u32, u32, bool); 12] = [
+    // exactly at the limit, and a millionth of a second beyond
+    (100_000, 200, 100, 200_000, 1_000_000, false),
+    (100_000, 200, 100, 200_001, 1_000_000, true),
+    (99_999, 200, 100, 200_000, 1_000_000, true),
+    // behind is never ahead
+    (100_000, 200, 99, 0, 1_000_000, false),
+    (100_000, 200, 0, 0, 1, false),
+    // 100 1/3 s, which no whole millisecond is
+    (100_132, 200, 100, 1, 3, true),
+    (100_133, 200, 100, 1, 3, true),
+    (100_134, 200, 100, 1, 3, false),
+    // the widest limit, and the ends of the stamps
+    (0, 30_000, 30, 0, 1, false),
+    (0, 30_000, 30, 1, 16_777_215, true),
+    (u64::MAX, 1, 4_294_967_295, 16_777_214, 16_777_215, false),
+    (0, 30_000, 4_294_967_295, 16_777_214, 16_777_215, true),
+];
+
+#[test]
+fn ahead_guard_at_its_limit(rt: HostRuntime) {
+    for (reference, limit, soc, frac, base, ahead) in AHEAD_OF_ALL {
+        let guard = AheadGuard { limit };
+        assert_eq!(rt;
+            guard.is_ahead(reference, soc, frac, base),
+            ahead,
+            "{reference} {limit} {soc} {frac}/{base}"
+        );
+    }
+}
+
+#[test]
+fn lower_medians(rt: HostRuntime) {
+    same(&rt, lower_median(&[]), None);
+    same(&rt, lower_median(&[7]), Some(7));
+    // of an even number the lower of the two in the middle
+    same(&rt, lower_median(&[9, 5]), Some(5));
+    same(&rt, lower_median(&[5, 9]), Some(5));
+    same(&rt, lower_median(&[4, 1, 3, 2]), Some(2));
+    // of an odd number the one in the middle
+    same(&rt, lower_median(&[9, 1, 5]), Some(5));
+    same(&rt, lower_median(&[9, 5, 1]), Some(5));
+    same(&rt, lower_median(&[5, 4, 3, 2, 1]), Some(3));
+    // the same number more than once
+    same(&rt, lower_median(&[8, 8]), Some(8));
+    same(&rt, lower_median(&[1, 8, 8]), Some(8));
+    same(&rt, lower_median(&[8, 1, 1, 8]), Some(1));
+    // one that runs ahead, and one that stopped
+    same(&rt, lower_median(&[u64::MAX, 100, 101]), Some(101));
+    same(&rt, lower_median(&[0, 100, 101]), Some(100));
+}
+
+#[test]
+fn references(rt: HostRuntime) {
+    // no source, and one: the clock alone
+    same(&rt, reference(1_000, &[]), 1_000);
+    same(&rt, reference(1_000, &[9_000]), 1_000);
+    // of two the lower, where it is later than the clock
+    same(&rt, reference(1_000, &[9_000, 2_000]), 2_000);
+    same(&rt, reference(1_000, &[9_000, 1_000]), 1_000);
+    same(&rt, reference(1_000, &[9_000, 999]), 1_000);
+    // a clock that is behind all sources, and one that is ahead of them
+    same(&rt, reference(0, &[5_000, 5_020, 5_010]), 5_010);
+    same(&rt, reference(6_000, &[5_000, 5_020, 5_010]), 6_000);
+}
+
+// ---- layouts
+
+#[test]
+fn layouts_that_no_reader_takes_for_each_other(rt: HostRuntime) {
+    let lengths = [36, 26, 36, 56];
+    // one layout is alone
+    assert!(rt; are_unlike(&lengths, 7, 7));
+    assert!(rt; are_unlike(&lengths, 6, 7));
+    // the third is as long as the present one
+    assert!(rt; !are_unlike(&lengths, 5, 7));
+    assert!(rt; !are_unlike(&lengths, 4, 7));
+    assert!(rt; are_unlike(&[26, 36, 56], 5, 7));
+    // a pair that does not stand side by side, and the last two
+    assert!(rt; !are_unlike(&[1, 2, 3, 1], 0, 3));
+    assert!(rt; !are_unlike(&[1, 2, 3, 3], 0, 3));
+    assert!(rt; are_unlike(&[1, 2, 3, 3], 1, 3));
+    // what was longer ago is not known
+    assert!(rt; !are_unlike(&[26, 36, 56], 4, 7));
+    assert!(rt; !are_unlike(&[26], 0, u64::MAX));
+    assert!(rt; !are_unlike(&[], 7, 7));
+}
+
+// ---- connections
+
+/// Lines of /proc/net/tcp, and behind `=>` the connection: both ends, the state, and what is not acknowledged; nothing where there is none.
+/// The first is that of the kernel's own page on it.
+const CONNECTIONS: &str = "\
+  46: 010310AC:9C4C 030310AC:1770 01 00000150:00000000 01:00000019 00000000  1000        0 54165785 4 cd1e6040 25 4 27 3 -1 => 172.16.3.1:40012 172.16.3.3:6000 1 336\n\
+   0: 0100007F:1388 00000000:0000 0A 00000000:00000000 00:00000000 => 127.0.0.1:5000 0.0.0.0:0 10 0\n\
+1234: 040302FF:FFFF fffefdfc:00ff 0b FFFFFFFF:FFFFFFFF => 255.2.3.4:65535 252.253.254.255:255 11 4294967295\n\
+  sl  local_address rem_address   st tx_queue rx_queue tr tm->when retrnsmt   uid  timeout inode =>\n\
+=>\n\
+   0: =>\n\
+   0: 0100007F:1388 00000000:0000 0A =>\n\
+0 0100007F:1388 00000000:0000 0A 00000000:00000000 =>\n\
+: 0100007F:1388 00000000:0000 0A 00000000:00000000 =>\n\
+A: 0100007F:1388 00000000:0000 0A 00000000:00000000 =>\n\
+0:1 0100007F:1388 00000000:0000 0A 00000000:00000000 =>\n\
+0: 100007F:1388 00000000:0000 0A 00000000:00000000 =>\n\
+0: 00100007F:1388 00000000:0000 0A 00000000:00000000 =>\n\
+0: +100007F:1388 00000000:0000 0A 00000000:00000000 =>\n\
+0: 0100007G:1388 00000000:0000 0A 00000000:00000000 =>\n\
+0: 0100007F:138 00000000:0000 0A 00000000:00000000 =>\n\
+0: 0100007F1388 00000000:0000 0A 00000000:00000000 =>\n\
+0: 0100007F:1388 00000000 0A 00000000:00000000 =>\n\
+0: 0100007F:1388 00000000:0000 A 00000000:00000000 =>\n\
+0: 0100007F:1388 00000000:0000 00A 00000000:00000000 =>\n\
+0: 0100007F:1388 00000000:0000 0A 00000000 =>\n\
+0: 0100007F:1388 00000000:0000 0A 0000000:00000000 =>\n\
+0: 0100007F:1388 00000000:0000 0A 00000000:0000000G =>\n\
+0: 00000000000000000000000001000000:1388 00000000000000000000000000000000:0000 0A 00000000:00000000 =>";
+
+/// The connection of a row.
+fn connection(rt: &impl Abort, text: &str) -> Option<TcpRow> {
+    let mut words = text.split_ascii_whitespace();
+    let local = end(rt, words.next()?);
+    let remote = end(rt, words.next().expect(rt, "the other end"));
+    let state = words.next().expect(rt, "a state");
+    let queue = words.next().expect(rt, "a number of bytes");
+    Some(TcpRow {
+        local,
+        remote,
+        state: state.parse::<u8>().expect(rt, "a state"),
+        unacknowledged: queue.parse::<u32>().expect(rt, "a number of bytes"),
+    })
+}
+
+/// One end of a connection, `A.B.C.D:PORT`.
+fn end(rt: &impl Abort, text: &str) -> (Ipv4Addr, u16) {
+    let (address, port) = text.split_once(':').expect(rt, "a colon");
+    (host(rt, address), port.parse::<u16>().expect(rt, "a port"))
+}
+
+#[test]
+fn connections_of_the_system(rt: HostRuntime) {
+    for row in CONNECTIONS.split('\n') {
+        let (line, wanted) = row.split_once("=>").expect(&rt, "an arrow");
+        same(&rt, TcpRow::read(line), connection(&rt, wanted));
+    }
+}
+
+/// Looks at a connection: what was written in all, of that what is not acknowledged, the time, and since when nothing was acknowledged.
+const LOOKS: [(u64, u32, u64, Option<u64>); 14] = [
+    // all is acknowledged
+    (100, 0, 10, None),
+    // 50 more were sent
+    (150, 50, 11, Some(11)),
+    (150, 50, 12, Some(11)),
+    // more was sent, and none is acknowledged
+    (250, 150, 13, Some(11)),
+    // one byte is
+    (250, 149, 14, Some(14)),
+    (300, 199, 20, Some(14)),
+    // a table of an earlier moment: fewer than before are acknowledged
+    (300, 250, 21, Some(14)),
+    (300, 199, 22, Some(14)),
+    // all is, and then nothing of what is new
+    (300, 0, 23, None),
+    (301, 1, 24, Some(24)),
+    (301, 1, 99, Some(24)),
+    (301, 0, 100, None),
+    // more waits than is known to be written
+    (301, 302, 101, Some(101)),
+    (301, 302, 102, Some(101)),
+];
+
+#[test]
+fn bytes_that_are_not_acknowledged(rt: HostRuntime) {
+    let start = Instant::now(&rt).expect(&rt, "a clock");
+    let mut waiting = Unacknowledged::new();
+    same(&rt, waiting.since(), None);
+    for (written, queue, seconds, since) in LOOKS {
+        waiting.look(written, queue, later(&rt, start, seconds, 0));
+        let since = since.map(|seconds| later(&rt, start, seconds, 0));
+        assert_eq!(rt; waiting.since(), since, "{written} {queue} {seconds}");
+    }
+    // a new connection of which nothing was acknowledged yet
+    let mut fresh = Unacknowledged::new();
+    fresh.look(16, 16, later(&rt, start, 5, 0));
+    same(&rt, fresh.since(), Some(later(&rt, start, 5, 0)));
+    fresh.look(32, 32, later(&rt, start, 6, 0));
+    same(&rt, fresh.since(), Some(later(&rt, start, 5, 0)));
 }
 
 // ---- reads

@@ -58,13 +58,27 @@ none_left key source (Some v) = refl
 pub no_silence : (pmus : List Pmu) (source : ℕ) → agreed (said (λ p. p.silence) source pmus) ≡ None → rules_of pmus source ≡ None
 no_silence pmus source h = rw h refl
 
-and_then_none : (f : Option ℕ → Option ℕ → SourceRules) (o : Option (Option ℕ)) → option_and_then (λ silence. option_map (f silence) None) o ≡ None
-and_then_none f None = refl
-and_then_none f (Some s) = refl
+clock_none : (f : Option ℕ → Option ℕ → Option SourceRules) (o : Option (Option ℕ)) → option_and_then (λ silence. option_and_then (f silence) None) o ≡ None
+clock_none f None = refl
+clock_none f (Some s) = refl
 
 pub no_clock : (pmus : List Pmu) (source : ℕ) → agreed (said (λ p. p.clock_ms) source pmus) ≡ None → rules_of pmus source ≡ None
 no_clock pmus source h =
-    rw h (and_then_none (λ silence clock. record { source = source; silence = unwrap_or silence 10; clock_ms = clock }) (agreed (said (λ p. p.silence) source pmus)))
+    rw h (clock_none
+    (λ silence clock. option_map (λ ahead. record { source = source; silence = unwrap_or silence 10; clock_ms = clock; ahead_ms = unwrap_or ahead 200 })
+    (agreed (said (λ p. p.ahead_ms) source pmus)))
+    (agreed (said (λ p. p.silence) source pmus)))
+
+ahead_none : (f : Option ℕ → Option ℕ → Option ℕ → SourceRules) (o q : Option (Option ℕ))
+    → option_and_then (λ silence. option_and_then (λ clock. option_map (f silence clock) None) q) o ≡ None
+ahead_none f None q = refl
+ahead_none f (Some s) None = refl
+ahead_none f (Some s) (Some c) = refl
+
+pub no_ahead : (pmus : List Pmu) (source : ℕ) → agreed (said (λ p. p.ahead_ms) source pmus) ≡ None → rules_of pmus source ≡ None
+no_ahead pmus source h =
+    rw h (ahead_none (λ silence clock ahead. record { source = source; silence = unwrap_or silence 10; clock_ms = clock; ahead_ms = unwrap_or ahead 200 })
+    (agreed (said (λ p. p.silence) source pmus)) (agreed (said (λ p. p.clock_ms) source pmus)))
 
 -- ---- each source once
 
@@ -112,12 +126,16 @@ seen_before all seen s xs h =
     same y = go y (s == y) refl
 
 own_source : (all : List Pmu) (s : ℕ) (r : SourceRules) → rules_of all s ≡ Some r → r.source ≡ s
-own_source all s r h = go (agreed (said (λ p. p.silence) s all)) (agreed (said (λ p. p.clock_ms) s all)) h
+own_source all s r h = go (agreed (said (λ p. p.silence) s all)) (agreed (said (λ p. p.clock_ms) s all)) (agreed (said (λ p. p.ahead_ms) s all)) h
   where
-    go : (x y : Option (Option ℕ)) → option_and_then (λ silence. option_map (λ clock. record { source = s; silence = unwrap_or silence 10; clock_ms = clock }) y) x ≡ Some r → r.source ≡ s
-    go None y k = absurd (search (rules, k))
-    go (Some a) None k = absurd (search (rules, k))
-    go (Some a) (Some b) k = let e : record { source = s; silence = unwrap_or a 10; clock_ms = b } ≡ r = search (rules, k) in sym (ap (λ t. t.source) e)
+    go : (x y z : Option (Option ℕ))
+        → option_and_then (λ silence. option_and_then (λ clock. option_map (λ ahead. record { source = s; silence = unwrap_or silence 10; clock_ms = clock; ahead_ms = unwrap_or ahead 200 }) z) y) x ≡ Some r
+        → r.source ≡ s
+    go None y z k = absurd (search (rules, k))
+    go (Some a) None z k = absurd (search (rules, k))
+    go (Some a) (Some b) None k = absurd (search (rules, k))
+    go (Some a) (Some b) (Some c) k =
+        let e : record { source = s; silence = unwrap_or a 10; clock_ms = b; ahead_ms = unwrap_or c 200 } ≡ r = search (rules, k) in sym (ap (λ t. t.source) e)
 
 not_either : (a b : Bool) → (not a && not b) ≡ not (a || (b || false))
 not_either true b = refl

@@ -11,6 +11,8 @@ use Rattle.pg_stream.specs.declared.definition.Definition.{Definition}
 use Rattle.pg_gateway.specs.declared.edit.Edit.{Edit}
 use Rattle.pg_gateway.specs.declared.edit.Edit.TheVariants.{AddPmu, AddSub, Grant, Define}
 use Rattle.pg_limits.specs.Hosts.{Net}
+use Rattle.pg_limits.specs.declared.layouts.OnChange.{OnChange}
+use Rattle.pg_limits.specs.declared.layouts.OnChange.TheVariants as on_change
 use Rattle.pg_operator.specs.declared.door.PortRules.{PortRules}
 use Rattle.pg_operator.specs.declared.general.GeneralKeys.{GeneralKeys}
 use Rattle.pg_operator.specs.declared.general.LogLevel.{LogLevel}
@@ -98,15 +100,17 @@ pub record Pmu : Type 0 where
   pub connect : Option Text
   pub silence : Option ℕ
   pub clock_ms : Option ℕ
+  pub ahead_ms : Option ℕ
 
 -- the same, of a table that was read
 abbrev pub told : PmuTable → Pmu
-told p = record { key = p.key; connect = option_map (λ s. s.now) p.connect; silence = p.silence; clock_ms = p.clock_ms }
+told p = record { key = p.key; connect = option_map (λ s. s.now) p.connect; silence = p.silence; clock_ms = p.clock_ms; ahead_ms = p.ahead_ms }
 
 abbrev pub pmu_by : Members → Option Pmu
 pmu_by ms =
-    option_and_then (λ id. option_and_then (λ source. option_and_then (λ connect. option_and_then (λ silence. option_map
-    (λ clock. record { key = key_of source id; connect = connect; silence = silence; clock_ms = clock })
+    option_and_then (λ id. option_and_then (λ source. option_and_then (λ connect. option_and_then (λ silence. option_and_then (λ clock. option_map
+    (λ ahead. record { key = key_of source id; connect = connect; silence = silence; clock_ms = clock; ahead_ms = ahead })
+    (absent_or (whole_in 0 30000) (codes "ahead_ms") ms))
     (absent_or (whole_in 1 30000) (codes "clock_ms") ms))
     (absent_or (whole_in 0 3600) (codes "silence") ms))
     (absent_or address_in (codes "connect") ms))
@@ -114,7 +118,7 @@ pmu_by ms =
     (required (whole_in 1 65534) (codes "id") ms)
 
 abbrev pub pmu_names : List Text
-pmu_names = codes "id" ∷ codes "source" ∷ codes "connect" ∷ codes "silence" ∷ codes "clock_ms" ∷ []
+pmu_names = codes "id" ∷ codes "source" ∷ codes "connect" ∷ codes "silence" ∷ codes "clock_ms" ∷ codes "ahead_ms" ∷ []
 
 abbrev pub pmu_in : Data → Option Pmu
 pmu_in (table ms) = only pmu_names pmu_by ms
@@ -155,10 +159,12 @@ abbrev pub agreed : List ℕ → Option (Option ℕ)
 agreed [] = Some None
 agreed (v ∷ vs) = if list_all (λ w. w == v) vs then Some (Some v) else None
 
--- a source is silent after 10 seconds, and has no clock guard, where its tables say nothing of it
+-- a source is silent after 10 seconds, has no clock guard, and may be 200 milliseconds ahead, where its tables say nothing of it
 abbrev pub rules_of : List Pmu → ℕ → Option SourceRules
 rules_of pmus source =
-    option_and_then (λ silence. option_map (λ clock. record { source = source; silence = unwrap_or silence 10; clock_ms = clock })
+    option_and_then (λ silence. option_and_then (λ clock. option_map
+    (λ ahead. record { source = source; silence = unwrap_or silence 10; clock_ms = clock; ahead_ms = unwrap_or ahead 200 })
+    (agreed (said (λ p. p.ahead_ms) source pmus)))
     (agreed (said (λ p. p.clock_ms) source pmus)))
     (agreed (said (λ p. p.silence) source pmus))
 
@@ -229,7 +235,7 @@ entry_by ms =
     (absent_or (whole_in 1 65535) (codes "port") ms))
     (required (whole_in 1 65535) (codes "id") ms)
 
--- who may connect to its port, and when it is hung up
+-- who may connect to its port, when it is hung up, and what is done where the blocks of a stream change
 pub record Door : Type 0 where
   pub sub : ℕ
   pub address : ℕ
@@ -237,17 +243,30 @@ pub record Door : Type 0 where
   pub takeover : Bool
   pub stall : ℕ
   pub idle : ℕ
+  pub change : OnChange
 
 -- the same, of rules that were read
 abbrev pub door_of : PortRules → Door
-door_of r = record { sub = r.sub; address = ipv4_bits r.address; allow = option_map (λ v. v.items) r.allow.networks; takeover = r.takeover; stall = r.stall; idle = r.idle }
+door_of r = record { sub = r.sub; address = ipv4_bits r.address; allow = option_map (λ v. v.items) r.allow.networks; takeover = r.takeover; stall = r.stall; idle = r.idle; change = r.change }
 
--- 0.0.0.0, every host, no takeover, 30 seconds and never, where it is left out
+-- what is done where the blocks of a stream change, as it is written
+abbrev pub changes : List (Text × OnChange)
+changes = (codes "safe", on_change.Safe) ∷ (codes "hangup", on_change.HangUp) ∷ (codes "keep", on_change.Keep) ∷ []
+
+abbrev pub change_of : Text → Option OnChange
+change_of w = option_map (λ row. row.1) (find (λ row. bytes_eq row.0 w) changes)
+
+abbrev pub change_in : Data → Option OnChange
+change_in (string s) = change_of s
+change_in _ = None
+
+-- 0.0.0.0, every host, no takeover, 30 seconds, never, and safe, where it is left out
 abbrev pub door_by : ℕ → Members → Option Door
 door_by id ms =
-    option_and_then (λ address. option_and_then (λ takeover. option_and_then (λ stall. option_and_then (λ idle. option_map
-    (λ allow. record { sub = id; address = address; allow = allow; takeover = takeover; stall = stall; idle = idle })
+    option_and_then (λ address. option_and_then (λ takeover. option_and_then (λ stall. option_and_then (λ idle. option_and_then (λ change. option_map
+    (λ allow. record { sub = id; address = address; allow = allow; takeover = takeover; stall = stall; idle = idle; change = change })
     (absent_or (list_of network_text_in) (codes "allow") ms))
+    (optional on_change.Safe change_in (codes "change") ms))
     (optional 0 (whole_in 0 3600) (codes "idle") ms))
     (optional 30 (whole_in 0 3600) (codes "stall") ms))
     (optional false boolean_in (codes "takeover") ms))
@@ -266,7 +285,7 @@ subscriber_by ms =
 abbrev pub subscriber_names : List Text
 subscriber_names =
     codes "id" ∷ codes "port" ∷ codes "ring" ∷ codes "bytes" ∷ codes "grants" ∷ codes "stream"
-    ∷ codes "address" ∷ codes "allow" ∷ codes "takeover" ∷ codes "stall" ∷ codes "idle" ∷ []
+    ∷ codes "address" ∷ codes "allow" ∷ codes "takeover" ∷ codes "stall" ∷ codes "idle" ∷ codes "change" ∷ []
 
 abbrev pub subscriber_in : Data → Option Subscriber
 subscriber_in (table ms) = only subscriber_names subscriber_by ms

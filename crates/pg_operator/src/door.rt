@@ -2,16 +2,16 @@
 ghost use Rattle.std.specs.Prelude.{◌≡◌, ◌⊎◌, ◌≤◌, IfOk, IfErr, option_map, codes, Some, None};
 ghost use Rattle.std.specs.Net.Addr.{ipv4_bits};
 ghost use Rattle.toml.specs.View.{view, table_view};
-ghost use Rattle.pg_operator.specs.Setups.{absent_or, door_by, door_of, host_text_in, list_of, network_text_in, optional, whole_in};
+ghost use Rattle.pg_operator.specs.Setups.{absent_or, change_in, change_of, door_by, door_of, host_text_in, list_of, network_text_in, optional, whole_in};
 
 use crate::{address, table};
-use pg_limits::{Allow, Network};
+use pg_limits::{Allow, Network, OnChange};
 use pg_wire::{Refusal, SubId};
 use std::alloc::Global;
 use std::net::Ipv4Addr;
 use toml::{Table, Value};
 
-/// Who may connect to a subscriber's port, and when it is hung up (own rule).
+/// Who may connect to a subscriber's port, when it is hung up, and what is done where the blocks of a stream change (own rule).
 #[derive(Debug, Drop)]
 pub struct PortRules {
     /// The subscriber.
@@ -26,6 +26,8 @@ pub struct PortRules {
     pub stall: u16,
     /// It is hung up where it neither sent nor was sent a byte for so many seconds: 1 to 3600, or 0 for never.
     pub idle: u16,
+    /// What is done where the effective blocks of a stream change while it is on.
+    pub change: OnChange,
 }
 
 /// The rules in a subscriber's table.
@@ -45,6 +47,9 @@ pub(crate) fn door_at(alloc: Global, sub: SubId, table: &Table) -> Result<PortRu
     let Some(idle) = seconds_at(table, "idle", 0) else {
         return Err(Refusal::BadSetup);
     };
+    let Some(change) = change_at(table) else {
+        return Err(Refusal::BadSetup);
+    };
     match allow_at(alloc, table) {
         Ok(allow) => Ok(PortRules {
             sub,
@@ -53,6 +58,7 @@ pub(crate) fn door_at(alloc: Global, sub: SubId, table: &Table) -> Result<PortRu
             takeover,
             stall,
             idle,
+            change,
         }),
         Err(refusal) => Err(refusal),
     }
@@ -76,6 +82,38 @@ fn seconds_at(table: &Table, key: &str, otherwise: u16) -> Option<u16>
     match table::optional(table, key, u32::from(otherwise), 0, 3600) {
         Some(seconds) => Some(seconds as u16),
         None => None,
+    }
+}
+
+/// The word for what is done where the blocks of a stream change.
+fn change_of(word: &str) -> Option<OnChange>
+    ensures { result ≡ change_of word.now }
+{
+    match word {
+        "safe" => Some(OnChange::Safe),
+        "hangup" => Some(OnChange::HangUp),
+        "keep" => Some(OnChange::Keep),
+        _ => None,
+    }
+}
+
+/// A value that is such a word.
+pub(crate) fn change(value: &Value) -> Option<OnChange>
+    ensures { result ≡ change_in (view value.now) }
+{
+    match value {
+        Value::String(word) => change_of(word.as_str()),
+        _ => None,
+    }
+}
+
+/// What is done where the blocks of a stream change, `"safe"` where it is left out.
+fn change_at(table: &Table) -> Option<OnChange>
+    ensures { result ≡ optional OnChange.Safe change_in (codes "change") (table_view table.now) }
+{
+    match table::value_at(table, "change") {
+        Some(value) => change(value),
+        None => Some(OnChange::Safe),
     }
 }
 

@@ -224,6 +224,9 @@ impl Search<'_> {
         if differ(before.clock_ms, own.clock_ms) {
             self.tell(place, "clock_ms", Wrong::Differs(source))?;
         }
+        if differ(before.ahead_ms, own.ahead_ms) {
+            self.tell(place, "ahead_ms", Wrong::Differs(source))?;
+        }
         sources.insert(source.get(), before.and(own))?;
         Ok(())
     }
@@ -266,6 +269,7 @@ struct Said {
     is_called: bool,
     silence: Option<u16>,
     clock_ms: Option<u16>,
+    ahead_ms: Option<u16>,
 }
 
 impl Said {
@@ -273,6 +277,7 @@ impl Said {
         is_called: false,
         silence: None,
         clock_ms: None,
+        ahead_ms: None,
     };
 
     /// What this table says.
@@ -281,6 +286,7 @@ impl Said {
             is_called: pmu.connect.is_some(),
             silence: pmu.silence,
             clock_ms: pmu.clock_ms,
+            ahead_ms: pmu.ahead_ms,
         }
     }
 
@@ -290,6 +296,7 @@ impl Said {
             is_called: self.is_called || later.is_called,
             silence: self.silence.or(later.silence),
             clock_ms: self.clock_ms.or(later.clock_ms),
+            ahead_ms: self.ahead_ms.or(later.ahead_ms),
         }
     }
 }

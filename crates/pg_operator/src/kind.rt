@@ -2,7 +2,7 @@
 
 ghost use Rattle.std.specs.Prelude.{◌≡◌, IfErr};
 
-use crate::{address, general, table};
+use crate::{address, door, general, table};
 use pg_wire::Refusal;
 use std::alloc::Global;
 use std::fmt;
@@ -48,6 +48,8 @@ pub enum Kind {
     Served,
     /// A level of the log.
     Level,
+    /// What is done where the blocks of a stream change.
+    Change,
     /// The path of a socket.
     Path,
     /// A list of networks.
@@ -97,16 +99,17 @@ pub(crate) const TOP: [Rule; 8] = [
 ];
 
 /// The keys of a PMU's table.
-pub(crate) const PMU: [Rule; 5] = [
+pub(crate) const PMU: [Rule; 6] = [
     required!("id", Kind::Whole(1, 65534)),
     optional!("source", Kind::Whole(1, 65534)),
     optional!("connect", Kind::Called),
     optional!("silence", Kind::Whole(0, 3600)),
     optional!("clock_ms", Kind::Whole(1, 30000)),
+    optional!("ahead_ms", Kind::Whole(0, 30000)),
 ];
 
 /// The keys of a subscriber's table.
-pub(crate) const SUBSCRIBER: [Rule; 11] = [
+pub(crate) const SUBSCRIBER: [Rule; 12] = [
     required!("id", Kind::Whole(1, 65535)),
     optional!("port", Kind::Whole(1, 65535)),
     required!("ring", Kind::Whole(1, 1024)),
@@ -118,6 +121,7 @@ pub(crate) const SUBSCRIBER: [Rule; 11] = [
     optional!("takeover", Kind::Truth),
     optional!("stall", Kind::Whole(0, 3600)),
     optional!("idle", Kind::Whole(0, 3600)),
+    optional!("change", Kind::Change),
 ];
 
 /// The keys of a stream's table, with the ranges of a definition: a setup is read with wider ones, and the gateway refuses what is
@@ -141,6 +145,7 @@ impl fmt::Display for Kind {
             Kind::Bound => f.write_str("a text \"A.B.C.D\""),
             Kind::Served => f.write_str("a text \"A.B.C.D:PORT\""),
             Kind::Level => f.write_str("\"error\", \"warn\", \"info\" or \"debug\""),
+            Kind::Change => f.write_str("\"safe\", \"hangup\" or \"keep\""),
             Kind::Path => {
                 f.write_str("the path of a socket, a text of 1 to 107 bytes without a zero byte")
             }
@@ -224,6 +229,7 @@ impl Kind {
             Kind::Bound => address::bound(value).is_some(),
             Kind::Served => address::served(value).is_some(),
             Kind::Level => general::level(value).is_some(),
+            Kind::Change => door::change(value).is_some(),
             Kind::Path => general::path(value).is_some(),
             Kind::Text => matches!(value, Value::String(_)),
             Kind::Networks | Kind::Grants | Kind::Members | Kind::Tables(_) => {

@@ -10,7 +10,7 @@ use std::alloc::Global;
 use toml::{Table, Value};
 
 /// The keys of a PMU's table.
-const PMU_KEYS: [&str; 5] = ["id", "source", "connect", "silence", "clock_ms"];
+const PMU_KEYS: [&str; 6] = ["id", "source", "connect", "silence", "clock_ms", "ahead_ms"];
 
 /// A PMU, and what its table says of its source.
 #[derive(Clone, Copy)]
@@ -19,6 +19,7 @@ pub(crate) struct PmuTable<'a> {
     pub(crate) connect: Option<&'a str>,
     pub(crate) silence: Option<u16>,
     pub(crate) clock_ms: Option<u16>,
+    pub(crate) ahead_ms: Option<u16>,
 }
 
 /// The PMUs, in order.
@@ -71,11 +72,13 @@ fn pmu_by(table: &Table) -> Option<PmuTable<'_>>
     let connect = connect_at(table)?;
     let silence = silence_at(table)?;
     let clock_ms = clock_at(table)?;
+    let ahead_ms = ahead_at(table)?;
     Some(PmuTable {
         key: PmuKey { source, pmu },
         connect,
         silence,
         clock_ms,
+        ahead_ms,
     })
 }
 
@@ -134,6 +137,19 @@ fn clock_at(table: &Table) -> Option<Option<u16>>
 {
     match table::value_at(table, "clock_ms") {
         Some(value) => match table::whole(value, 1, 30000) {
+            Some(limit) => Some(Some(limit as u16)),
+            None => None,
+        },
+        None => Some(None),
+    }
+}
+
+/// How many milliseconds a source may be ahead of the reference, or none where it is left out.
+fn ahead_at(table: &Table) -> Option<Option<u16>>
+    ensures { result ≡ absent_or (whole_in 0 30000) (codes "ahead_ms") (table_view table.now) }
+{
+    match table::value_at(table, "ahead_ms") {
+        Some(value) => match table::whole(value, 0, 30000) {
             Some(limit) => Some(Some(limit as u16)),
             None => None,
         },

@@ -56,6 +56,7 @@ pub struct Setup {
 /// | `pmu.connect` | text `A.B.C.D:PORT` or `NAME:PORT`, of the source; four numbers 0 to 255, and one 1 to 65535 | no link |
 /// | `pmu.silence` | 1 to 3600 seconds, of the source; 0 never | 10 |
 /// | `pmu.clock_ms` | 1 to 30000 milliseconds, of the source | no guard |
+/// | `pmu.ahead_ms` | 1 to 30000 milliseconds, of the source; 0 for no guard | 200 |
 /// | `subscriber.id` | 1 to 65535 | required |
 /// | `subscriber.port` | 1 to 65535 | no listener |
 /// | `subscriber.ring` | 1 to 1024 | required |
@@ -66,6 +67,7 @@ pub struct Setup {
 /// | `subscriber.takeover` | a boolean | false |
 /// | `subscriber.stall` | 1 to 3600 seconds; 0 never | 30 |
 /// | `subscriber.idle` | 1 to 3600 seconds; 0 never | 0 |
+/// | `subscriber.change` | `"safe"`, `"hangup"`, `"keep"` | `"safe"` |
 /// | `subscriber.stream` | tables | none |
 /// | `stream.id`, `rate`, `base`, `wait`, `window` | as in a line `define` | required |
 /// | `stream.header` | the text itself | empty |
@@ -73,12 +75,13 @@ pub struct Setup {
 ///
 /// A NAME is labels joined by dots, at most 253 bytes. A label is one to 63 letters, digits and hyphens, with no hyphen at either end;
 /// the last label is not digits alone, so that no address with a wrong number is a name. Several PMUs of one source may each say its
-/// `silence` and `clock_ms`, and then say the same. A network is that of its first bits: `10.0.0.1/8` is `10.0.0.0/8`.
+/// `silence`, `clock_ms` and `ahead_ms`, and then say the same. A network is that of its first bits: `10.0.0.1/8` is `10.0.0.0/8`.
 ///
 /// # Errors
 ///
 /// `BadSetup` for text that is not TOML, an unknown key, a key that is required and absent, a value of another type or
-/// out of range, a second `connect` for one source, and two tables of one source that say another `silence` or `clock_ms`; `NoMemory`.
+/// out of range, a second `connect` for one source, and two tables of one source that say another `silence`,
+/// `clock_ms` or `ahead_ms`; `NoMemory`.
 pub fn read_setup(alloc: Global, text: &str) -> Result<Setup, Refusal>
     ensures found { IfOk result (λ s. setup_of text.now ≡ Some (settings s)) }
     ensures refused { IfErr result (λ r. (r ≡ Refusal.NoMemory) ⊎ ((r ≡ Refusal.BadSetup) × (setup_of text.now ≡ None))) }
@@ -183,9 +186,9 @@ fn setup_in(alloc: Global, table: &Table) -> Result<Setup, Refusal>
 }
 
 /// The keys of a subscriber's table.
-const SUBSCRIBER_KEYS: [&str; 11] = [
+const SUBSCRIBER_KEYS: [&str; 12] = [
     "id", "port", "ring", "bytes", "grants", "stream", "address", "allow", "takeover", "stall",
-    "idle",
+    "idle", "change",
 ];
 
 /// The edits of the subscribers, the ports that they connect to, and the rules of these.

@@ -10,6 +10,9 @@ use std::alloc::Global;
 /// After how many seconds a source is silent where its tables do not say it.
 const SILENCE: u16 = 10;
 
+/// How many milliseconds a source may be ahead of the reference where its tables do not say it.
+const AHEAD_MS: u16 = 200;
+
 /// How a source is watched (own rule).
 #[derive(Clone, Copy, Debug)]
 pub struct SourceRules {
@@ -19,6 +22,9 @@ pub struct SourceRules {
     pub silence: u16,
     /// Its measurements may be so many milliseconds from this machine's clock: 1 to 30000; `None` for no such guard.
     pub clock_ms: Option<u16>,
+    /// Its measurements may be so many milliseconds ahead of the reference, the later of this machine's clock and the lower median of the
+    /// newest times of all connected sources: 1 to 30000, or 0 for no such guard.
+    pub ahead_ms: u16,
 }
 
 /// The rules of each source of the PMUs, in the order in which they first name it.
@@ -51,16 +57,19 @@ fn rules_of(pmus: &[PmuTable<'_>], source: PmuId) -> Option<SourceRules>
 {
     let mut silence = None;
     let mut clock_ms = None;
+    let mut ahead_ms = None;
     'pmus: for pmu in pmus {
         if pmu.key.source == source {
             silence = together(silence, pmu.silence)?;
             clock_ms = together(clock_ms, pmu.clock_ms)?;
+            ahead_ms = together(ahead_ms, pmu.ahead_ms)?;
         }
     }
     Some(SourceRules {
         source,
         silence: silence.unwrap_or(SILENCE),
         clock_ms,
+        ahead_ms: ahead_ms.unwrap_or(AHEAD_MS),
     })
 }
 

@@ -40,7 +40,7 @@ conect = \"10.0.0.1:4712\"
 id = 1
 ring = 64
 =>
-3: pmu.conect: is no key here; the keys here are id, source, connect, silence, clock_ms
+3: pmu.conect: is no key here; the keys here are id, source, connect, silence, clock_ms, ahead_ms
 ----
 [[pmu]]
 id = 7
@@ -85,12 +85,19 @@ clock_ms = 100
 id = 9
 source = 7
 clock_ms = 200
+ahead_ms = 0
+[[pmu]]
+id = 10
+source = 7
+silence = 10
+ahead_ms = 200
 [[subscriber]]
 id = 1
 ring = 64
 =>
 7: pmu.silence: differs from that in another table of the source 7; they have to say the same
 12: pmu.clock_ms: differs from that in another table of the source 7; they have to say the same
+18: pmu.ahead_ms: differs from that in another table of the source 7; they have to say the same
 ----
 [[subscriber]]
 id = 1
@@ -252,7 +259,7 @@ id = 101
 6: pmu.id: is the number 0; it has to be a whole number from 1 to 65534
 8: subscriber.id: is the number 65536; it has to be a whole number from 1 to 65535
 10: subscriber.stall: is the number 3601; it has to be a whole number from 0 to 3600
-11: subscriber.streams: is no key here; the keys here are id, port, ring, bytes, grants, stream, address, allow, takeover, stall, idle
+11: subscriber.streams: is no key here; the keys here are id, port, ring, bytes, grants, stream, address, allow, takeover, stall, idle, change
 ----
 pmu = [{ id = 7 }, 5]
 [[subscriber]]
@@ -268,6 +275,22 @@ subscriber = [{ id = 1, ring = 64, idle = -1 }]
 =>
 1: pmu: is the number 7; it has to be one table or more, each under [[pmu]]
 2: subscriber.idle: is the number -1; it has to be a whole number from 0 to 3600
+----
+[[pmu]]
+id = 7
+ahead_ms = 30001
+[[subscriber]]
+id = 1
+ring = 64
+change = \"hang up\"
+[[subscriber]]
+id = 2
+ring = 64
+change = true
+=>
+3: pmu.ahead_ms: is the number 30001; it has to be a whole number from 0 to 30000
+7: subscriber.change: is the text \"hang up\"; it has to be \"safe\", \"hangup\" or \"keep\"
+11: subscriber.change: is true; it has to be \"safe\", \"hangup\" or \"keep\"
 ----
 log = \"debug\"
 control = \"/run/012345678901234567890123456789012345678901234567890123456789012345678901234567890123456789012345678901\"
@@ -385,10 +408,10 @@ ring = 0
 1: serve: is the number 9; it has to be a whole number from 1 to 8
 2: log: is the text \"[\\\"\"; it has to be \"error\", \"warn\", \"info\" or \"debug\"
 3: ingest: is the number 9; it has to be a whole number from 1 to 8
-6: pmu.silenc: is no key here; the keys here are id, source, connect, silence, clock_ms
-7: pmu.extra: is no key here; the keys here are id, source, connect, silence, clock_ms
-12: subscriber.other: is no key here; the keys here are id, port, ring, bytes, grants, stream, address, allow, takeover, stall, idle
-13: subscriber.more: is no key here; the keys here are id, port, ring, bytes, grants, stream, address, allow, takeover, stall, idle
+6: pmu.silenc: is no key here; the keys here are id, source, connect, silence, clock_ms, ahead_ms
+7: pmu.extra: is no key here; the keys here are id, source, connect, silence, clock_ms, ahead_ms
+12: subscriber.other: is no key here; the keys here are id, port, ring, bytes, grants, stream, address, allow, takeover, stall, idle, change
+13: subscriber.more: is no key here; the keys here are id, port, ring, bytes, grants, stream, address, allow, takeover, stall, idle, change
 ----
 [[pmu]]
 id = 7
@@ -447,5 +470,5 @@ fn wrong_setups(rt: HostRuntime) {
         }
         count = count.saturating_add(1);
     }
-    same(&rt, count, 32);
+    same(&rt, count, 33);
 }

@@ -1,5 +1,6 @@
 use crate::asserts::same;
 use pg_fakes::edit_line;
+use pg_limits::OnChange;
 use pg_lines::words;
 use pg_operator::{Setup, parse_line, read_setup};
 use pg_wire::Refusal;
@@ -720,20 +721,20 @@ fn hosts_that_are_called(rt: HostRuntime) -> Result<(), Fail> {
     Ok(())
 }
 
-/// Lines of a PMU's table, parted by `;`, each row with the rules of the sources behind ` => `: number, silence and guard.
+/// Lines of a PMU's table, parted by `;`, each row with the rules of the sources behind ` => `: number, silence, guard, and how far it may be ahead.
 const SOURCES: &str = "\
-\x20=> 7 10 none\n\
-silence=0 => 7 0 none\n\
-silence=1 => 7 1 none\n\
-silence=3600 => 7 3600 none\n\
+\x20=> 7 10 none 200\n\
+silence=0 => 7 0 none 200\n\
+silence=1 => 7 1 none 200\n\
+silence=3600 => 7 3600 none 200\n\
 silence=3601 => \n\
 silence=-1 => \n\
 silence=\"10\" => \n\
 silence=10.0 => \n\
 silence=true => \n\
 silence=[10] => \n\
-clock_ms=1 => 7 10 1\n\
-clock_ms=30000 => 7 10 30000\n\
+clock_ms=1 => 7 10 1 200\n\
+clock_ms=30000 => 7 10 30000 200\n\
 clock_ms=0 => \n\
 clock_ms=30001 => \n\
 clock_ms=-1 => \n\
@@ -744,32 +745,50 @@ Silence=10 => \n\
 silence_s=10 => \n\
 clock=1 => \n\
 stall=10 => \n\
-silence=5;clock_ms=7 => 7 5 7\n\
-source=9;silence=5;clock_ms=7 => 9 5 7\n\
-silence=5;[[pmu]];id=8;source=7;silence=5 => 7 5 none\n\
-silence=5;[[pmu]];id=8;source=7 => 7 5 none\n\
-[[pmu]];id=8;source=7;silence=5 => 7 5 none\n\
-silence=5;[[pmu]];id=8;source=7;clock_ms=6 => 7 5 6\n\
+silence=5;clock_ms=7 => 7 5 7 200\n\
+source=9;silence=5;clock_ms=7 => 9 5 7 200\n\
+silence=5;[[pmu]];id=8;source=7;silence=5 => 7 5 none 200\n\
+silence=5;[[pmu]];id=8;source=7 => 7 5 none 200\n\
+[[pmu]];id=8;source=7;silence=5 => 7 5 none 200\n\
+silence=5;[[pmu]];id=8;source=7;clock_ms=6 => 7 5 6 200\n\
 silence=5;[[pmu]];id=8;source=7;silence=6 => \n\
 silence=6;[[pmu]];id=8;source=7;silence=5 => \n\
 silence=10;[[pmu]];id=8;source=7;silence=0 => \n\
 silence=5;[[pmu]];id=8;source=7;[[pmu]];id=9;source=7;silence=6 => \n\
-clock_ms=5;[[pmu]];id=8;source=7;clock_ms=5 => 7 10 5\n\
+clock_ms=5;[[pmu]];id=8;source=7;clock_ms=5 => 7 10 5 200\n\
 clock_ms=5;[[pmu]];id=8;source=7;clock_ms=6 => \n\
 clock_ms=6;[[pmu]];id=8;source=7;clock_ms=5 => \n\
 silence=1;clock_ms=5;[[pmu]];id=8;source=7;silence=1;clock_ms=6 => \n\
-silence=5;[[pmu]];id=8;silence=6 => 7 5 none, 8 6 none\n\
-source=9;[[pmu]];id=8;source=3;[[pmu]];id=5;source=9;silence=4 => 9 4 none, 3 10 none\n\
-source=9;[[pmu]];id=9;source=7;clock_ms=1 => 9 10 none, 7 10 1\n\
-[[pmu]];id=8;source=3;silence=1;[[pmu]];id=9;source=3;silence=2 => ";
+silence=5;[[pmu]];id=8;silence=6 => 7 5 none 200, 8 6 none 200\n\
+source=9;[[pmu]];id=8;source=3;[[pmu]];id=5;source=9;silence=4 => 9 4 none 200, 3 10 none 200\n\
+source=9;[[pmu]];id=9;source=7;clock_ms=1 => 9 10 none 200, 7 10 1 200\n\
+[[pmu]];id=8;source=3;silence=1;[[pmu]];id=9;source=3;silence=2 => \n\
+ahead_ms=1 => 7 10 none 1\n\
+ahead_ms=30000 => 7 10 none 30000\n\
+ahead_ms=0 => 7 10 none 0\n\
+ahead_ms=30001 => \n\
+ahead_ms=-1 => \n\
+ahead_ms=\"200\" => \n\
+ahead_ms=200.0 => \n\
+ahead_ms=true => \n\
+ahead=1 => \n\
+silence=5;clock_ms=7;ahead_ms=9 => 7 5 7 9\n\
+ahead_ms=200;[[pmu]];id=8;source=7;ahead_ms=200 => 7 10 none 200\n\
+ahead_ms=0;[[pmu]];id=8;source=7 => 7 10 none 0\n\
+[[pmu]];id=8;source=7;ahead_ms=0 => 7 10 none 0\n\
+silence=5;[[pmu]];id=8;source=7;clock_ms=6;ahead_ms=7 => 7 5 6 7\n\
+ahead_ms=5;[[pmu]];id=8;source=7;ahead_ms=6 => \n\
+ahead_ms=200;[[pmu]];id=8;source=7;ahead_ms=0 => \n\
+clock_ms=5;ahead_ms=1;[[pmu]];id=8;source=7;clock_ms=5;ahead_ms=2 => \n\
+ahead_ms=5;[[pmu]];id=8;ahead_ms=6 => 7 10 none 5, 8 10 none 6";
 
 /// Lines of a subscriber's table, parted by `;`, each row with the rules of the ports behind ` => `: number, address, which of the hosts
-/// below may connect, takeover, stall and idle.
+/// below may connect, takeover, stall, idle and change.
 const DOORS: &str = "\
-\x20=> 1 0.0.0.0 111111 false 30 0\n\
-address=\"127.0.0.1\" => 1 127.0.0.1 111111 false 30 0\n\
-address=\"255.0.10.255\" => 1 255.0.10.255 111111 false 30 0\n\
-address=\"0.0.0.0\" => 1 0.0.0.0 111111 false 30 0\n\
+\x20=> 1 0.0.0.0 111111 false 30 0 safe\n\
+address=\"127.0.0.1\" => 1 127.0.0.1 111111 false 30 0 safe\n\
+address=\"255.0.10.255\" => 1 255.0.10.255 111111 false 30 0 safe\n\
+address=\"0.0.0.0\" => 1 0.0.0.0 111111 false 30 0 safe\n\
 address=\"256.0.0.1\" => \n\
 address=\"0.0.0\" => \n\
 address=\"0.0.0.0.0\" => \n\
@@ -781,15 +800,15 @@ address=\" 127.0.0.1\" => \n\
 address=\"\" => \n\
 address=1 => \n\
 address=[\"127.0.0.1\"] => \n\
-allow=[] => 1 0.0.0.0 000000 false 30 0\n\
-allow=[\"10.0.0.1\"] => 1 0.0.0.0 010000 false 30 0\n\
-allow=[\"10.0.0.1/32\"] => 1 0.0.0.0 010000 false 30 0\n\
-allow=[\"10.0.0.1/31\"] => 1 0.0.0.0 110000 false 30 0\n\
-allow=[\"10.0.0.1/8\"] => 1 0.0.0.0 111000 false 30 0\n\
-allow=[\"10.0.0.0/7\"] => 1 0.0.0.0 111100 false 30 0\n\
-allow=[\"0.0.0.0/0\"] => 1 0.0.0.0 111111 false 30 0\n\
-allow=[\"255.255.255.255/1\"] => 1 0.0.0.0 000011 false 30 0\n\
-allow=[\"192.168.1.0/24\", \"10.0.0.0\"] => 1 0.0.0.0 100010 false 30 0\n\
+allow=[] => 1 0.0.0.0 000000 false 30 0 safe\n\
+allow=[\"10.0.0.1\"] => 1 0.0.0.0 010000 false 30 0 safe\n\
+allow=[\"10.0.0.1/32\"] => 1 0.0.0.0 010000 false 30 0 safe\n\
+allow=[\"10.0.0.1/31\"] => 1 0.0.0.0 110000 false 30 0 safe\n\
+allow=[\"10.0.0.1/8\"] => 1 0.0.0.0 111000 false 30 0 safe\n\
+allow=[\"10.0.0.0/7\"] => 1 0.0.0.0 111100 false 30 0 safe\n\
+allow=[\"0.0.0.0/0\"] => 1 0.0.0.0 111111 false 30 0 safe\n\
+allow=[\"255.255.255.255/1\"] => 1 0.0.0.0 000011 false 30 0 safe\n\
+allow=[\"192.168.1.0/24\", \"10.0.0.0\"] => 1 0.0.0.0 100010 false 30 0 safe\n\
 allow=[\"10.0.0.1/33\"] => \n\
 allow=[\"10.0.0.1/\"] => \n\
 allow=[\"10.0.0.1/08\"] => \n\
@@ -806,22 +825,22 @@ allow=[10] => \n\
 allow=[[\"10.0.0.1\"]] => \n\
 allow=\"10.0.0.1\" => \n\
 allow=true => \n\
-takeover=true => 1 0.0.0.0 111111 true 30 0\n\
-takeover=false => 1 0.0.0.0 111111 false 30 0\n\
+takeover=true => 1 0.0.0.0 111111 true 30 0 safe\n\
+takeover=false => 1 0.0.0.0 111111 false 30 0 safe\n\
 takeover=1 => \n\
 takeover=0 => \n\
 takeover=\"true\" => \n\
-stall=0 => 1 0.0.0.0 111111 false 0 0\n\
-stall=1 => 1 0.0.0.0 111111 false 1 0\n\
-stall=3600 => 1 0.0.0.0 111111 false 3600 0\n\
+stall=0 => 1 0.0.0.0 111111 false 0 0 safe\n\
+stall=1 => 1 0.0.0.0 111111 false 1 0 safe\n\
+stall=3600 => 1 0.0.0.0 111111 false 3600 0 safe\n\
 stall=3601 => \n\
 stall=-1 => \n\
 stall=\"30\" => \n\
 stall=30.0 => \n\
 stall=true => \n\
-idle=0 => 1 0.0.0.0 111111 false 30 0\n\
-idle=1 => 1 0.0.0.0 111111 false 30 1\n\
-idle=3600 => 1 0.0.0.0 111111 false 30 3600\n\
+idle=0 => 1 0.0.0.0 111111 false 30 0 safe\n\
+idle=1 => 1 0.0.0.0 111111 false 30 1 safe\n\
+idle=3600 => 1 0.0.0.0 111111 false 30 3600 safe\n\
 idle=3601 => \n\
 idle=-1 => \n\
 idle=\"30\" => \n\
@@ -832,10 +851,23 @@ allowed=[] => \n\
 take_over=true => \n\
 stalls=1 => \n\
 silence=1 => \n\
-idle=6;stall=5;takeover=true;allow=[\"11.0.0.0\"];address=\"10.0.0.1\" => 1 10.0.0.1 000100 true 5 6\n\
-[[subscriber]];id=2;ring=4;stall=9;[[subscriber]];id=3;ring=4;port=5;idle=7 => 1 0.0.0.0 111111 false 30 0, 3 0.0.0.0 111111 false 30 7\n\
+idle=6;stall=5;takeover=true;allow=[\"11.0.0.0\"];address=\"10.0.0.1\" => 1 10.0.0.1 000100 true 5 6 safe\n\
+[[subscriber]];id=2;ring=4;stall=9;[[subscriber]];id=3;ring=4;port=5;idle=7 => 1 0.0.0.0 111111 false 30 0 safe, 3 0.0.0.0 111111 false 30 7 safe\n\
 [[subscriber]];id=2;ring=4;stall=3601 => \n\
-[[subscriber]];id=9;ring=4;port=7;takeover=true;[[subscriber]];id=3;ring=4;port=5;allow=[] => 1 0.0.0.0 111111 false 30 0, 9 0.0.0.0 111111 true 30 0, 3 0.0.0.0 000000 false 30 0";
+[[subscriber]];id=9;ring=4;port=7;takeover=true;[[subscriber]];id=3;ring=4;port=5;allow=[] => 1 0.0.0.0 111111 false 30 0 safe, 9 0.0.0.0 111111 true 30 0 safe, 3 0.0.0.0 000000 false 30 0 safe\n\
+change=\"safe\" => 1 0.0.0.0 111111 false 30 0 safe\n\
+change=\"hangup\" => 1 0.0.0.0 111111 false 30 0 hangup\n\
+change=\"keep\" => 1 0.0.0.0 111111 false 30 0 keep\n\
+change=\"Safe\" => \n\
+change=\"hang_up\" => \n\
+change=\"keep \" => \n\
+change=\"\" => \n\
+change=true => \n\
+change=0 => \n\
+change=[\"safe\"] => \n\
+changes=\"safe\" => \n\
+change=\"hangup\";[[subscriber]];id=2;ring=4;change=\"safe\";[[subscriber]];id=3;ring=4;port=5;change=\"keep\" => 1 0.0.0.0 111111 false 30 0 hangup, 3 0.0.0.0 111111 false 30 0 keep\n\
+[[subscriber]];id=2;ring=4;change=\"none\" => ";
 
 /// Hosts that may connect or not.
 const HOSTS: &str = "10.0.0.0 10.0.0.1 10.255.255.255 11.0.0.0 192.168.1.7 255.255.255.255";
@@ -852,6 +884,7 @@ fn sources_told(alloc: Global, setup: &Setup) -> Result<String, Fail> {
             Some(limit) => text = format!(in alloc; "{text}{limit}")?,
             None => text.push_str("none")?,
         }
+        text = format!(in alloc; "{} {}", text, rules.ahead_ms)?;
     }
     Ok(text)
 }
@@ -869,6 +902,11 @@ fn doors_told(alloc: Global, setup: &Setup) -> Result<String, Fail> {
             text.push_str(if door.allow.allows(host) { "1" } else { "0" })?;
         }
         text = format!(in alloc; "{} {} {} {}", text, door.takeover, door.stall, door.idle)?;
+        text.push_str(match door.change {
+            OnChange::Safe => " safe",
+            OnChange::HangUp => " hangup",
+            OnChange::Keep => " keep",
+        })?;
     }
     Ok(text)
 }
@@ -906,7 +944,7 @@ fn file_told(rt: &impl Abort, alloc: Global, file: &str, of_doors: bool) -> Resu
 #[test]
 fn rules_of_sources(rt: HostRuntime) -> Result<(), Fail> {
     let alloc = rt.alloc();
-    same(&rt, SOURCES.split('\n').count(), 40);
+    same(&rt, SOURCES.split('\n').count(), 58);
     for row in SOURCES.split('\n') {
         let (keys, want) = row.split_once(" => ").ok_or("a row")?;
         let keys = keys_in_lines(alloc, keys)?;
@@ -923,7 +961,7 @@ fn rules_of_sources(rt: HostRuntime) -> Result<(), Fail> {
 #[test]
 fn rules_of_ports(rt: HostRuntime) -> Result<(), Fail> {
     let alloc = rt.alloc();
-    same(&rt, DOORS.split('\n').count(), 70);
+    same(&rt, DOORS.split('\n').count(), 83);
     for row in DOORS.split('\n') {
         let (keys, want) = row.split_once(" => ").ok_or("a row")?;
         let keys = keys_in_lines(alloc, keys)?;

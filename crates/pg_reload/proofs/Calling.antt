@@ -9,7 +9,9 @@ use Rattle.pg_operator.specs.declared.source.SourceRules.{SourceRules}
 use Rattle.pg_reload.specs.declared.orders.Call.{Call}
 use Rattle.pg_reload.specs.declared.ports.Port.{Port}
 use Rattle.pg_limits.specs.Hosts.{Net}
-use Rattle.pg_reload.specs.Ports.{Opened, allow_eq, is_same_bool, net_eq, opened_eq, opened_of}
+use Rattle.pg_limits.specs.declared.layouts.OnChange.{OnChange}
+use Rattle.pg_limits.specs.declared.layouts.OnChange.TheVariants as on_change
+use Rattle.pg_reload.specs.Ports.{Opened, allow_eq, change_eq, is_same_bool, net_eq, opened_eq, opened_of}
 use Rattle.pg_reload.specs.Orders.{Called, SameCalls, SamePorts, Told, begun, called_by, called_eq, called_of, calls_by, closed, dialled, ended, is_about, is_of, listened, listened_of, orders_between, port_orders_between, undialled, unlistened}
 use Rattle.pg_reload.proofs.Adding.{any_made, made_of}
 use Rattle.pg_reload.proofs.Same.{all_same, nat_same, number_same, or_left, or_right}
@@ -55,14 +57,14 @@ whole_orders view links sources before after old none some all is_old is_new emp
 
 -- ---- where both setups have the same of some calls, no order is about these
 
-silence_same : (o : Option ℕ) → option_eq nat_eq o o ≡ true
-silence_same None = refl
-silence_same (Some n) = nat_same n
+clock_same : (o : Option ℕ) → option_eq nat_eq o o ≡ true
+clock_same None = refl
+clock_same (Some n) = nat_same n
 
 called_same : (c : Called) → called_eq c c ≡ true
 called_same c =
     λ i. (number_same c.source i && all_same nat_eq nat_same c.address i)
-    && ((number_same c.rules.source i && number_same c.rules.silence i) && silence_same c.rules.clock_ms i)
+    && (((number_same c.rules.source i && number_same c.rules.silence i) && clock_same c.rules.clock_ms i) && number_same c.rules.ahead_ms i)
 
 abbrev some_told : (Told → Bool) → Option Told → Bool
 some_told p None = false
@@ -70,8 +72,8 @@ some_told p (Some t) = p t
 
 port_same : (o : Opened) → opened_eq o o ≡ true
 port_same o =
-    λ i. number_same o.port i && (((((number_same o.door.sub i && number_same o.door.address i) && allow_same o.door.allow i) && truth_same o.door.takeover i)
-    && number_same o.door.stall i) && number_same o.door.idle i)
+    λ i. number_same o.port i && ((((((number_same o.door.sub i && number_same o.door.address i) && allow_same o.door.allow i) && truth_same o.door.takeover i)
+    && number_same o.door.stall i) && number_same o.door.idle i) && change_same o.door.change i)
   where
     net_same : (n : Net) → net_eq n n ≡ true
     net_same n = λ i. number_same n.address i && number_same n.bits i
@@ -79,6 +81,11 @@ port_same o =
     allow_same : (a : Option (List Net)) → allow_eq a a ≡ true
     allow_same None = refl
     allow_same (Some ns) = all_same net_eq net_same ns
+
+    change_same : (c : OnChange) → change_eq c c ≡ true
+    change_same on_change.Safe = refl
+    change_same on_change.HangUp = refl
+    change_same on_change.Keep = refl
 
     truth_same : (b : Bool) → is_same_bool b b ≡ true
     truth_same true = refl

@@ -137,54 +137,54 @@ define_takes old new e x = refl
 
 record Fate : Type 0 where
   drop_sub : Bool
+  remove : Bool
   drop_pmu : Bool
   add_pmu : Bool
   add_sub : Bool
   revoke : Bool
   grant : Bool
-  remove : Bool
   define : Bool
 
 abbrev fate : List Edit → List Edit → Edit → Fate
 fate old new e = record {
   drop_sub = list_any (λ x. takes_of e (dropped_sub new x)) old;
+  remove = list_any (λ x. takes_of e (removed old new x)) old;
   drop_pmu = list_any (λ x. takes_of e (dropped_pmu new x)) old;
   add_pmu = list_any (λ x. gives_of e (added_pmu old x)) new;
   add_sub = list_any (λ x. gives_of e (added_sub old new x)) new;
   revoke = list_any (λ x. takes_of e (revoked old new x)) (once_after [] old);
   grant = list_any (λ x. gives_of e (granted old new x)) new;
-  remove = list_any (λ x. takes_of e (removed old new x)) old;
   define = list_any (λ x. gives_of e (defined old new x)) new;
 }
 
 abbrev ends : Bool → Fate → Bool
-ends b f = ((((((((b && not f.drop_sub) && not f.drop_pmu) || f.add_pmu) || f.add_sub) && not f.revoke) || f.grant) && not f.remove) || f.define)
+ends b f = ((((((((b && not f.drop_sub) && not f.remove) && not f.drop_pmu) || f.add_pmu) || f.add_sub) && not f.revoke) || f.grant) || f.define)
 
 all_steps : (old new : List Edit) (e : Edit) (b : Bool) → has_after (edits_between old new) e b ≡ ends b (fate old new e)
 all_steps old new e b =
     let s1 : List Edit = filter_map (dropped_sub new) old in
-    let s2 : List Edit = filter_map (dropped_pmu new) old in
-    let s3 : List Edit = filter_map (added_pmu old) new in
-    let s4 : List Edit = filter_map (added_sub old new) new in
-    let s5 : List Edit = filter_map (revoked old new) (once_after [] old) in
-    let s6 : List Edit = filter_map (granted old new) new in
-    let s7 : List Edit = filter_map (removed old new) old in
+    let s2 : List Edit = filter_map (removed old new) old in
+    let s3 : List Edit = filter_map (dropped_pmu new) old in
+    let s4 : List Edit = filter_map (added_pmu old) new in
+    let s5 : List Edit = filter_map (added_sub old new) new in
+    let s6 : List Edit = filter_map (revoked old new) (once_after [] old) in
+    let s7 : List Edit = filter_map (granted old new) new in
     let s8 : List Edit = filter_map (defined old new) new in
     let f : Fate = fate old new e in
     let b1 : Bool = b && not f.drop_sub in
-    let b2 : Bool = b1 && not f.drop_pmu in
-    let b3 : Bool = b2 || f.add_pmu in
-    let b4 : Bool = b3 || f.add_sub in
-    let b5 : Bool = b4 && not f.revoke in
-    let b6 : Bool = b5 || f.grant in
-    let b7 : Bool = b6 && not f.remove in
+    let b2 : Bool = b1 && not f.remove in
+    let b3 : Bool = b2 && not f.drop_pmu in
+    let b4 : Bool = b3 || f.add_pmu in
+    let b5 : Bool = b4 || f.add_sub in
+    let b6 : Bool = b5 && not f.revoke in
+    let b7 : Bool = b6 || f.grant in
     let e1 : has_after s1 e b ≡ b1 = taken_over (dropped_sub new) e (drop_sub_gives new e) old b in
-    let e2 : has_after (s1 ++ s2) e b ≡ b2 = after_joined s1 s2 e b ∙ ap (has_after s2 e) e1 ∙ taken_over (dropped_pmu new) e (drop_pmu_gives new e) old b1 in
-    let e3 : has_after ((s1 ++ s2) ++ s3) e b ≡ b3 = after_joined (s1 ++ s2) s3 e b ∙ ap (has_after s3 e) e2 ∙ added_over (added_pmu old) e (add_pmu_takes old e) new b2 in
-    let e4 : has_after (((s1 ++ s2) ++ s3) ++ s4) e b ≡ b4 = after_joined ((s1 ++ s2) ++ s3) s4 e b ∙ ap (has_after s4 e) e3 ∙ added_over (added_sub old new) e (add_sub_takes old new e) new b3 in
-    let e5 : has_after ((((s1 ++ s2) ++ s3) ++ s4) ++ s5) e b ≡ b5 = after_joined (((s1 ++ s2) ++ s3) ++ s4) s5 e b ∙ ap (has_after s5 e) e4 ∙ taken_over (revoked old new) e (revoke_gives old new e) (once_after [] old) b4 in
-    let e6 : has_after (((((s1 ++ s2) ++ s3) ++ s4) ++ s5) ++ s6) e b ≡ b6 = after_joined ((((s1 ++ s2) ++ s3) ++ s4) ++ s5) s6 e b ∙ ap (has_after s6 e) e5 ∙ added_over (granted old new) e (grant_takes old new e) new b5 in
-    let e7 : has_after ((((((s1 ++ s2) ++ s3) ++ s4) ++ s5) ++ s6) ++ s7) e b ≡ b7 = after_joined (((((s1 ++ s2) ++ s3) ++ s4) ++ s5) ++ s6) s7 e b ∙ ap (has_after s7 e) e6 ∙ taken_over (removed old new) e (remove_gives old new e) old b6 in
+    let e2 : has_after (s1 ++ s2) e b ≡ b2 = after_joined s1 s2 e b ∙ ap (has_after s2 e) e1 ∙ taken_over (removed old new) e (remove_gives old new e) old b1 in
+    let e3 : has_after ((s1 ++ s2) ++ s3) e b ≡ b3 = after_joined (s1 ++ s2) s3 e b ∙ ap (has_after s3 e) e2 ∙ taken_over (dropped_pmu new) e (drop_pmu_gives new e) old b2 in
+    let e4 : has_after (((s1 ++ s2) ++ s3) ++ s4) e b ≡ b4 = after_joined ((s1 ++ s2) ++ s3) s4 e b ∙ ap (has_after s4 e) e3 ∙ added_over (added_pmu old) e (add_pmu_takes old e) new b3 in
+    let e5 : has_after ((((s1 ++ s2) ++ s3) ++ s4) ++ s5) e b ≡ b5 = after_joined (((s1 ++ s2) ++ s3) ++ s4) s5 e b ∙ ap (has_after s5 e) e4 ∙ added_over (added_sub old new) e (add_sub_takes old new e) new b4 in
+    let e6 : has_after (((((s1 ++ s2) ++ s3) ++ s4) ++ s5) ++ s6) e b ≡ b6 = after_joined ((((s1 ++ s2) ++ s3) ++ s4) ++ s5) s6 e b ∙ ap (has_after s6 e) e5 ∙ taken_over (revoked old new) e (revoke_gives old new e) (once_after [] old) b5 in
+    let e7 : has_after ((((((s1 ++ s2) ++ s3) ++ s4) ++ s5) ++ s6) ++ s7) e b ≡ b7 = after_joined (((((s1 ++ s2) ++ s3) ++ s4) ++ s5) ++ s6) s7 e b ∙ ap (has_after s7 e) e6 ∙ added_over (granted old new) e (grant_takes old new e) new b6 in
     after_joined ((((((s1 ++ s2) ++ s3) ++ s4) ++ s5) ++ s6) ++ s7) s8 e b ∙ ap (has_after s8 e) e7 ∙ added_over (defined old new) e (define_takes old new e) new b7
 
 -- ---- tests of lists
@@ -274,31 +274,31 @@ defines_so old new e (Define u d) =
 defines_so old new e x = sym (and_none (edit_eq x e))
 
 -- the fate of an edit, where the two drops and the removal of it are these
-fate_is : (old new : List Edit) (e : Edit) (d1 d2 d7 : Bool) → (fate old new e).drop_sub ≡ d1 → (fate old new e).drop_pmu ≡ d2 → (fate old new e).remove ≡ d7
+fate_is : (old new : List Edit) (e : Edit) (d1 d3 d2 : Bool) → (fate old new e).drop_sub ≡ d1 → (fate old new e).drop_pmu ≡ d3 → (fate old new e).remove ≡ d2
     → has_after (edits_between old new) e (has old e) ≡ ends (has old e) (record {
       drop_sub = d1;
-      drop_pmu = d2;
+      remove = d2;
+      drop_pmu = d3;
       add_pmu = has new e && is_new_pmu old e;
       add_sub = has new e && is_coming old new e;
       revoke = has old e && is_gone_grant old new e;
       grant = has new e && is_new_grant old new e;
-      remove = d7;
       define = has new e && is_new_stream old new e;
     })
-fate_is old new e d1 d2 d7 e1 e2 e7 =
-    let e3 : (fate old new e).add_pmu ≡ (has new e && is_new_pmu old e) =
+fate_is old new e d1 d3 d2 e1 e3 e2 =
+    let e4 : (fate old new e).add_pmu ≡ (has new e && is_new_pmu old e) =
     any_same (λ x. gives_of e (added_pmu old x)) (λ x. edit_eq x e && is_new_pmu old x) (adds_pmu_so old e) new ∙ meet (is_new_pmu old) e new in
-    let e4 : (fate old new e).add_sub ≡ (has new e && is_coming old new e) =
+    let e5 : (fate old new e).add_sub ≡ (has new e && is_coming old new e) =
     any_same (λ x. gives_of e (added_sub old new x)) (λ x. edit_eq x e && is_coming old new x) (adds_sub_so old new e) new ∙ meet (is_coming old new) e new in
-    let e5 : (fate old new e).revoke ≡ (has old e && is_gone_grant old new e) =
+    let e6 : (fate old new e).revoke ≡ (has old e && is_gone_grant old new e) =
     any_same (λ x. takes_of e (revoked old new x)) (λ x. edit_eq x e && is_gone_grant old new x) (revokes_so old new e) (once_after [] old)
     ∙ meet (is_gone_grant old new) e (once_after [] old) ∙ ap (λ h. h && is_gone_grant old new e) (once_same old e) in
-    let e6 : (fate old new e).grant ≡ (has new e && is_new_grant old new e) =
+    let e7 : (fate old new e).grant ≡ (has new e && is_new_grant old new e) =
     any_same (λ x. gives_of e (granted old new x)) (λ x. edit_eq x e && is_new_grant old new x) (grants_so old new e) new ∙ meet (is_new_grant old new) e new in
     let e8 : (fate old new e).define ≡ (has new e && is_new_stream old new e) =
     any_same (λ x. gives_of e (defined old new x)) (λ x. edit_eq x e && is_new_stream old new x) (defines_so old new e) new ∙ meet (is_new_stream old new) e new in
     all_steps old new e (has old e)
-    ∙ (λ i. ends (has old e) (record { drop_sub = e1 i; drop_pmu = e2 i; add_pmu = e3 i; add_sub = e4 i; revoke = e5 i; grant = e6 i; remove = e7 i; define = e8 i }))
+    ∙ (λ i. ends (has old e) (record { drop_sub = e1 i; remove = e2 i; drop_pmu = e3 i; add_pmu = e4 i; add_sub = e5 i; revoke = e6 i; grant = e7 i; define = e8 i }))
 
 -- ---- what drops and removals do about an edit
 

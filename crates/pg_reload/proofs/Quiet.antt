@@ -142,12 +142,12 @@ pub none_between : (p : Edit → Bool) (old new : List Edit) → IsClosed p → 
 none_between p old new is agree =
     any_joined p _ _ (any_joined p _ _ (any_joined p _ _ (any_joined p _ _ (any_joined p _ _ (any_joined p _ _ (any_joined p _ _
     (quiet p (dropped_sub new) old old (λ e h. h) (no_dropped_sub p old new is agree))
+    (quiet p (removed old new) old old (λ e h. h) (no_removed p old new is agree)))
     (quiet p (dropped_pmu new) old old (λ e h. h) (no_dropped_pmu p old new is agree)))
     (quiet p (added_pmu old) new new (λ e h. h) (no_added_pmu p old new agree)))
     (quiet p (added_sub old new) new new (λ e h. h) (no_added_sub p old new is agree)))
     (quiet p (revoked old new) old (once_after [] old) (once_within old) (no_revoked p old new is agree)))
     (quiet p (granted old new) new new (λ e h. h) (no_granted p old new agree)))
-    (quiet p (removed old new) old old (λ e h. h) (no_removed p old new is agree)))
     (quiet p (defined old new) new new (λ e h. h) (no_defined p old new agree))
 
 -- ---- the edits that touch a subscriber, and all edits

@@ -69,26 +69,27 @@ abbrev pub once_after : List Edit → List Edit → List Edit
 once_after seen [] = seen
 once_after seen (e ∷ es) = if has seen e then once_after seen es else once_after (seen ++ e ∷ []) es
 
--- ---- all of them, in order; what the old setup grants twice is revoked once
+-- ---- all of them, in order; a stream that is gone or changed is removed before anything that could make a frame of another layout in it;
+-- what the old setup grants twice is revoked once
 
 abbrev pub edits_between : List Edit → List Edit → List Edit
 edits_between old new =
     ((((((filter_map (dropped_sub new) old
+    ++ filter_map (removed old new) old)
     ++ filter_map (dropped_pmu new) old)
     ++ filter_map (added_pmu old) new)
     ++ filter_map (added_sub old new) new)
     ++ filter_map (revoked old new) (once_after [] old))
     ++ filter_map (granted old new) new)
-    ++ filter_map (removed old new) old)
     ++ filter_map (defined old new) new
 
 -- the step by its name
 abbrev pub step_of : Step → List Edit → List Edit → Edit → Option Edit
 step_of step.DropSubs old new = dropped_sub new
+step_of step.Removes old new = removed old new
 step_of step.DropPmus old new = dropped_pmu new
 step_of step.AddPmus old new = added_pmu old
 step_of step.AddSubs old new = added_sub old new
 step_of step.Revokes old new = revoked old new
 step_of step.Grants old new = granted old new
-step_of step.Removes old new = removed old new
 step_of step.Defines old new = defined old new

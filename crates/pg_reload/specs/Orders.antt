@@ -19,9 +19,9 @@ pub record Called : Type 0 where
 abbrev pub called_of : Call → Called
 called_of c = record { source = c.source; address = string_bytes c.address; rules = c.rules }
 
--- the rules that a setup has for a source; 10 seconds and no guard where it has none
+-- the rules that a setup has for a source; 10 seconds, no guard, and 200 milliseconds ahead, where it has none
 abbrev pub rules_for : List SourceRules → ℕ → SourceRules
-rules_for sources source = unwrap_or (find (λ r. r.source == source) sources) (record { source = source; silence = 10; clock_ms = None })
+rules_for sources source = unwrap_or (find (λ r. r.source == source) sources) (record { source = source; silence = 10; clock_ms = None; ahead_ms = 200 })
 
 -- the calls that a setup's links ask for
 abbrev pub called_by : List SourceRules → ℕ × List ℕ → Called
@@ -32,7 +32,7 @@ calls_by links sources = map (called_by sources) links
 
 -- every field is the same
 abbrev pub rules_eq : SourceRules → SourceRules → Bool
-rules_eq r q = (r.source == q.source && r.silence == q.silence) && option_eq nat_eq r.clock_ms q.clock_ms
+rules_eq r q = ((r.source == q.source && r.silence == q.silence) && option_eq nat_eq r.clock_ms q.clock_ms) && r.ahead_ms == q.ahead_ms
 
 abbrev pub called_eq : Called → Called → Bool
 called_eq c d = (c.source == d.source && bytes_eq c.address d.address) && rules_eq c.rules d.rules

@@ -3,6 +3,8 @@ use Rattle.std.specs.Prelude.{ℕ, ◌==◌, ◌&&◌, Bool, true, false, List, 
 use Rattle.std.specs.Cmp.Lexicographic.{pointwise}
 use Rattle.std.specs.List.{list_any, filter_map}
 use Rattle.pg_limits.specs.Hosts.{Net}
+use Rattle.pg_limits.specs.declared.layouts.OnChange.{OnChange}
+use Rattle.pg_limits.specs.declared.layouts.OnChange.TheVariants as on_change
 use Rattle.pg_operator.specs.Setups.{Door, door_of}
 use Rattle.pg_reload.specs.declared.ports.Port.{Port}
 
@@ -36,9 +38,16 @@ is_same_bool true b = b
 is_same_bool false true = false
 is_same_bool false false = true
 
+abbrev pub change_eq : OnChange → OnChange → Bool
+change_eq on_change.Safe on_change.Safe = true
+change_eq on_change.HangUp on_change.HangUp = true
+change_eq on_change.Keep on_change.Keep = true
+change_eq a b = false
+
 abbrev pub door_eq : Door → Door → Bool
 door_eq c d =
-    ((((c.sub == d.sub && c.address == d.address) && allow_eq c.allow d.allow) && is_same_bool c.takeover d.takeover) && c.stall == d.stall) && c.idle == d.idle
+    (((((c.sub == d.sub && c.address == d.address) && allow_eq c.allow d.allow) && is_same_bool c.takeover d.takeover) && c.stall == d.stall) && c.idle == d.idle)
+    && change_eq c.change d.change
 
 abbrev pub opened_eq : Opened → Opened → Bool
 opened_eq p q = p.port == q.port && door_eq p.door q.door

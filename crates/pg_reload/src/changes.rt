@@ -33,14 +33,15 @@ pub struct Changes {
 /// The edits are, in this order:
 ///
 /// 1. subscribers that are gone, or whose ring or bytes changed, are dropped;
-/// 2. PMUs that are gone are dropped, which revokes them from each subscriber that holds them;
-/// 3. new PMUs are registered;
-/// 4. subscribers that are new, or whose ring or bytes changed, are added, with all their grants and streams;
-/// 5. of the other subscribers, grants that are gone are revoked, 6. new ones granted, 7. streams that are gone or changed removed,
-///    and 8. new and changed ones defined.
+/// 2. of the other subscribers, streams that are gone or changed are removed, before anything that could make a frame of another layout
+///    in them;
+/// 3. PMUs that are gone are dropped, which revokes them from each subscriber that holds them;
+/// 4. new PMUs are registered;
+/// 5. subscribers that are new, or whose ring or bytes changed, are added, with all their grants and streams;
+/// 6. of the other subscribers, grants that are gone are revoked, 7. new ones granted, and 8. new and changed streams defined.
 ///
 /// It does not matter in which order a setup has its PMUs, subscribers, grants and streams; a stream's members have theirs. A source
-/// is called anew where its address, `silence` or `clock_ms` changed; a port is closed and opened anew where its number or a rule of it
+/// is called anew where its address, `silence`, `clock_ms` or `ahead_ms` changed; a port is closed and opened anew where its number or a rule of it
 /// changed, and stays where its subscriber is dropped and added again.
 ///
 /// The keys that need a new start are told in the order `tick_ms`, `ingest`, `serve`, `control`, `status`; `log` needs none.

@@ -35,6 +35,9 @@ pub enum Order {
 /// After how many seconds a source is silent of which nothing is said.
 const SILENCE: u16 = 10;
 
+/// How many milliseconds a source may be ahead of the reference of which nothing is said.
+const AHEAD_MS: u16 = 200;
+
 /// The rules of a source.
 fn rules_for(sources: &[SourceRules], source: PmuId) -> SourceRules
     ensures { result ≡ rules_for sources.now source }
@@ -48,6 +51,7 @@ fn rules_for(sources: &[SourceRules], source: PmuId) -> SourceRules
         source,
         silence: SILENCE,
         clock_ms: None,
+        ahead_ms: AHEAD_MS,
     }
 }
 
@@ -92,7 +96,10 @@ fn calls_by(
 fn are_rules_alike(one: &SourceRules, other: &SourceRules) -> bool
     ensures { result ≡ rules_eq one.now other.now }
 {
-    one.source == other.source && one.silence == other.silence && one.clock_ms == other.clock_ms
+    one.source == other.source
+        && one.silence == other.silence
+        && one.clock_ms == other.clock_ms
+        && one.ahead_ms == other.ahead_ms
 }
 
 /// Whether both are one call.

@@ -3,10 +3,10 @@ ghost use Rattle.std.specs.Prelude.{◌≡◌, ◌++◌, IfOk, IfErr, OnOk, find
 ghost use Rattle.std.specs.List.{filter_map, list_any};
 ghost use Rattle.pg_operator.specs.Setups.{door_of};
 ghost use Rattle.pg_reload.specs.Orders.{closed, listened_of, port_orders_between, told};
-ghost use Rattle.pg_reload.specs.Ports.{allow_eq, door_eq, opened_by, opened_eq, opened_of, ports_by};
+ghost use Rattle.pg_reload.specs.Ports.{allow_eq, change_eq, door_eq, opened_by, opened_eq, opened_of, ports_by};
 
 use crate::orders::Order;
-use pg_limits::Allow;
+use pg_limits::{Allow, OnChange};
 use pg_operator::{PortRules, Setup};
 use pg_wire::{Refusal, SubId};
 use std::alloc::Global;
@@ -16,7 +16,7 @@ use std::alloc::Global;
 pub struct Port {
     /// Its number: 1 to 65535.
     pub port: u16,
-    /// Its subscriber, who may connect, and when it is hung up.
+    /// Its subscriber, who may connect, when it is hung up, and what is done where the blocks of a stream change.
     pub rules: PortRules,
 }
 
@@ -51,6 +51,7 @@ fn port_of(alloc: Global, port: u16, rules: &PortRules) -> Result<Port, Refusal>
                 takeover: rules.takeover,
                 stall: rules.stall,
                 idle: rules.idle,
+                change: rules.change,
             },
         }),
         Err(refusal) => Err(refusal),
@@ -110,6 +111,18 @@ fn is_same_allow(one: &Allow, other: &Allow) -> bool
     }
 }
 
+/// Whether the same is done where the blocks of a stream change.
+fn is_same_change(one: OnChange, other: OnChange) -> bool
+    ensures { result ≡ change_eq one other }
+{
+    matches!(
+        (one, other),
+        (OnChange::Safe, OnChange::Safe)
+            | (OnChange::HangUp, OnChange::HangUp)
+            | (OnChange::Keep, OnChange::Keep)
+    )
+}
+
 /// Whether every field is the same.
 fn are_rules_alike(one: &PortRules, other: &PortRules) -> bool
     ensures { result ≡ door_eq (door_of one.now) (door_of other.now) }
@@ -120,6 +133,7 @@ fn are_rules_alike(one: &PortRules, other: &PortRules) -> bool
         && one.takeover == other.takeover
         && one.stall == other.stall
         && one.idle == other.idle
+        && is_same_change(one.change, other.change)
 }
 
 /// Whether both are one port.

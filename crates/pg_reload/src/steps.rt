@@ -8,17 +8,16 @@ use pg_gateway::Edit;
 use pg_wire::{Refusal, SubId};
 use std::alloc::Global;
 
-/// The steps, in order. The first two, the revocations and the removals go over the edits of the old setup, the others over
-/// those of the new one.
+/// The steps, in order. The first three and the revocations go over the edits of the old setup, the others over those of the new one.
 #[derive(Clone, Copy)]
 pub(crate) enum Step {
     DropSubs,
+    Removes,
     DropPmus,
     AddPmus,
     AddSubs,
     Revokes,
     Grants,
-    Removes,
     Defines,
 }
 
@@ -219,12 +218,12 @@ fn step_of(
 {
     match step {
         Step::DropSubs => Ok(dropped_sub(new, edit)),
+        Step::Removes => Ok(removed(old, new, edit)),
         Step::DropPmus => Ok(dropped_pmu(new, edit)),
         Step::AddPmus => Ok(added_pmu(old, edit)),
         Step::AddSubs => added_sub(alloc, old, new, edit),
         Step::Revokes => Ok(revoked(old, new, edit)),
         Step::Grants => Ok(granted(old, new, edit)),
-        Step::Removes => Ok(removed(old, new, edit)),
         Step::Defines => defined(alloc, old, new, edit),
     }
 }
@@ -261,12 +260,12 @@ pub(crate) fn edits_between(alloc: Global, old: &[Edit], new: &[Edit]) -> Result
     let mut out = Vec::new(alloc);
     let once = copying::each_once(alloc, old)?;
     add_step(alloc, &mut out, Step::DropSubs, old, old, new)?;
+    add_step(alloc, &mut out, Step::Removes, old, old, new)?;
     add_step(alloc, &mut out, Step::DropPmus, old, old, new)?;
     add_step(alloc, &mut out, Step::AddPmus, new, old, new)?;
     add_step(alloc, &mut out, Step::AddSubs, new, old, new)?;
     add_step(alloc, &mut out, Step::Revokes, once.as_slice(), old, new)?;
     add_step(alloc, &mut out, Step::Grants, new, old, new)?;
-    add_step(alloc, &mut out, Step::Removes, old, old, new)?;
     add_step(alloc, &mut out, Step::Defines, new, old, new)?;
     Ok(out)
 }

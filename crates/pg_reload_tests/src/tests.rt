@@ -1,8 +1,9 @@
 use crate::asserts::same;
 use pg_fakes::edit_line;
 use pg_gateway::{Edit, Event, Gate, Gateway, Reply};
+use pg_limits::OnChange;
 use pg_operator::{Setup, read_setup};
-use pg_reload::{Changes, Order, Port, Restart, changes_between};
+use pg_reload::{Call, Changes, Order, Port, Restart, changes_between};
 use std::alloc::{AllocError, Global};
 use std::process::Abort;
 use std::test::*;
@@ -56,13 +57,20 @@ tick_ms = 10 => tick_ms = 20 ==> restart tick_ms; \n\
 ingest = 1 => ingest = 2 ==> restart ingest; \n\
 serve = 1 => serve = 8 ==> restart serve; \n\
 serve = 1 => serve = 3 | ingest = 1 => ingest = 2 | tick_ms = 10 => tick_ms = 11 ==> restart tick_ms; restart ingest; restart serve; \n\
-0.1:4712 => 0.2:4712 ==> undial 7; dial 7 10.0.0.2:4712 10 -; \n\
+0.1:4712 => 0.2:4712 ==> undial 7; dial 7 10.0.0.2:4712 10 - 200; \n\
 , connect = \"10.0.0.1:4712\" => ==> undial 7; \n\
-{ id = 8 } => { id = 8, connect = \"pmu8.example:4713\", clock_ms = 500 } ==> dial 8 pmu8.example:4713 10 500; \n\
-, connect => , silence = 60, connect ==> undial 7; dial 7 10.0.0.1:4712 60 -; \n\
-, connect => , clock_ms = 90, connect ==> undial 7; dial 7 10.0.0.1:4712 10 90; \n\
+{ id = 8 } => { id = 8, connect = \"pmu8.example:4713\", clock_ms = 500 } ==> dial 8 pmu8.example:4713 10 500 200; \n\
+, connect => , silence = 60, connect ==> undial 7; dial 7 10.0.0.1:4712 60 - 200; \n\
+, connect => , clock_ms = 90, connect ==> undial 7; dial 7 10.0.0.1:4712 10 90 200; \n\
 { id = 8 } => { id = 8, silence = 60 } ==> \n\
-{ id = 8 }, => { id = 6, connect = \"10.0.0.6:4712\" }, | tick_ms = 10 => tick_ms = 30 | [7, 8] => [6, 7] | { id = 2, ring = 4, bytes = 1000, grants = [7] },  => | [\"7/9\"] }] => [\"7/9\", 6] }, { id = 9, ring = 1 }] | rate = 30 => rate = 60 ==> dropsub 2; droppmu 8/8; addpmu 6/6; addsub 9 1 16777216; grant 1 6/6; grant 3 6/6; remove 1 101; define 1 101 60 1000000 2 4 none 7/7; dial 6 10.0.0.6:4712 10 -; restart tick_ms; ";
+, connect => , ahead_ms = 0, connect ==> undial 7; dial 7 10.0.0.1:4712 10 - 0; \n\
+{ id = 9, source = 7 } => { id = 9, source = 7, ahead_ms = 201 } ==> undial 7; dial 7 10.0.0.1:4712 10 - 201; \n\
+, connect => , ahead_ms = 200, connect ==> \n\
+{ id = 8 } => { id = 8, ahead_ms = 5 } ==> \n\
+[7, 8] => [7, \"7/9\"] | members = [8, 7] => members = [\"7/9\", 7] ==> remove 1 102; revoke 1 8/8; grant 1 7/9; define 1 102 10 1000000 2 4 4142 7/9 7/7; \n\
+[7, 8] => [8] | wait = 2, window = 4, members => wait = 3, window = 4, members ==> remove 1 101; revoke 1 7/7; define 1 101 30 1000000 3 4 none 7/7; \n\
+{ id = 8 }, => | [7, 8] => [7] | members = [8, 7] => members = [7] ==> remove 1 102; droppmu 8/8; define 1 102 10 1000000 2 4 4142 7/7; \n\
+{ id = 8 }, => { id = 6, connect = \"10.0.0.6:4712\" }, | tick_ms = 10 => tick_ms = 30 | [7, 8] => [6, 7] | { id = 2, ring = 4, bytes = 1000, grants = [7] },  => | [\"7/9\"] }] => [\"7/9\", 6] }, { id = 9, ring = 1 }] | rate = 30 => rate = 60 ==> dropsub 2; remove 1 101; droppmu 8/8; addpmu 6/6; addsub 9 1 16777216; grant 1 6/6; grant 3 6/6; define 1 101 60 1000000 2 4 none 7/7; dial 6 10.0.0.6:4712 10 - 200; restart tick_ms; ";
 
 /// A setup of two ports.
 const PORTS: &str = "\
@@ -75,20 +83,24 @@ subscriber = [\
 /// Setups that differ from the one above, as with the rows before.
 const PORT_ROWS: &str = "\
 ring = 2 => ring = 2 ==> \n\
-4800 => 4900 ==> unlisten 1; listen 1 4900 0.0.0.0 - false 30 0; \n\
+4800 => 4900 ==> unlisten 1; listen 1 4900 0.0.0.0 - false 30 0 safe; \n\
 , port = 4800 => ==> unlisten 1; \n\
-id = 3 => id = 3, port = 4802, takeover = true ==> listen 3 4802 0.0.0.0 - true 30 0; \n\
-127.0.0.1 => 127.0.0.2 ==> unlisten 2; listen 2 4801 127.0.0.2 1 false 30 0; \n\
-10.0.0.0/8 => 10.0.0.0/9 ==> unlisten 2; listen 2 4801 127.0.0.1 1 false 30 0; \n\
-[\"10.0.0.0/8\"] => [\"10.0.0.0/8\", \"10.1.0.0/16\"] ==> unlisten 2; listen 2 4801 127.0.0.1 2 false 30 0; \n\
-, allow = [\"10.0.0.0/8\"] => ==> unlisten 2; listen 2 4801 127.0.0.1 - false 30 0; \n\
-ring = 4 => ring = 4, takeover = true ==> unlisten 2; listen 2 4801 127.0.0.1 1 true 30 0; \n\
-ring = 4 => ring = 4, stall = 31 ==> unlisten 2; listen 2 4801 127.0.0.1 1 false 31 0; \n\
-ring = 4 => ring = 4, idle = 5 ==> unlisten 2; listen 2 4801 127.0.0.1 1 false 30 5; \n\
+id = 3 => id = 3, port = 4802, takeover = true ==> listen 3 4802 0.0.0.0 - true 30 0 safe; \n\
+127.0.0.1 => 127.0.0.2 ==> unlisten 2; listen 2 4801 127.0.0.2 1 false 30 0 safe; \n\
+10.0.0.0/8 => 10.0.0.0/9 ==> unlisten 2; listen 2 4801 127.0.0.1 1 false 30 0 safe; \n\
+[\"10.0.0.0/8\"] => [\"10.0.0.0/8\", \"10.1.0.0/16\"] ==> unlisten 2; listen 2 4801 127.0.0.1 2 false 30 0 safe; \n\
+, allow = [\"10.0.0.0/8\"] => ==> unlisten 2; listen 2 4801 127.0.0.1 - false 30 0 safe; \n\
+ring = 4 => ring = 4, takeover = true ==> unlisten 2; listen 2 4801 127.0.0.1 1 true 30 0 safe; \n\
+ring = 4 => ring = 4, stall = 31 ==> unlisten 2; listen 2 4801 127.0.0.1 1 false 31 0 safe; \n\
+ring = 4 => ring = 4, idle = 5 ==> unlisten 2; listen 2 4801 127.0.0.1 1 false 30 5 safe; \n\
 ring = 4 => ring = 4, stall = 30, idle = 0, takeover = false, bytes = 16777216 ==> \n\
+ring = 4 => ring = 4, change = \"keep\" ==> unlisten 2; listen 2 4801 127.0.0.1 1 false 30 0 keep; \n\
+ring = 4 => ring = 4, change = \"hangup\" ==> unlisten 2; listen 2 4801 127.0.0.1 1 false 30 0 hangup; \n\
+ring = 4 => ring = 4, change = \"safe\" ==> \n\
+ring = 2 => ring = 2, change = \"keep\" ==> \n\
 ring = 64 => ring = 65 ==> dropsub 1; addsub 1 65 16777216; \n\
 { id = 1, port = 4800, ring = 64 }, => ==> dropsub 1; unlisten 1; \n\
-4800 => 4801 | 4801, address => 4800, address ==> unlisten 1; unlisten 2; listen 1 4801 0.0.0.0 - false 30 0; listen 2 4800 127.0.0.1 1 false 30 0; ";
+4800 => 4801 | 4801, address => 4800, address ==> unlisten 1; unlisten 2; listen 1 4801 0.0.0.0 - false 30 0 safe; listen 2 4800 127.0.0.1 1 false 30 0 safe; ";
 
 /// A setup with all keys of the file itself.
 const GENERAL: &str = "\
@@ -147,41 +159,47 @@ fn port_told(alloc: Global, port: &Port) -> Result<String, AllocError> {
         Some(networks) => format!(in alloc; "{}", networks.len())?,
         None => String::from_str(alloc, "-")?,
     };
+    let change = match port.rules.change {
+        OnChange::Safe => "safe",
+        OnChange::HangUp => "hangup",
+        OnChange::Keep => "keep",
+    };
     format!(in alloc;
-        "listen {} {} {} {} {} {} {}",
+        "listen {} {} {} {} {} {} {} {}",
         port.rules.sub.get(),
         port.port,
         port.rules.address,
         networks,
         port.rules.takeover,
         port.rules.stall,
-        port.rules.idle
+        port.rules.idle,
+        change
     )
 }
 
-/// An order as a line: of a call its address, its silence, and its clock or `-`.
+/// A call as a line: its address, its silence, its clock or `-`, and how far it may be ahead.
+fn call_told(alloc: Global, call: &Call) -> Result<String, AllocError> {
+    let clock = match call.rules.clock_ms {
+        Some(limit) => format!(in alloc; "{limit}")?,
+        None => String::from_str(alloc, "-")?,
+    };
+    format!(in alloc;
+        "dial {} {} {} {} {}",
+        call.source.get(),
+        call.address,
+        call.rules.silence,
+        clock,
+        call.rules.ahead_ms
+    )
+}
+
+/// An order as a line.
 fn order_told(alloc: Global, order: &Order) -> Result<String, AllocError> {
     match order {
         Order::Unlisten(id) => format!(in alloc; "unlisten {}", id.get()),
         Order::Listen(port) => port_told(alloc, port),
         Order::Undial(source) => format!(in alloc; "undial {}", source.get()),
-        Order::Dial(call) => match call.rules.clock_ms {
-            Some(limit) => format!(in alloc;
-                "dial {} {} {} {}",
-                call.source.get(),
-                call.address,
-                call.rules.silence,
-                limit
-            ),
-            None => {
-                format!(in alloc;
-                    "dial {} {} {} -",
-                    call.source.get(),
-                    call.address,
-                    call.rules.silence
-                )
-            }
-        },
+        Order::Dial(call) => call_told(alloc, call),
     }
 }
 
@@ -287,13 +305,13 @@ fn check_rows<R: Abort>(rt: &R, alloc: Global, old: &str, rows: &str) -> Result<
 
 #[test]
 fn reload_rows(rt: HostRuntime) -> Result<(), Fail> {
-    same(&rt, ROWS.split('\n').count(), 40);
+    same(&rt, ROWS.split('\n').count(), 47);
     check_rows(&rt, rt.alloc(), OLD, ROWS)
 }
 
 #[test]
 fn reload_ports(rt: HostRuntime) -> Result<(), Fail> {
-    same(&rt, PORT_ROWS.split('\n').count(), 15);
+    same(&rt, PORT_ROWS.split('\n').count(), 19);
     check_rows(&rt, rt.alloc(), PORTS, PORT_ROWS)
 }
 

@@ -6,4 +6,4 @@ use Rattle.pg_run.specs.Limits.{limit_of}
 
 -- It has just these rules, and nobody is connected.
 abbrev pub opened_by : ℕ → PortRules → Doorway
-opened_by sub r = record { sub = sub; allow = option_map (λ v. v.items) r.allow.networks; takeover = r.takeover; stall = limit_of r.stall; idle = limit_of r.idle; guest = None }
+opened_by sub r = record { sub = sub; allow = option_map (λ v. v.items) r.allow.networks; takeover = r.takeover; stall = limit_of r.stall; idle = limit_of r.idle; change = r.change; guest = None }

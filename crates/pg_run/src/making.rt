@@ -10,8 +10,8 @@ use crate::workers::{Worker, share_ports, share_sources, told_as};
 use pg_console::{Counter, Told};
 use pg_operator::Setup;
 use pg_service::{
-    Detail, Dial, Entry, Journal, Logger, Neighbours, Notice, Port, PortWorker, ResolverWorker,
-    SourceWorker, Ticker, Waiting, Whom,
+    ConnectionsWorker, Detail, Dial, Entry, Journal, Logger, Neighbours, Notice, Port, PortWorker,
+    ResolverWorker, SourceWorker, Ticker, Waiting, Whom,
 };
 use pg_shared::{Named, Seat, Shared, SharedGate};
 use pg_window::Window;
@@ -105,7 +105,7 @@ pub(crate) fn make_workers<
     Ok((seat, workers))
 }
 
-/// Adds the workers that look up names, serve the control socket and the page, post ticks and write the log.
+/// Adds the workers that look up names, read the table of connections, serve the control socket and the page, post ticks and write the log.
 fn add_watchers<
     'a,
     R: Input<Reader = StdinLock<'static>>
@@ -129,6 +129,7 @@ fn add_watchers<
     ensures seat { IfOk result (λ rest. rest ≡ seat) }
 {
     add_resolver(makings, names, workers)?;
+    add_connections(makings, workers)?;
     let seat = add_window(makings, seat, window, openings, workers)?;
     let seat = add_ticker(makings, seat, tick, workers)?;
     add_logger(makings, workers)?;
@@ -316,6 +317,35 @@ fn add_resolver<
         let worker = ResolverWorker::new(*rt, *alloc, waiting, number, resolver, sources, journal);
         workers.push(Worker::Names(worker))?;
     }
+    Ok(())
+}
+
+/// Adds the worker that reads the system's table of TCP connections.
+fn add_connections<
+    'a,
+    R: Input<Reader = StdinLock<'static>>
+        + Print
+        + Eprint
+        + Clock
+        + Net<Listener = TcpListener, Stream = TcpStream>
+        + Wait,
+    N: Named,
+>(makings: &Makings<'a, R>, workers: &mut Vec<Worker<'a, R, N>>) -> Result<(), Refusal> {
+    let Neighbours {
+        ports,
+        journal,
+        board,
+        ..
+    } = makings.told.neighbours;
+    let Makings {
+        rt,
+        alloc,
+        place,
+        ..
+    } = makings;
+    let connections = board.connections();
+    let worker = ConnectionsWorker::new(*rt, place.files, *alloc, connections, ports, journal);
+    workers.push(Worker::Connections(worker))?;
     Ok(())
 }
 

@@ -29,6 +29,9 @@ const PAUSE_MS: u64 = 10;
 /// The seconds without an event after which a source is called anew, where the setup does not name it.
 const SILENCE: u16 = 10;
 
+/// How many milliseconds a source may be ahead of the reference where the setup does not name it.
+const AHEAD_MS: u16 = 200;
+
 /// The setup by which the gateway runs, and the file that it stands in.
 #[derive(Drop)]
 pub struct InForce<'a, R: Net + Clock> {
@@ -125,6 +128,7 @@ impl<R: Net + Clock> InForce<'_, R> {
             }
             Err(_) => told.neighbours.journal.note(Notice::MailFault),
         }
+        told.bind_again(rt);
         for order in orders {
             self.obey(rt, told, order, &mut report);
         }
@@ -173,7 +177,7 @@ impl Report {
         self.is_whole = self.is_whole && written.is_ok() && printed.is_ok();
     }
 
-    /// A port can't be bound: that is told, here and to the log.
+    /// A port can't be bound: that is reported, here and in the log.
     fn not_bound<Q: Wait>(
         &mut self,
         rt: &Q,
@@ -231,7 +235,9 @@ impl<R: Net + Clock> InForce<'_, R> {
                     Ok(listener) => told.open(rt, rules.sub, door_rules(rules), listener),
                     Err(error) => {
                         let journal = told.neighbours.journal;
-                        report.not_bound(rt, journal, rules.sub, address, error);
+                        let sub = rules.sub;
+                        report.not_bound(rt, journal, sub, address, error);
+                        told.bind_later(rt, sub, door_rules(rules), address);
                         return;
                     }
                 }
@@ -310,6 +316,7 @@ impl<R: Net + Clock> InForce<'_, R> {
                 source,
                 silence: SILENCE,
                 clock_ms: None,
+                ahead_ms: AHEAD_MS,
             },
         }
     }

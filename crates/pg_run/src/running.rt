@@ -3,7 +3,7 @@
 ghost use Rattle.std.specs.Prelude.{◌≡◌, IfOk, IfSome, map, option_map};
 ghost use Rattle.std.specs.Duration.{as_nanos};
 ghost use Rattle.pg_run.specs.Doors.{opened_by};
-ghost use Rattle.pg_run.specs.Limits.{limit_of};
+ghost use Rattle.pg_run.specs.Limits.{guards_by, limit_of};
 
 use crate::failure::{Failure, not_bound};
 use crate::making::Place;
@@ -15,9 +15,9 @@ use crate::serving::{Known, Plan, serve_all};
 use crate::workers::told_as;
 use mio::net::TcpListener as PortListener;
 use pg_console::{SetUp, set_up};
-use pg_limits::ClockGuard;
+use pg_limits::{AheadGuard, ClockGuard};
 use pg_operator::{BoundBy, LogLevel, PortRules, Setup, SourceRules, read_setup};
-use pg_service::{Address, Board, Dial, DoorRules, Journal, Port, Registered};
+use pg_service::{Address, Board, Dial, DoorRules, Guards, Journal, Port, Registered};
 use pg_wire::{PmuId, Refusal, SubId};
 use std::alloc::Global;
 use std::io::{BufReader, BufWriter, StdinLock};
@@ -294,12 +294,14 @@ pub(crate) fn door_rules(rules: PortRules) -> DoorRules
     ensures takeover { result.takeover ≡ rules.takeover }
     ensures stall { option_map as_nanos result.stall ≡ limit_of rules.stall }
     ensures idle { option_map as_nanos result.idle ≡ limit_of rules.idle }
+    ensures change { result.change ≡ rules.change }
 {
     DoorRules {
         allow: rules.allow,
         takeover: rules.takeover,
         stall: limit_of(rules.stall),
         idle: limit_of(rules.idle),
+        change: rules.change,
     }
 }
 
@@ -364,6 +366,7 @@ fn dials_of(
 pub(crate) fn dial_by(source: PmuId, address: String, rules: &SourceRules) -> Dial
     ensures source { result.source ≡ source }
     ensures silence { option_map as_nanos result.silence ≡ limit_of rules.now.silence }
+    ensures guards { result.guards ≡ guards_by rules.now }
 {
     let address = match address.as_str().parse::<SocketAddrV4>() {
         Ok(address) => Address::Known(SocketAddr::V4(address)),
@@ -376,17 +379,29 @@ pub(crate) fn dial_by(source: PmuId, address: String, rules: &SourceRules) -> Di
 pub(crate) fn dial_to(source: PmuId, address: Address, rules: &SourceRules) -> Dial
     ensures source { result.source ≡ source }
     ensures silence { option_map as_nanos result.silence ≡ limit_of rules.now.silence }
+    ensures guards { result.guards ≡ guards_by rules.now }
 {
-    let guard = match rules.clock_ms {
-        Some(limit) => Some(ClockGuard { limit }),
-        None => None,
-    };
     Dial {
         source,
         address,
         silence: limit_of(rules.silence),
-        guard,
+        guards: guards_by(rules),
     }
+}
+
+/// How far the times of a source's measurements may be from the clocks by its rules.
+fn guards_by(rules: &SourceRules) -> Guards
+    ensures { result ≡ guards_by rules.now }
+{
+    let near = match rules.clock_ms {
+        Some(limit) => Some(ClockGuard { limit }),
+        None => None,
+    };
+    let ahead = match rules.ahead_ms {
+        0 => None,
+        limit => Some(AheadGuard { limit }),
+    };
+    Guards { near, ahead }
 }
 
 /// A source that is called, at its address and by its rules.
@@ -404,7 +419,7 @@ fn dial_of(alloc: Global, link: &(PmuId, String), sources: &[SourceRules]) -> Re
             source: *source,
             address,
             silence: None,
-            guard: None,
+            guards: Guards::none(),
         }),
     }
 }

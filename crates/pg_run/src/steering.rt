@@ -5,7 +5,7 @@ use crate::running::{dial_to, door_of, door_rules};
 use crate::workers::told_as;
 use pg_console::{Console, Steering};
 use pg_gateway::{Event, Gate, Reply};
-use pg_limits::Allow;
+use pg_limits::{Allow, OnChange};
 use pg_lines::Steer;
 use pg_operator::PortRules;
 use pg_replay::{Fault, print_refusal};
@@ -58,6 +58,7 @@ impl<R: Net + Clock> InForce<'_, R> {
                 takeover: false,
                 stall: STALL,
                 idle: 0,
+                change: OnChange::Safe,
             });
         };
         let networks = match &door.allow.networks {
@@ -71,6 +72,7 @@ impl<R: Net + Clock> InForce<'_, R> {
             takeover: door.takeover,
             stall: door.stall,
             idle: door.idle,
+            change: door.change,
         })
     }
 

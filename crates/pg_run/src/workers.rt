@@ -8,7 +8,8 @@ use crate::operator::Operator;
 use crate::reloading::InForce;
 use pg_console::{Counter, Seated};
 use pg_service::{
-    Dial, Logger, Mailbox, Port, PortWorker, ResolverWorker, Rota, SourceWorker, Ticker, Waiting,
+    ConnectionsWorker, Dial, Logger, Mailbox, Port, PortWorker, ResolverWorker, Rota, SourceWorker,
+    Ticker, Waiting,
 };
 use pg_shared::{Named, Seat, Work};
 use pg_window::Window;
@@ -35,6 +36,7 @@ pub enum Worker<
     Sources(SourceWorker<'a, R, N>),
     Subscribers(PortWorker<'a, R, N>),
     Names(ResolverWorker<'a, R>),
+    Connections(ConnectionsWorker<'a, R>),
     Ticks(Ticker<'a, R, N>),
     Lines(Operator<'a, R, N>),
     Window(Window<'a, R, Counter<'a, R, N, InForce<'a, R>>>),
@@ -55,6 +57,7 @@ impl<
             Worker::Sources(worker) => worker.turn(),
             Worker::Subscribers(worker) => worker.turn(),
             Worker::Names(worker) => worker.turn(),
+            Worker::Connections(worker) => worker.turn(),
             Worker::Ticks(worker) => worker.turn(),
             Worker::Lines(worker) => worker.turn(),
             Worker::Window(worker) => worker.turn(),
@@ -82,6 +85,7 @@ impl<
             Worker::Sources(worker) => Some(worker.into_gate().into_seat()),
             Worker::Subscribers(worker) => Some(worker.into_gate().into_seat()),
             Worker::Names(_) => None,
+            Worker::Connections(_) => None,
             Worker::Ticks(worker) => Some(worker.into_gate().into_seat()),
             Worker::Lines(worker) => Some(worker.into_gate().into_seat()),
             Worker::Window(worker) => Some(worker.into_clerk().into_gate().into_seat()),

@@ -1,22 +1,22 @@
 -- The line to a source.
-use Rattle.std.specs.Prelude.{◌≡◌, ◌↔◌, ℕ, zero, suc, ℤ, Bool, true, false, IsTrue, Option, Some, None, List}
-use Rattle.pg_gateway.specs.Posting.{Posted}
+use Rattle.std.specs.Prelude.{◌≡◌, ◌↔◌, ℕ, zero, suc, ℤ, Bool, true, false, IsTrue, Option, Some, None}
 use Rattle.pg_ingest.specs.declared.run.End.{End}
 use Rattle.pg_ingest.specs.declared.run.End.TheVariants.{Closed, Quiet, Stalled, Fault}
 use Rattle.pg_ingest.specs.Linking.{Linking, unfed}
 use Rattle.pg_ingest.specs.Runs.{Wires}
 use Rattle.pg_ingest.specs.Served.{IsCall}
-use Rattle.pg_limits.specs.declared.guard.ClockGuard.{ClockGuard}
+use Rattle.pg_service.specs.declared.watched.Guards.{Guards}
+use Rattle.pg_service.specs.declared.watched.Guarding.{Guarding}
 use Rattle.pg_service.specs.declared.source.Turn.{Turn}
 use Rattle.pg_service.specs.declared.source.Turn.TheVariants.{Waits, More, Ended}
 use Rattle.pg_service.specs.declared.watched.Seen.{Seen}
 use Rattle.pg_service.specs.Plans.{Plan, announced, ended, measured}
 
--- its link, when it is called, and the guard of its measurements
+-- its link, when it is called, and the guards of its measurements
 pub record Line : Type 0 where
   pub link : Linking
   pub plan : Plan
-  pub guard : Option ClockGuard
+  pub guards : Guards
 
 -- Its link starts anew; its counters stay.
 abbrev pub unlinked : Line → Line
@@ -26,10 +26,9 @@ unlinked l = record l { link = unfed l.link.source l.link.stats }
 abbrev pub with_plan : Plan → Line → Line
 with_plan plan l = record l { plan = plan }
 
--- A gate tells all that a source's turn posts where its measurements are not guarded.
-abbrev pub unguarded : Option ClockGuard → Option (List Posted) → Option (List Posted)
-unguarded None posts = posts
-unguarded (Some g) posts = None
+-- its guards, by these clocks: this machine's, and the reference
+abbrev pub guarding : Line → ℕ → ℕ → Guarding
+guarding l clock reference = record { guards = l.guards; clock = clock; reference = reference }
 
 -- the plan after what went through the gate: the DATA_RATE of the last announcement, if there was one, and so many measurements
 abbrev pub announcing : Option ℤ → ℕ → Plan → Plan
@@ -57,7 +56,7 @@ turn_after Quiet false = Waits
 turn_after Stalled used_up = Waits
 turn_after (Fault n) used_up = Ended (Fault n)
 
--- A turn of a source is one call of its link's loop, which posts what its bytes tell and nothing else; then its plan hears what
+-- A turn of a source is one call of its link's loop, which posts what its bytes tell, as far as its gate takes it, and nothing else; then its plan hears what
 -- went through the gate, and the line settles as the call ended.
 pub record Turned (now reads : ℕ) (turn : Turn) (seen : Seen) (l l' : Line) (before after : Wires) : Type 0 where
   pub end : End

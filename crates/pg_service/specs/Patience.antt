@@ -2,19 +2,21 @@
 use Rattle.std.specs.Prelude.{ℕ, ◌-◌, min, Bool, true, false, nat_le, ◌||◌, if◌then◌else◌, Option, Some, None, option_map, option_and_then}
 use Rattle.std.specs.Option.{option_map_or}
 use Rattle.pg_service.specs.declared.patience.Overdue.{Overdue}
-use Rattle.pg_service.specs.declared.patience.Overdue.TheVariants.{Stalled, Idle}
+use Rattle.pg_service.specs.declared.patience.Overdue.TheVariants.{Stalled, Unacknowledged, Idle}
 use Rattle.pg_service.specs.Plans.{Awaited, is_over, least, left_of, seconds}
 
--- since when it is connected, its limits, since when bytes wait of which its socket takes none, and when a byte went either way last
+-- since when it is connected, its limits, since when bytes wait of which its socket takes none, since when none of those that were sent
+-- is acknowledged, and when a byte went either way last
 pub record Waited : Type 0 where
   pub since : ℕ
   pub stall : Option ℕ
   pub idle : Option ℕ
   pub blocked : Option ℕ
+  pub unacknowledged : Option ℕ
   pub active : ℕ
 
 abbrev pub connected : Option ℕ → Option ℕ → ℕ → Waited
-connected stall idle now = record { since = now; stall = stall; idle = idle; blocked = None; active = now }
+connected stall idle now = record { since = now; stall = stall; idle = idle; blocked = None; unacknowledged = None; active = now }
 
 -- It is connected for 5 seconds at least, so that another connection may take its place.
 abbrev pub is_settled : ℕ → Waited → Bool
@@ -33,9 +35,16 @@ served now came took is_blocked w = record w {
   blocked = if is_blocked then Some (blocked_since took now w.blocked) else None;
 }
 
--- what it is waited for: a byte that its socket takes, and a byte either way
+-- Since this time none of the bytes that were sent is acknowledged; None where all are.
+abbrev pub acknowledging : Option ℕ → Waited → Waited
+acknowledging since w = record w { unacknowledged = since }
+
+-- what it is waited for: a byte that its socket takes, the acknowledgement of a byte, and a byte either way
 abbrev pub stalls : Waited → Option Awaited
 stalls w = option_and_then (λ since. option_map (λ limit. record { since = since; limit = limit }) w.stall) w.blocked
+
+abbrev pub acknowledges : Waited → Option Awaited
+acknowledges w = option_and_then (λ since. option_map (λ limit. record { since = since; limit = limit }) w.stall) w.unacknowledged
 
 abbrev pub idles : Waited → Option Awaited
 idles w = option_map (λ limit. record { since = w.active; limit = limit }) w.idle
@@ -44,8 +53,10 @@ idles w = option_map (λ limit. record { since = w.active; limit = limit }) w.id
 abbrev pub overdue_by : ℕ → Waited → Option Overdue
 overdue_by now w =
     if option_map_or (is_over now) (stalls w) false then Some Stalled
+    else if option_map_or (is_over now) (acknowledges w) false then Some Unacknowledged
     else if option_map_or (is_over now) (idles w) false then Some Idle else None
 
 -- how long until it is hung up
 abbrev pub left_by : ℕ → Waited → Option ℕ
-left_by now w = least (option_map (left_of now) (stalls w)) (option_map (left_of now) (idles w))
+left_by now w =
+    least (option_map (left_of now) (stalls w)) (least (option_map (left_of now) (acknowledges w)) (option_map (left_of now) (idles w)))

@@ -1,18 +1,66 @@
 -- Who posts what.
-use Rattle.std.specs.Prelude.{◌≡◌, ℕ, List, [], ◌∷◌, All, Option, Some, None}
+use Rattle.std.specs.Prelude.{◌≡◌, ◌⊎◌, ◌&&◌, ℕ, Bool, true, false, not, List, [], ◌∷◌, All, Option, Some, None}
+use Rattle.std.specs.Option.{option_map_or}
 use Rattle.pg_session.specs.Events.{Happening}
-use Rattle.pg_gateway.specs.Occurrences.{asks, Answer}
-use Rattle.pg_gateway.specs.Posting.{Posted, Notes}
+use Rattle.pg_data.specs.Measurements.{Measurement, resolution}
+use Rattle.pg_limits.specs.Clocks.{is_ahead, is_near}
+use Rattle.pg_gateway.specs.Occurrences.{Occurrence, Answer, add_pmu, drop_pmu, add_sub, drop_sub, grant, asks, announce, measure, tick, stats, pmu_stats, audit, standing, who_waits}
+use Rattle.pg_gateway.specs.Posting.{IsMeasured, Posted, Notes}
 use Rattle.pg_service.specs.declared.watched.Guarding.{Guarding}
 
--- What goes through a gate that guards measurements is not told, for those that are refused are not posted; else all is.
-abbrev pub through : Option Guarding → Option (List Posted) → Option (List Posted)
-through None posts = posts
-through (Some g) posts = None
+-- a data frame, where an event is one
+abbrev pub frame_in : Occurrence → Option Measurement
+frame_in (measure m) = Some m
+frame_in (add_pmu key) = None
+frame_in (drop_pmu key) = None
+frame_in (add_sub u size bytes) = None
+frame_in (drop_sub u) = None
+frame_in (grant u key) = None
+frame_in (asks u h) = None
+frame_in (announce config) = None
+frame_in (tick soc) = None
+frame_in (stats u) = None
+frame_in (pmu_stats key) = None
+frame_in (audit u index) = None
+frame_in (standing u place) = None
+frame_in (who_waits subs) = None
 
--- It was asked of this subscriber.
+-- A data frame's time, SOC + numerator / resolution, is near enough to this machine's clock, and not too far ahead of the reference,
+-- as far as there are such limits.
+abbrev pub is_timely : Guarding → Measurement → Bool
+is_timely g m =
+    option_map_or (λ near. is_near near.limit g.clock m.soc m.frac (resolution m.config)) g.guards.near true
+    && not (option_map_or (λ ahead. is_ahead ahead.limit g.reference m.soc m.frac (resolution m.config)) g.guards.ahead false)
+
+-- A guarded gate takes all events but the data frames that are not timely.
+abbrev pub takes_by : Guarding → Occurrence → Bool
+takes_by g o = option_map_or (is_timely g) (frame_in o) true
+
+-- the same of a guard before a gate that takes these
+abbrev pub passes : Guarding → (Occurrence → Bool) → Occurrence → Bool
+passes g takes o = takes_by g o && takes o
+
+-- what is not taken is a data frame
+pub frames_passed : (g : Guarding) (takes : Occurrence → Bool) → ((o : Occurrence) → takes o ≡ false → IsMeasured o) → (o : Occurrence)
+    → passes g takes o ≡ false → IsMeasured o
+frames_passed g takes frames (measure m) e = tt
+frames_passed g takes frames (add_pmu key) e = frames (add_pmu key) e
+frames_passed g takes frames (drop_pmu key) e = frames (drop_pmu key) e
+frames_passed g takes frames (add_sub u size bytes) e = frames (add_sub u size bytes) e
+frames_passed g takes frames (drop_sub u) e = frames (drop_sub u) e
+frames_passed g takes frames (grant u key) e = frames (grant u key) e
+frames_passed g takes frames (asks u h) e = frames (asks u h) e
+frames_passed g takes frames (announce config) e = frames (announce config) e
+frames_passed g takes frames (tick soc) e = frames (tick soc) e
+frames_passed g takes frames (stats u) e = frames (stats u) e
+frames_passed g takes frames (pmu_stats key) e = frames (pmu_stats key) e
+frames_passed g takes frames (audit u index) e = frames (audit u index) e
+frames_passed g takes frames (standing u place) e = frames (standing u place) e
+frames_passed g takes frames (who_waits subs) e = frames (who_waits subs) e
+
+-- It was asked of this subscriber, or how a stream of it stands.
 abbrev pub IsOf : ℕ → Posted → Type 0
-IsOf sub p = (h : Happening) × (p.0 ≡ asks sub h)
+IsOf sub p = ((h : Happening) × (p.0 ≡ asks sub h)) ⊎ ((place : ℕ) × (p.0 ≡ standing sub place))
 
 -- What was posted meanwhile is of this subscriber alone, where the gate tells it.
 pub record OwnOnly (sub : ℕ) (before after : Option (List Posted)) : Type 0 where

@@ -9,6 +9,7 @@ use Rattle.pg_gateway.specs.declared.event.Reply.TheVariants as reply
 use Rattle.pg_gateway.specs.Occurrences.{asks, told}
 use Rattle.pg_gateway.specs.Posting.{Posted, Notes}
 use Rattle.pg_limits.specs.Hosts.{Net}
+use Rattle.pg_limits.specs.declared.layouts.OnChange.{OnChange}
 use Rattle.pg_service.specs.declared.door.Knock.{Knock}
 use Rattle.pg_service.specs.declared.door.Knock.TheVariants.{Welcome, Refused}
 use Rattle.pg_service.specs.Patience.{Waited, connected, is_settled}
@@ -24,13 +25,15 @@ abbrev pub HasHeard : Hearing → Type 0
 HasHeard h = (stream : List ℕ) × (given : List Item) × ShowsHearing h stream given
 
 -- the place where a subscriber connects: which one, the hosts that may, whether a new connection takes the place of one that
--- stands, how long who has connected may stall or be idle, and who has
+-- stands, how long a subscriber that has connected may stall or be idle, what is done where the blocks of its streams change, and the
+-- connection that stands
 pub record Doorway : Type 0 where
   pub sub : ℕ
   pub allow : Option (List Net)
   pub takeover : Bool
   pub stall : Option ℕ
   pub idle : Option ℕ
+  pub change : OnChange
   pub guest : Option Visit
 
 -- Where somebody is hung up it is asked once that the subscriber hangs up, else nothing is asked.

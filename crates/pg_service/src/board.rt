@@ -1,7 +1,9 @@
 //! What workers tell of their sources and ports, to whoever asks.
 
 use crate::clocks::Clocks;
+use crate::connections::Connections;
 use crate::journal::{Journal, Notice};
+use crate::layout_changes::LayoutChanges;
 use crate::mail::{Mailbox, PortOrder, SourceOrder};
 use pg_audit::PmuStats;
 use pg_status::Histogram;
@@ -101,6 +103,12 @@ pub struct Board {
     reports: Mutex<Reports>,
     // How the clocks of the sources of each worker stand, by the workers' numbers.
     clocks: Mutex<Vec<Clocks>>,
+    // The newest times of the data of connected sources, each with the number of its worker.
+    times: Mutex<Vec<(usize, u64)>>,
+    // What the system's table of TCP connections lists.
+    connections: Connections,
+    // The edits and announcements that may change the layouts of streams.
+    layout_changes: LayoutChanges,
 }
 
 impl Board {
@@ -110,7 +118,16 @@ impl Board {
             asking: Mutex::new(0),
             reports: Mutex::new(Reports::new(alloc, 0)),
             clocks: Mutex::new(Vec::new(alloc)),
+            times: Mutex::new(Vec::new(alloc)),
+            connections: Connections::new(alloc),
+            layout_changes: LayoutChanges::new(),
         }
+    }
+
+    /// The counts of edits and announcements that may change the layouts of streams.
+    #[inline(always)]
+    pub fn layout_changes(&self) -> &LayoutChanges {
+        &self.layout_changes
     }
 
     /// The clocks of the sources of the worker of this number stand so. Where there is no memory for it, that is noted.
@@ -135,6 +152,36 @@ impl Board {
             all = all.with(*own);
         }
         all
+    }
+
+    /// What the system's table of TCP connections lists.
+    pub fn connections(&self) -> &Connections {
+        &self.connections
+    }
+
+    /// The newest data of the sources of the worker of this number are of these times, in milliseconds since 1970-01-01 00:00 UTC. Those of the
+    /// sources of all workers are put into `all`. Where there is no memory for one, that is noted.
+    pub(crate) fn exchange_times<R: Wait>(
+        &self,
+        rt: &R,
+        journal: &Journal,
+        worker: usize,
+        own: &[u64],
+        all: &mut Vec<u64>,
+    ) {
+        let mut held = self.times.lock(rt);
+        held.retain(|it| it.0 != worker);
+        let mut is_kept = true;
+        for time in own {
+            is_kept &= held.push((worker, *time)).is_ok();
+        }
+        all.clear();
+        for it in held.iter() {
+            is_kept &= all.push(it.1).is_ok();
+        }
+        if !is_kept {
+            journal.note(Notice::MailFault);
+        }
     }
 
     /// Asks all these workers, and waits for their answers, a second at most. Where one does not answer in time, that is noted, and

@@ -8,16 +8,16 @@ ghost use Rattle.pg_limits.specs.Hosts.{is_allowed};
 ghost use Rattle.pg_session.specs.Events.{connect};
 ghost use Rattle.pg_gateway.specs.Occurrences.{asks, told};
 ghost use Rattle.pg_gateway.specs.Posting.{Notes};
-ghost use Rattle.pg_service.specs.Patience.{left_by, overdue_by};
-ghost use Rattle.pg_service.specs.Posts.{OwnOnly, through};
-ghost use Rattle.pg_service.specs.Visits.{Admits, HungUp, makes_room, refusal_of, with_room};
+ghost use Rattle.pg_service.specs.Patience.{acknowledging, left_by, overdue_by};
+ghost use Rattle.pg_service.specs.Posts.{OwnOnly};
+ghost use Rattle.pg_service.specs.Visits.{Admits, HungUp, Visit, makes_room, refusal_of, with_room};
 
 use crate::counted::Counted;
 use crate::guest::{Guest, Stay};
 use crate::patience::{Overdue, Patience};
 use crate::watched::Watched;
 use pg_gateway::{Event, Gate, Reply};
-use pg_limits::{Allow, Budget};
+use pg_limits::{Allow, Budget, OnChange};
 use pg_wire::{Refusal, SubId};
 use std::alloc::Global;
 use std::io::{Read, Write};
@@ -36,6 +36,8 @@ pub struct DoorRules {
     pub stall: Option<Duration>,
     /// How long no byte may go either way; `None` for ever.
     pub idle: Option<Duration>,
+    /// What is done where the effective blocks of a stream change while it is on.
+    pub change: OnChange,
 }
 
 /// What becomes of a connection that was accepted.
@@ -74,7 +76,7 @@ impl Model for Door {
 
     ghost Value = { Doorway };
 
-    ghost view = { λ d. record { sub = d.sub; allow = option_map (λ v. v.items) d.rules.allow.networks; takeover = d.rules.takeover; stall = option_map as_nanos d.rules.stall; idle = option_map as_nanos d.rules.idle; guest = d.guest } };
+    ghost view = { λ d. record { sub = d.sub; allow = option_map (λ v. v.items) d.rules.allow.networks; takeover = d.rules.takeover; stall = option_map as_nanos d.rules.stall; idle = option_map as_nanos d.rules.idle; change = d.rules.change; guest = d.guest } };
 
     ghost invariant = { λ d. IfSome d.guest (λ v. v.session.sub ≡ d.sub) };
 }
@@ -87,6 +89,7 @@ impl Door {
         ensures takeover { result.takeover ≡ rules.takeover }
         ensures stall { result.stall ≡ option_map as_nanos rules.stall }
         ensures idle { result.idle ≡ option_map as_nanos rules.idle }
+        ensures change { result.change ≡ rules.change }
         ensures nobody { result.guest ≡ None }
     {
         Door {
@@ -225,6 +228,30 @@ impl Door {
             .is_some_and(|guest| guest.patience().is_blocked())
     }
 
+    /// What is done where the effective blocks of a stream change while it is on.
+    pub fn change(&self) -> OnChange
+        ensures { result ≡ self.now.change }
+    {
+        self.rules.change
+    }
+
+    /// Since this time none of the bytes that were sent to who has connected is acknowledged; `None` where all are.
+    pub fn acknowledged(&mut self, since: Option<Instant>)
+        ensures { self.new ≡ record self.old { guest = option_map (λ (v : Visit). record v { patience = acknowledging (option_map instant_nanos since) v.patience }) self.old.guest } }
+    {
+        if let Some(guest) = &mut self.guest {
+            guest.acknowledged(since);
+        }
+    }
+
+    /// How many bytes are left to write of what was drained for the connection that stands.
+    pub fn pending(&self) -> usize {
+        match &self.guest {
+            Some(guest) => guest.pending(),
+            None => 0,
+        }
+    }
+
     /// How long until who has connected is hung up, if nothing goes either way; `None` for ever.
     pub fn left(&self, now: Instant) -> Option<Duration>
         ensures { option_map as_nanos result ≡ option_and_then (λ v. left_by (instant_nanos now) v.patience) self.now.guest }
@@ -244,7 +271,7 @@ impl Door {
         ensures sub { self.new.sub ≡ self.old.sub }
         ensures same { self.new ≡ record self.old { guest = self.new.guest } }
         // It posts of its own subscriber alone.
-        ensures own { OwnOnly self.old.sub (through gate.old.guarding (G.posts gate.old.gate)) (through gate.new.guarding (G.posts gate.new.gate)) }
+        ensures own { OwnOnly self.old.sub (G.posts gate.old.gate) (G.posts gate.new.gate) }
     {
         let Some(guest) = &mut self.guest else {
             return Stay::Waits;
@@ -264,7 +291,7 @@ impl Door {
         ensures sub { self.new.sub ≡ self.old.sub }
         ensures same { self.new ≡ record self.old { guest = self.new.guest } }
         // It posts of its own subscriber alone.
-        ensures own { OwnOnly self.old.sub (through gate.old.guarding (G.posts gate.old.gate)) (through gate.new.guarding (G.posts gate.new.gate)) }
+        ensures own { OwnOnly self.old.sub (G.posts gate.old.gate) (G.posts gate.new.gate) }
     {
         let Some(guest) = &mut self.guest else {
             return Stay::Waits;

@@ -1,9 +1,11 @@
 //! A subscriber that has connected.
 
-ghost use Rattle.std.specs.Prelude.{◌≡◌, IfOk, IfErr};
+ghost use Rattle.std.specs.Prelude.{◌≡◌, IfOk, IfErr, length, option_map};
+ghost use Rattle.std.specs.Time.{instant_nanos};
 ghost use Rattle.pg_session.specs.Commands.{unheard};
 ghost use Rattle.pg_session.specs.Events.{hangup};
-ghost use Rattle.pg_service.specs.Posts.{Asks, OwnOnly, through};
+ghost use Rattle.pg_service.specs.Patience.{acknowledging};
+ghost use Rattle.pg_service.specs.Posts.{Asks, OwnOnly};
 ghost use Rattle.pg_service.specs.Visits.{HasHeard};
 
 use crate::counted::{Counted, Never};
@@ -24,7 +26,7 @@ use std::time::Instant;
 const TURNS: u64 = 10_000;
 
 /// The bytes of a drain that was filled, behind which more may wait.
-const FULL: usize = 16_384;
+pub(crate) const FULL: usize = 16_384;
 
 /// The drains of one turn, besides those at reads. What waits behind them is handed out in the next turn.
 const DRAINS: u32 = 64;
@@ -96,6 +98,20 @@ impl Guest {
         &self.patience
     }
 
+    /// Since this time none of the bytes that were sent to it is acknowledged; `None` where all are.
+    pub fn acknowledged(&mut self, since: Option<Instant>)
+        ensures { self.new ≡ record self.old { patience = acknowledging (option_map instant_nanos since) self.old.patience } }
+    {
+        self.patience.acknowledged(since);
+    }
+
+    /// How many bytes are left to write of what was drained.
+    pub fn pending(&self) -> usize
+        ensures { result ≡ length self.now.session.left }
+    {
+        self.session.left().len()
+    }
+
     /// Posts that it hangs up.
     pub fn hang_up<G: Gate>(&self, gate: &mut G)
         // It posts of its own subscriber alone.
@@ -116,7 +132,7 @@ impl Guest {
     ) -> Stay
         ensures sub { self.new.session.sub ≡ self.old.session.sub }
         // It posts of its own subscriber alone.
-        ensures own { OwnOnly self.old.session.sub (through gate.old.guarding (G.posts gate.old.gate)) (through gate.new.guarding (G.posts gate.new.gate)) }
+        ensures own { OwnOnly self.old.session.sub (G.posts gate.old.gate) (G.posts gate.new.gate) }
     {
         let before = (reader.reader.moved, writer.moved);
         let end = read_and_drain(&mut self.session, reader, writer, gate);
@@ -135,7 +151,7 @@ impl Guest {
     ) -> Stay
         ensures sub { self.new.session.sub ≡ self.old.session.sub }
         // It posts of its own subscriber alone.
-        ensures own { OwnOnly self.old.session.sub (through gate.old.guarding (G.posts gate.old.gate)) (through gate.new.guarding (G.posts gate.new.gate)) }
+        ensures own { OwnOnly self.old.session.sub (G.posts gate.old.gate) (G.posts gate.new.gate) }
     {
         let before = writer.moved;
         let end = drain_once_and_on(&mut self.session, writer, gate);
@@ -173,7 +189,7 @@ fn serve_once<R: Read, W: Write, G: Gate>(
     requires heard { HasHeard session.old }
     ensures heard { HasHeard session.new }
     ensures sub { session.new.sub ≡ session.old.sub }
-    ensures own { OwnOnly session.old.sub (through gate.old.guarding (G.posts gate.old.gate)) (through gate.new.guarding (G.posts gate.new.gate)) }
+    ensures own { OwnOnly session.old.sub (G.posts gate.old.gate) (G.posts gate.new.gate) }
 {
     serve_session(session, reader, writer, gate, turns)
 }
@@ -188,7 +204,7 @@ fn read_and_drain<R: Read, W: Write, G: Gate>(
     requires heard { HasHeard session.old }
     ensures heard { HasHeard session.new }
     ensures sub { session.new.sub ≡ session.old.sub }
-    ensures own { OwnOnly session.old.sub (through gate.old.guarding (G.posts gate.old.gate)) (through gate.new.guarding (G.posts gate.new.gate)) }
+    ensures own { OwnOnly session.old.sub (G.posts gate.old.gate) (G.posts gate.new.gate) }
 {
     let end = serve_once(session, reader, writer, gate, TURNS);
     drain_on(session, writer, gate, end)
@@ -203,7 +219,7 @@ fn drain_once_and_on<W: Write, G: Gate>(
     requires heard { HasHeard session.old }
     ensures heard { HasHeard session.new }
     ensures sub { session.new.sub ≡ session.old.sub }
-    ensures own { OwnOnly session.old.sub (through gate.old.guarding (G.posts gate.old.gate)) (through gate.new.guarding (G.posts gate.new.gate)) }
+    ensures own { OwnOnly session.old.sub (G.posts gate.old.gate) (G.posts gate.new.gate) }
 {
     let end = serve_once(session, &mut Never, writer, gate, 1);
     drain_on(session, writer, gate, end)
@@ -219,7 +235,7 @@ fn drain_on<W: Write, G: Gate>(
     requires heard { HasHeard session.old }
     ensures heard { HasHeard session.new }
     ensures sub { session.new.sub ≡ session.old.sub }
-    ensures own { OwnOnly session.old.sub (through gate.old.guarding (G.posts gate.old.gate)) (through gate.new.guarding (G.posts gate.new.gate)) }
+    ensures own { OwnOnly session.old.sub (G.posts gate.old.gate) (G.posts gate.new.gate) }
 {
     let mut end = last;
     'drains: for _ in 0..DRAINS {

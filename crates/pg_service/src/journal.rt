@@ -101,13 +101,21 @@ pub enum Notice {
     NotFound = 41,
     /// An edit was done, by a line or a reload.
     Edited = 42,
+    /// A subscriber was disconnected, since a data frame of a stream could be read by an old CFG-2.
+    Misread = 43,
+    /// The blocks of a stream changed, and its CFG-2 was put among the replies unasked.
+    ConfigSent = 44,
+    /// A subscriber was hung up, since its host acknowledged nothing of what was sent.
+    Unacknowledged = 45,
+    /// The system's table of TCP connections could not be read.
+    NoTable = 46,
 }
 
 /// The PMUs of a configuration at most.
 pub(crate) const MOST_PMUS: usize = 16;
 
 /// How many kinds of notices there are.
-const KINDS: usize = 43;
+const KINDS: usize = 47;
 
 impl Notice {
     /// The kinds that are counted where nobody is named, so that the log tells how often they were met.
@@ -149,7 +157,10 @@ impl Notice {
             | Notice::Unanswered
             | Notice::NotDone
             | Notice::NotBound
-            | Notice::NotReloaded => Level::Warn,
+            | Notice::NotReloaded
+            | Notice::Misread
+            | Notice::Unacknowledged
+            | Notice::NoTable => Level::Warn,
             Notice::Called
             | Notice::Made
             | Notice::Connected
@@ -165,6 +176,7 @@ impl Notice {
             | Notice::Shown
             | Notice::Opened
             | Notice::Edited
+            | Notice::ConfigSent
             | Notice::Reloaded => Level::Info,
         }
     }
@@ -198,6 +210,8 @@ pub enum Detail {
     Config(i16, [u16; MOST_PMUS]),
     /// Of this stream.
     Stream(u16),
+    /// Of this stream, which is named first.
+    OfStream(u16),
     /// What was asked for, and done.
     Done(Asked),
     /// What was asked for, and why it was refused.

@@ -53,12 +53,23 @@ pub enum PortOrder {
         /// Its port.
         listener: TcpListener,
     },
+    /// The subscriber's port can't be bound now: it is tried again each 30 seconds.
+    Bind {
+        /// The subscriber.
+        sub: SubId,
+        /// Who may connect, and how long who has is waited for.
+        rules: DoorRules,
+        /// Where.
+        address: SocketAddr,
+    },
+    /// The ports that could not be bound are tried again at once.
+    BindAgain,
     /// The subscriber's port is closed, and who has connected hung up.
     Close(SubId),
     /// Who has connected is hung up.
     HangUp(SubId),
     /// A stream that was on is defined anew with the same members, and goes on: once what waits for its subscriber is handed out, it is
-    /// sent CFG-2 and the stream is started. Nothing is done where the subscriber is not connected.
+    /// sent CFG-2 and the stream is started. Nothing is done where the subscriber did not start it in the connection that stands.
     Resume(SubId, StreamId),
     /// Its worker tells at the board how its ports stand, in answer to this asking.
     Report(u64),

@@ -3,8 +3,8 @@
 ghost use Rattle.std.specs.Prelude.{◌≡◌, option_map, is_some};
 ghost use Rattle.std.specs.Duration.{as_nanos};
 ghost use Rattle.std.specs.Time.{instant_nanos};
-ghost use Rattle.pg_service.specs.Patience.{connected, idles, is_settled, left_by, overdue_by, served, stalls};
-ghost use Rattle.pg_service.specs.Plans.{least};
+ghost use Rattle.pg_service.specs.Patience.{acknowledges, acknowledging, connected, idles, is_settled, left_by, overdue_by, served, stalls};
+ghost use Rattle.pg_service.specs.Plans.{least, left_of};
 
 use pg_limits::Deadline;
 use std::marker::Model;
@@ -19,18 +19,21 @@ const SETTLED_SECONDS: u64 = 5;
 pub enum Overdue {
     /// Bytes waited, and its socket took none of them for as long as it may.
     Stalled,
+    /// Bytes were sent, and none of them was acknowledged for as long as it may.
+    Unacknowledged,
     /// It neither sent nor was sent a byte for as long as it may.
     Idle,
 }
 
-/// How long a subscriber that has connected is waited for (own rule): where bytes wait, for its socket to take one; and for a
-/// byte either way.
+/// How long a subscriber that has connected is waited for (own rule): where bytes wait, for its socket to take one; where bytes were sent,
+/// for the acknowledgement of one; and for a byte either way.
 #[derive(Drop)]
 pub struct Patience {
     since: Instant,
     stall: Option<Duration>,
     idle: Option<Duration>,
     blocked: Option<Instant>,
+    unacknowledged: Option<Instant>,
     active: Instant,
 }
 
@@ -42,7 +45,7 @@ impl Model for Patience {
 
     ghost Value = { Waited };
 
-    ghost view = { λ p. record { since = instant_nanos p.since; stall = option_map as_nanos p.stall; idle = option_map as_nanos p.idle; blocked = option_map instant_nanos p.blocked; active = instant_nanos p.active } };
+    ghost view = { λ p. record { since = instant_nanos p.since; stall = option_map as_nanos p.stall; idle = option_map as_nanos p.idle; blocked = option_map instant_nanos p.blocked; unacknowledged = option_map instant_nanos p.unacknowledged; active = instant_nanos p.active } };
 }
 
 impl Patience {
@@ -55,6 +58,7 @@ impl Patience {
             stall,
             idle,
             blocked: None,
+            unacknowledged: None,
             active: now,
         }
     }
@@ -91,11 +95,28 @@ impl Patience {
         };
     }
 
+    /// Since this time none of the bytes that were sent to it is acknowledged; `None` where all are.
+    pub fn acknowledged(&mut self, since: Option<Instant>)
+        ensures { self.new ≡ acknowledging (option_map instant_nanos since) self.old }
+    {
+        self.unacknowledged = since;
+    }
+
     /// The byte that its socket is to take, where some wait.
     fn stall(&self) -> Option<Deadline>
         ensures { option_map (λ d. record { since = instant_nanos d.last; limit = as_nanos d.limit }) result ≡ stalls self.now }
     {
         match (self.blocked, self.stall) {
+            (Some(last), Some(limit)) => Some(Deadline { last, limit }),
+            _ => None,
+        }
+    }
+
+    /// The byte that is to be acknowledged, where some were sent.
+    fn acknowledgement(&self) -> Option<Deadline>
+        ensures { option_map (λ d. record { since = instant_nanos d.last; limit = as_nanos d.limit }) result ≡ acknowledges self.now }
+    {
+        match (self.unacknowledged, self.stall) {
             (Some(last), Some(limit)) => Some(Deadline { last, limit }),
             _ => None,
         }
@@ -118,12 +139,11 @@ impl Patience {
     pub fn left(&self, now: Instant) -> Option<Duration>
         ensures { option_map as_nanos result ≡ left_by (instant_nanos now) self.now }
     {
-        match (self.stall(), self.idle()) {
-            (Some(stall), Some(idle)) => Some(stall.left(now).min(idle.left(now))),
-            (Some(stall), None) => Some(stall.left(now)),
-            (None, Some(idle)) => Some(idle.left(now)),
-            (None, None) => None,
-        }
+        let sent = least_left(
+            left_of(self.acknowledgement(), now),
+            left_of(self.idle(), now),
+        );
+        least_left(left_of(self.stall(), now), sent)
     }
 
     /// Why it is to be hung up by now, if it is.
@@ -134,9 +154,36 @@ impl Patience {
             Some(stall) if stall.is_over(now) => return Some(Overdue::Stalled),
             _ => {}
         }
+        match self.acknowledgement() {
+            Some(acknowledgement) if acknowledgement.is_over(now) => {
+                return Some(Overdue::Unacknowledged);
+            }
+            _ => {}
+        }
         match self.idle() {
             Some(idle) if idle.is_over(now) => Some(Overdue::Idle),
             _ => None,
         }
+    }
+}
+
+/// How long until a deadline, if there is one.
+fn left_of(deadline: Option<Deadline>, now: Instant) -> Option<Duration>
+    ensures { option_map as_nanos result ≡ option_map (λ d. left_of (instant_nanos now) (record { since = instant_nanos d.last; limit = as_nanos d.limit })) deadline }
+{
+    match deadline {
+        Some(deadline) => Some(deadline.left(now)),
+        None => None,
+    }
+}
+
+/// The shorter of two times, as far as there are any.
+fn least_left(one: Option<Duration>, other: Option<Duration>) -> Option<Duration>
+    ensures { option_map as_nanos result ≡ least (option_map as_nanos one) (option_map as_nanos other) }
+{
+    match (one, other) {
+        (Some(one), Some(other)) => Some(one.min(other)),
+        (Some(left), None) | (None, Some(left)) => Some(left),
+        (None, None) => None,
     }
 }

@@ -2,26 +2,32 @@
 
 ghost use Rattle.std.specs.Prelude.{◌≡◌, None, option_map, true};
 ghost use Rattle.std.specs.Duration.{as_nanos};
-ghost use Rattle.pg_service.specs.Posts.{OwnOnly, through};
+ghost use Rattle.pg_service.specs.Posts.{OwnOnly};
 
 use crate::agenda::Agenda;
 use crate::board::{Board, PortReport};
-use crate::counted::Counted;
+use crate::commands::{Posted, post_config, post_resume};
+use crate::connections::Connections;
+use crate::counted::{Counted, Never};
 use crate::door::{Door, DoorRules, Knock};
-use crate::guest::{Gone, Stay};
+use crate::guest::{FULL, Gone, Stay};
+use crate::held_writer::HeldWriter;
 use crate::journal::{Detail, Entry, Journal, Notice, Whom};
+use crate::known_layouts::{KnownLayouts, ServedOnce};
+use crate::layout_changes::LayoutChanges;
 use crate::mail::{Mailbox, PortOrder, SourceOrder};
 use crate::patience::Overdue;
-use crate::resume::post_resume;
 use crate::sources::READS;
 use crate::stamps::{Aged, Stamps};
+use crate::standings::{STREAMS, Standings, ask_standings};
 use crate::switches::Switches;
 use crate::waiting::{Waiting, sooner};
-use crate::watched::Watched;
+use crate::watched::{Seen, Watched};
 use mio::net::{TcpListener, TcpStream};
 use mio::{Interest, Poll, Token};
 use pg_gateway::{Event, Gate, Reply};
-use pg_limits::Budget;
+use pg_limits::{Budget, Unacknowledged};
+use pg_session::StreamStanding;
 use pg_shared::{Named, SharedGate, Work};
 use pg_status::Histogram;
 use pg_wire::{Refusal, StreamId, SubId};
@@ -37,8 +43,12 @@ use std::{io, mem};
 /// The connections that one turn accepts at most. The others wait for the next turn.
 const ACCEPTED: u32 = 16;
 
-/// The streams of a subscriber at most.
-const STREAMS: usize = 8;
+/// How often a subscriber is served in one turn at most, where what was drained is held back. What is held behind that is written in the next
+/// turn.
+const PASSES: u32 = 64;
+
+/// How soon it is tried again to bind a port (own rule), in milliseconds.
+const BIND_MS: u64 = 30_000;
 
 /// When it is tried again to accept, where the system could not (own rule): it does not name a listener twice for one who waits.
 const RETRY_MS: u64 = 1_000;
@@ -61,8 +71,55 @@ pub struct Port {
     gaps: u64,
     // What goes out to who has connected.
     stamps: Stamps,
-    // The streams that go on once what waits is handed out.
-    resumes: [Option<StreamId>; STREAMS],
+    // What who has connected knows of the layouts of its streams, and how many changes were done before its streams were asked about; None
+    // where they are to be asked about again.
+    known: KnownLayouts,
+    settled: Option<usize>,
+    // The bytes that its socket took in the connection that stands, by now and when the table of connections was looked at last; whether it
+    // took some since; and since when none of them is acknowledged.
+    written: u64,
+    looked: u64,
+    has_written: bool,
+    unacknowledged: Unacknowledged,
+}
+
+/// A port that could not be bound, and when it is tried again.
+#[derive(Drop)]
+struct Unbound {
+    sub: SubId,
+    rules: DoorRules,
+    address: SocketAddr,
+    retry: Instant,
+}
+
+/// How who has connected is served.
+#[derive(Clone, Copy, Debug, PartialEq, Eq)]
+enum Way {
+    /// Its socket is ready.
+    Serve,
+    /// Something waits for it.
+    HandOut,
+    /// What was held back is written, and what waits behind.
+    GoOn,
+}
+
+/// What is left to do for who has connected once it was served.
+#[derive(Clone, Copy, Debug, PartialEq, Eq)]
+struct Passed {
+    // Whether more is to be done in the next turn.
+    is_more: bool,
+    // Whether it is served again in this turn.
+    goes_on: bool,
+}
+
+impl Passed {
+    /// Nothing is left to do.
+    fn nothing() -> Passed {
+        Passed {
+            is_more: false,
+            goes_on: false,
+        }
+    }
 }
 
 impl Model for Port {
@@ -81,6 +138,7 @@ impl Port {
         ensures takeover { result.takeover ≡ rules.takeover }
         ensures stall { result.stall ≡ option_map as_nanos rules.stall }
         ensures idle { result.idle ≡ option_map as_nanos rules.idle }
+        ensures change { result.change ≡ rules.change }
         ensures nobody { result.guest ≡ None }
     {
         Port {
@@ -94,7 +152,12 @@ impl Port {
             since: None,
             gaps: 0,
             stamps: Stamps::new(),
-            resumes: no_streams(),
+            known: KnownLayouts::new(),
+            settled: None,
+            written: 0,
+            looked: 0,
+            has_written: false,
+            unacknowledged: Unacknowledged::new(),
         }
     }
 
@@ -137,10 +200,14 @@ pub struct PortWorker<'a, R: Wait + Net + Clock, N: Named> {
     journal: &'a Journal,
     board: &'a Board,
     ports: Vec<Option<Port>>,
+    // The ports that could not be bound.
+    unbound: Vec<Unbound>,
     // The subscribers that are asked about, and then those of them for whom something waits; room for each port.
     asked: Vec<SubId>,
     // How old the data frames were that its ports handed out.
     ages: Histogram,
+    // How often the table of connections was read when it was looked at last.
+    reads: u64,
     // The places of ports that are served, and when a subscriber is waited for no longer.
     agenda: Agenda,
 }
@@ -181,8 +248,10 @@ impl<'a, R: Wait + Net + Clock, N: Named> PortWorker<'a, R, N> {
             journal,
             board,
             ports: Vec::new(alloc),
+            unbound: Vec::new(alloc),
             asked: Vec::new(alloc),
             ages: Histogram::new(),
+            reads: 0,
             agenda: Agenda::new(alloc, now),
         }
     }
@@ -243,12 +312,75 @@ impl<'a, R: Wait + Net + Clock, N: Named> PortWorker<'a, R, N> {
                 rules,
                 listener,
             } => {
+                self.forget_unbound(sub);
                 self.open_told(Port::new(sub, rules, listener));
             }
-            PortOrder::Close(sub) => self.close(sub),
+            PortOrder::Bind {
+                sub,
+                rules,
+                address,
+            } => self.bind_later(sub, rules, address),
+            PortOrder::BindAgain => self.bind_all(true),
+            PortOrder::Close(sub) => {
+                self.forget_unbound(sub);
+                self.close(sub);
+            }
             PortOrder::HangUp(sub) => self.hang_up(sub),
             PortOrder::Resume(sub, stream) => self.resume(sub, stream),
             PortOrder::Report(asking) => self.report(asking),
+        }
+    }
+
+    /// The port of this subscriber is not to be bound any more.
+    fn forget_unbound(&mut self, sub: SubId) {
+        self.unbound.retain(|port| port.sub != sub);
+    }
+
+    /// Tries later to bind this port. Where there is no memory for it, that is noted.
+    fn bind_later(&mut self, sub: SubId, rules: DoorRules, address: SocketAddr) {
+        self.forget_unbound(sub);
+        let now = self.agenda.now;
+        let retry = now
+            .checked_add(Duration::from_millis(BIND_MS))
+            .unwrap_or(now);
+        let port = Unbound {
+            sub,
+            rules,
+            address,
+            retry,
+        };
+        if self.unbound.push(port).is_err() {
+            self.journal.note(Notice::MailFault);
+        }
+        self.agenda.expect(Some(retry));
+    }
+
+    /// Tries to bind the ports for which it is time, or all of them.
+    fn bind_all(&mut self, is_all: bool) {
+        let unbound = mem::replace(&mut self.unbound, Vec::new(self.alloc));
+        for port in unbound {
+            let is_due = is_all || port.retry <= self.agenda.now;
+            self.bind(port, is_due);
+        }
+    }
+
+    /// Tries to bind this port if it is time, and keeps it for later else.
+    fn bind(&mut self, port: Unbound, is_due: bool) {
+        if !is_due {
+            if self.unbound.push(port).is_err() {
+                self.journal.note(Notice::MailFault);
+            }
+            return;
+        }
+        let Unbound {
+            sub,
+            rules,
+            address,
+            ..
+        } = port;
+        match TcpListener::bind(self.rt, address) {
+            Ok(listener) => self.open_told(Port::new(sub, rules, listener)),
+            Err(_) => self.bind_later(sub, rules, address),
         }
     }
 
@@ -315,17 +447,19 @@ impl<'a, R: Wait + Net + Clock, N: Named> PortWorker<'a, R, N> {
                 continue;
             };
             if port.is_of(sub) && port.stream.is_some() {
-                if let Some(free) = port.resumes.iter_mut().find(|it| it.is_none()) {
-                    *free = Some(stream);
-                }
+                port.known.resume(stream.get());
                 self.mark(place, false);
             }
         }
     }
 
-    /// Hangs up those that are waited for no longer, has it tried again to accept, and finds out when something is due next.
+    /// Binds ports that could not be bound, hangs up those that are waited for no longer, has it tried again to accept, and finds out when something is due next.
     fn do_due(&mut self) {
+        self.bind_all(false);
         let mut next = None;
+        for port in &self.unbound {
+            next = sooner(next, Some(port.retry));
+        }
         for place in 0..self.ports.len() {
             let Some(Some(port)) = self.ports.get_mut(place) else {
                 continue;
@@ -352,7 +486,27 @@ impl<'a, R: Wait + Net + Clock, N: Named> PortWorker<'a, R, N> {
         if is_more {
             self.mark(place, false);
         }
-        if let Some(Some(port)) = self.ports.get(place) {
+        if let Some(Some(port)) = self.ports.get_mut(place) {
+            if mem::replace(&mut port.has_written, false) {
+                self.board.connections().ask();
+            }
+            let due = port.due(self.agenda.now);
+            self.agenda.expect(due);
+        }
+    }
+
+    /// Looks whether bytes that were sent are not acknowledged, where the table of connections was read since.
+    fn look_at_connections(&mut self) {
+        let connections = self.board.connections();
+        let reads = connections.reads();
+        if reads == self.reads {
+            return;
+        }
+        self.reads = reads;
+        for port in self.ports.iter_mut().flatten() {
+            if port.look(self.rt, connections, self.agenda.now) {
+                connections.ask();
+            }
             let due = port.due(self.agenda.now);
             self.agenda.expect(due);
         }
@@ -367,6 +521,7 @@ impl<'a, R: Wait + Net + Clock, N: Named> PortWorker<'a, R, N> {
         let mut is_more = port.serve(
             self.rt,
             &mut self.gate,
+            self.board.layout_changes(),
             self.journal,
             &mut self.ages,
             self.agenda.now,
@@ -378,6 +533,7 @@ impl<'a, R: Wait + Net + Clock, N: Named> PortWorker<'a, R, N> {
                 self.waiting.poll(),
                 place,
                 &mut self.gate,
+                self.board.layout_changes(),
                 self.journal,
                 self.agenda.now,
             );
@@ -402,6 +558,7 @@ impl<'a, R: Wait + Net + Clock, N: Named> PortWorker<'a, R, N> {
     /// Does what it was told, and hands out what waits.
     fn pass(&mut self) {
         self.obey_all();
+        self.look_at_connections();
         self.hand_out_all();
         self.tell_end();
     }
@@ -445,6 +602,7 @@ impl<'a, R: Wait + Net + Clock, N: Named> PortWorker<'a, R, N> {
             let is_more = port.hand_out(
                 self.rt,
                 &mut self.gate,
+                self.board.layout_changes(),
                 self.journal,
                 &mut self.ages,
                 self.agenda.now,
@@ -454,9 +612,25 @@ impl<'a, R: Wait + Net + Clock, N: Named> PortWorker<'a, R, N> {
     }
 }
 
-/// No stream is to go on.
-fn no_streams() -> [Option<StreamId>; STREAMS] {
-    [None; STREAMS]
+/// What happened while a subscriber was served, by what its gate saw.
+fn served_by(seen: &Seen) -> ServedOnce {
+    ServedOnce {
+        configured: seen.configured,
+        switched: seen.switched,
+        // It is found out behind the question.
+        is_quiet: false,
+        is_emptied: seen.drains > 0 && seen.handed < FULL,
+    }
+}
+
+/// The stream of this number among these, where it is there and off.
+fn stopped_in(found: &Standings, stream: u16) -> Option<StreamStanding> {
+    for standing in found.iter().flatten() {
+        if standing.stream.get() == stream && !standing.is_on {
+            return Some(*standing);
+        }
+    }
+    None
 }
 
 /// The token of a port's listener, and of its connection.
@@ -473,6 +647,7 @@ fn notice_of(gone: Gone) -> Notice {
     match gone {
         Gone::Ended(_) => Notice::GuestEnded,
         Gone::Overdue(Overdue::Stalled) => Notice::Stalled,
+        Gone::Overdue(Overdue::Unacknowledged) => Notice::Unacknowledged,
         Gone::Overdue(Overdue::Idle) => Notice::Idle,
     }
 }
@@ -503,7 +678,26 @@ impl Port {
         self.peer = None;
         self.since = Some(now);
         self.stamps.restart();
-        self.resumes = no_streams();
+        self.known = KnownLayouts::new();
+        self.settled = None;
+        self.written = 0;
+        self.looked = 0;
+        self.unacknowledged = Unacknowledged::new();
+    }
+
+    /// Looks in the table of connections whether bytes that were sent are not acknowledged, and tells whether some are not. What was written
+    /// since the last look counts from the next one on, as some of it may have been written behind the table.
+    fn look<R: Wait>(&mut self, rt: &R, connections: &Connections, now: Instant) -> bool
+        ensures sub { self.new.sub ≡ self.old.sub }
+    {
+        let (Some(peer), Ok(address)) = (self.peer, self.address()) else {
+            return false;
+        };
+        let queue = connections.unacknowledged(rt, address.port(), peer);
+        self.unacknowledged.look(self.looked, queue, now);
+        self.looked = self.written;
+        self.door.acknowledged(self.unacknowledged.since());
+        queue > 0
     }
 
     /// How it stands.
@@ -523,86 +717,308 @@ impl Port {
     }
 
     /// Serves who has connected, and tells whether more is to be done.
-    #[tactic(auto, using(crate::proofs::Own::own_nil, crate::proofs::Own::own_more, crate::proofs::Own::own_as))]
     fn serve<R: Wait + Clock, G: Gate>(
         &mut self,
         rt: &R,
         gate: &mut Watched<G>,
+        changes: &LayoutChanges,
         journal: &Journal,
         ages: &mut Histogram,
         now: Instant,
     ) -> bool
         ensures sub { self.new.sub ≡ self.old.sub }
         // It posts of its own subscriber alone.
-        ensures own { OwnOnly self.old.sub (through gate.old.guarding (G.posts gate.old.gate)) (through gate.new.guarding (G.posts gate.new.gate)) }
+        ensures own { OwnOnly self.old.sub (G.posts gate.old.gate) (G.posts gate.new.gate) }
     {
-        let Some(stream) = &self.stream else {
-            return false;
-        };
-        let mut reader = Budget::new(Counted::new(stream), READS);
-        let mut writer = Counted::new(Aged {
-            rt,
-            inner: stream,
-            stamps: &mut self.stamps,
-            ages,
-        });
-        let stay = self.door.serve(&mut reader, &mut writer, gate, now);
-        let is_more = self.go_on(stay, gate);
-        self.tell_seen(rt, gate, journal);
-        self.leave(rt, stay, journal, now) || is_more
+        self.serve_all(rt, gate, changes, journal, ages, now, Way::Serve)
     }
 
     /// Hands out what waits for who has connected, and tells whether more is to be done.
-    #[tactic(auto, using(crate::proofs::Own::own_nil, crate::proofs::Own::own_more, crate::proofs::Own::own_as))]
     fn hand_out<R: Wait + Clock, G: Gate>(
         &mut self,
         rt: &R,
         gate: &mut Watched<G>,
+        changes: &LayoutChanges,
         journal: &Journal,
         ages: &mut Histogram,
         now: Instant,
     ) -> bool
         ensures sub { self.new.sub ≡ self.old.sub }
         // It posts of its own subscriber alone.
-        ensures own { OwnOnly self.old.sub (through gate.old.guarding (G.posts gate.old.gate)) (through gate.new.guarding (G.posts gate.new.gate)) }
+        ensures own { OwnOnly self.old.sub (G.posts gate.old.gate) (G.posts gate.new.gate) }
+    {
+        self.serve_all(rt, gate, changes, journal, ages, now, Way::HandOut)
+    }
+
+    /// Serves who has connected, again and again while what was drained is held back, and tells whether more is to be done.
+    #[tactic(auto, using(crate::proofs::Own::own_nil, crate::proofs::Own::own_more, crate::proofs::Own::own_as))]
+    fn serve_all<R: Wait + Clock, G: Gate>(
+        &mut self,
+        rt: &R,
+        gate: &mut Watched<G>,
+        changes: &LayoutChanges,
+        journal: &Journal,
+        ages: &mut Histogram,
+        now: Instant,
+        first: Way,
+    ) -> bool
+        ensures sub { self.new.sub ≡ self.old.sub }
+        // It posts of its own subscriber alone.
+        ensures own { OwnOnly self.old.sub (G.posts gate.old.gate) (G.posts gate.new.gate) }
+    {
+        let mut way = first;
+        let mut is_more = false;
+        'passes: for _ in 0..PASSES {
+            let passed = self.pass(rt, gate, changes, journal, ages, now, way);
+            is_more = is_more || passed.is_more;
+            if !passed.goes_on {
+                return is_more;
+            }
+            way = Way::GoOn;
+        }
+        true
+    }
+
+    /// Serves who has connected once. Where an edit or an announcement was begun since its streams were asked about, they are asked about
+    /// before a byte is written that was drained meanwhile: so no frame goes out that could be misread.
+    #[tactic(auto, using(crate::proofs::Own::own_nil, crate::proofs::Own::own_more, crate::proofs::Own::own_as))]
+    fn pass<R: Wait + Clock, G: Gate>(
+        &mut self,
+        rt: &R,
+        gate: &mut Watched<G>,
+        changes: &LayoutChanges,
+        journal: &Journal,
+        ages: &mut Histogram,
+        now: Instant,
+        way: Way,
+    ) -> Passed
+        ensures sub { self.new.sub ≡ self.old.sub }
+        // It posts of its own subscriber alone.
+        ensures own { OwnOnly self.old.sub (G.posts gate.old.gate) (G.posts gate.new.gate) }
+    {
+        let settled = changes.settled();
+        let Some((stay, is_held, size)) = self.write_once(rt, gate, changes, ages, now, way) else {
+            return Passed::nothing();
+        };
+        self.written = self.written.saturating_add(size);
+        self.has_written = self.has_written || size > 0;
+        let seen = gate.take_seen();
+        self.tell_seen(rt, &seen, journal);
+        let is_more = self.leave(rt, stay, journal, now);
+        if self.stream.is_none() {
+            return Passed::nothing();
+        }
+        let served = served_by(&seen);
+        if let Some(stream) = self.compare(gate, changes, settled, served) {
+            self.disconnect(rt, gate, journal, now, stream);
+            return Passed::nothing();
+        }
+        let is_posted = self.post_due(rt, gate, journal, served.is_emptied);
+        Passed {
+            // Where bytes were held back its socket was not read to its end.
+            is_more: is_more || (is_held && way == Way::Serve),
+            goes_on: is_held || is_posted,
+        }
+    }
+
+    /// Reads, drains and writes in this way, and tells also whether bytes were held back.
+    #[tactic(auto, using(crate::proofs::Own::own_nil, crate::proofs::Own::own_more, crate::proofs::Own::own_as))]
+    fn write_once<R: Wait + Clock, G: Gate>(
+        &mut self,
+        rt: &R,
+        gate: &mut Watched<G>,
+        changes: &LayoutChanges,
+        ages: &mut Histogram,
+        now: Instant,
+        way: Way,
+    ) -> Option<(Stay, bool, u64)>
+        ensures sub { self.new.sub ≡ self.old.sub }
+        // It posts of its own subscriber alone.
+        ensures own { OwnOnly self.old.sub (G.posts gate.old.gate) (G.posts gate.new.gate) }
     {
         let Some(stream) = &self.stream else {
-            return false;
+            return None;
         };
-        let mut writer = Counted::new(Aged {
+        // What is left by now was drained before the streams were asked about last.
+        let pending = self.door.pending();
+        let aged = Aged {
             rt,
             inner: stream,
             stamps: &mut self.stamps,
             ages,
-        });
-        let stay = self.door.hand_out(&mut writer, gate, now);
-        let is_more = self.go_on(stay, gate);
-        self.tell_seen(rt, gate, journal);
-        self.leave(rt, stay, journal, now) || is_more
+        };
+        let mut writer = Counted::new(HeldWriter::new(aged, changes, self.settled, pending));
+        let stay = match way {
+            Way::Serve => {
+                let mut reader = Budget::new(Counted::new(stream), READS);
+                self.door.serve(&mut reader, &mut writer, gate, now)
+            }
+            Way::HandOut => self.door.hand_out(&mut writer, gate, now),
+            Way::GoOn => {
+                let mut reader = Budget::new(Counted::new(Never), READS);
+                self.door.serve(&mut reader, &mut writer, gate, now)
+            }
+        };
+        Some((stay, writer.inner.is_holding(), writer.moved))
     }
 
-    /// Has a stream go on that is to, if it was served so that nothing waits; tells whether one does.
+    /// Compares the layouts of the streams with those that who has connected knows, behind what was served; `settled` is how many changes were
+    /// done before that. It tells a stream for which who has connected is to be disconnected.
     #[tactic(auto, using(crate::proofs::Own::own_nil))]
-    fn go_on<G: Gate>(&mut self, stay: Stay, gate: &mut Watched<G>) -> bool
+    fn compare<G: Gate>(
+        &mut self,
+        gate: &mut Watched<G>,
+        changes: &LayoutChanges,
+        settled: Option<usize>,
+        served: ServedOnce,
+    ) -> Option<u16>
+        ensures sub { self.new.sub ≡ self.old.sub }
+        ensures own { OwnOnly self.old.sub (G.posts gate.old.gate) (G.posts gate.new.gate) }
+    {
+        self.known.drained(served.is_emptied);
+        let misread = if changes.holds(self.settled) {
+            self.known.note(&served);
+            None
+        } else {
+            self.ask(gate, changes, settled, served)
+        };
+        if misread.is_none() {
+            self.known.settle();
+        }
+        misread
+    }
+
+    /// Asks about the streams, behind what was served; `settled` is how many changes were done before that. It tells a stream for which who has
+    /// connected is to be disconnected.
+    fn ask<G: Gate>(
+        &mut self,
+        gate: &mut Watched<G>,
+        changes: &LayoutChanges,
+        settled: Option<usize>,
+        served: ServedOnce,
+    ) -> Option<u16>
+        ensures sub { self.new.sub ≡ self.old.sub }
+        ensures own { OwnOnly self.old.sub (G.posts gate.old.gate) (G.posts gate.new.gate) }
+    {
+        let now_settled = changes.settled();
+        let found = ask_standings(self.door.sub(), gate);
+        let mut served = served;
+        served.is_quiet = changes.holds(settled);
+        let judged = self.known.judge_all(&found, &served, self.door.change());
+        self.settled = if judged.asks_again { None } else { now_settled };
+        judged.misread
+    }
+
+    /// Disconnects who has connected, since it could misread this stream.
+    #[tactic(auto, using(crate::proofs::Own::own_as))]
+    fn disconnect<R: Wait, G: Gate>(
+        &mut self,
+        rt: &R,
+        gate: &mut Watched<G>,
+        journal: &Journal,
+        now: Instant,
+        stream: u16,
+    )
+        ensures sub { self.new.sub ≡ self.old.sub }
+        ensures own { OwnOnly self.old.sub (G.posts gate.old.gate) (G.posts gate.new.gate) }
+    {
+        self.door.hang_up(gate);
+        self.part(now);
+        journal.tell(rt, self.entry(Notice::Misread, Detail::OfStream(stream)));
+    }
+
+    /// Posts what is due in the subscriber's name, one CFG-2 and one start at most, and tells whether something was posted.
+    #[tactic(auto, using(crate::proofs::Own::own_nil, crate::proofs::Own::own_more, crate::proofs::Own::own_as))]
+    fn post_due<R: Wait, G: Gate>(
+        &mut self,
+        rt: &R,
+        gate: &mut Watched<G>,
+        journal: &Journal,
+        is_emptied: bool,
+    ) -> bool
+        ensures sub { self.new.sub ≡ self.old.sub }
+        ensures own { OwnOnly self.old.sub (G.posts gate.old.gate) (G.posts gate.new.gate) }
+    {
+        let is_posted = self.send_and_resume(rt, gate, journal, is_emptied);
+        if is_posted {
+            // These are no commands of the next pass: between them and it a layout may change.
+            self.report_posted(rt, gate, journal);
+        }
+        is_posted
+    }
+
+    /// Takes what its gate saw, and reports which streams were started.
+    fn report_posted<R: Wait, G: Gate>(&self, rt: &R, gate: &mut Watched<G>, journal: &Journal)
+        ensures gate { gate.new.gate ≡ gate.old.gate }
+    {
+        let seen = gate.take_seen();
+        self.tell_switched(rt, &seen.switched, journal);
+    }
+
+    /// Has a CFG-2 sent that is owed, and where nothing waits a stream go on; tells whether something was posted.
+    #[tactic(auto, using(crate::proofs::Own::own_nil, crate::proofs::Own::own_more, crate::proofs::Own::own_as))]
+    fn send_and_resume<R: Wait, G: Gate>(
+        &mut self,
+        rt: &R,
+        gate: &mut Watched<G>,
+        journal: &Journal,
+        is_emptied: bool,
+    ) -> bool
+        ensures sub { self.new.sub ≡ self.old.sub }
+        ensures own { OwnOnly self.old.sub (G.posts gate.old.gate) (G.posts gate.new.gate) }
+    {
+        let is_sent = self.send_config(rt, gate, journal);
+        if !is_emptied {
+            return is_sent;
+        }
+        let is_resumed = self.resume_next(gate);
+        is_sent || is_resumed
+    }
+
+    /// Has the CFG-2 of a stream put among the replies that is owed one, and tells whether it was.
+    #[tactic(auto, using(crate::proofs::Own::own_nil))]
+    fn send_config<R: Wait, G: Gate>(
+        &mut self,
+        rt: &R,
+        gate: &mut Watched<G>,
+        journal: &Journal,
+    ) -> bool
+        ensures sub { self.new.sub ≡ self.old.sub }
+        ensures own { OwnOnly self.old.sub (G.posts gate.old.gate) (G.posts gate.new.gate) }
+    {
+        let Some(stream) = self.known.owed() else {
+            return false;
+        };
+        let posted = post_config(self.door.sub(), stream, gate);
+        if posted != Posted::Later {
+            self.known.paid(stream);
+        }
+        if posted == Posted::Done {
+            journal.tell(rt, self.entry(Notice::ConfigSent, Detail::OfStream(stream)));
+        }
+        posted == Posted::Done
+    }
+
+    /// Has a stream go on that was defined anew, behind its CFG-2, while nothing waits; tells whether one does.
+    #[tactic(auto, using(crate::proofs::Own::own_nil, crate::proofs::Own::own_more))]
+    fn resume_next<G: Gate>(&mut self, gate: &mut Watched<G>) -> bool
         ensures sub { self.new.sub ≡ self.old.sub }
         // It posts of its own subscriber alone.
-        ensures own { OwnOnly self.old.sub (through gate.old.guarding (G.posts gate.old.gate)) (through gate.new.guarding (G.posts gate.new.gate)) }
+        ensures own { OwnOnly self.old.sub (G.posts gate.old.gate) (G.posts gate.new.gate) }
     {
-        if stay != Stay::Waits || self.door.is_blocked() {
-            return false;
-        }
-        let Some(place) = self.resumes.iter().position(|it| it.is_some()) else {
+        let Some(stream) = self.known.resuming() else {
             return false;
         };
-        let next = match self.resumes.get_mut(place) {
-            Some(next) => next.take(),
-            None => None,
-        };
-        let Some(stream) = next else {
+        let found = ask_standings(self.door.sub(), gate);
+        let Some(standing) = stopped_in(&found, stream) else {
+            // It is there no more, or its subscriber started it meanwhile.
+            self.known.give_up(stream);
             return false;
         };
-        if !post_resume(self.door.sub(), stream, gate) {
-            self.resumes[place] = Some(stream);
+        match post_resume(self.door.sub(), stream, gate) {
+            Posted::Done => self.known.resumed(&standing),
+            Posted::Gone => self.known.give_up(stream),
+            Posted::Later => {}
         }
         true
     }
@@ -613,12 +1029,9 @@ impl Port {
     }
 
     /// Tells what was met while who has connected was served.
-    fn tell_seen<R: Wait, G: Gate>(&mut self, rt: &R, gate: &mut Watched<G>, journal: &Journal)
+    fn tell_seen<R: Wait>(&mut self, rt: &R, seen: &Seen, journal: &Journal)
         ensures same { self.new ≡ self.old }
-        ensures gate { gate.new.gate ≡ gate.old.gate }
-        ensures guarding { gate.new.guarding ≡ gate.old.guarding }
     {
-        let seen = gate.take_seen();
         if seen.gap > 0 {
             self.gaps = self.gaps.saturating_add(seen.gap);
             let mut entry = self.entry(Notice::Gap, Detail::Nothing);
@@ -684,13 +1097,16 @@ impl Port {
         poll: &Poll,
         place: usize,
         gate: &mut Watched<G>,
+        changes: &LayoutChanges,
         journal: &Journal,
         now: Instant,
     ) -> bool {
         for _ in 0..ACCEPTED {
             match self.listener.accept() {
                 Ok((stream, address)) => {
-                    self.admit(rt, alloc, poll, place, gate, journal, now, stream, address);
+                    self.admit(
+                        rt, alloc, poll, place, gate, changes, journal, now, stream, address,
+                    );
                 }
                 Err(error) if error.kind() == ErrorKind::WouldBlock => {
                     self.is_asked = false;
@@ -715,6 +1131,7 @@ impl Port {
         poll: &Poll,
         place: usize,
         gate: &mut Watched<G>,
+        changes: &LayoutChanges,
         journal: &Journal,
         now: Instant,
         mut stream: TcpStream,
@@ -738,6 +1155,7 @@ impl Port {
                 }
                 self.stream = Some(stream);
                 self.peer = Some(address);
+                self.ask(gate, changes, None, ServedOnce::nothing());
                 journal.tell(rt, self.entry(Notice::Connected, Detail::At(address)));
             }
             Knock::Foreign => {

@@ -7,15 +7,15 @@ ghost use Rattle.pg_audit.specs.Counting.{no_pmu_stats};
 ghost use Rattle.pg_ingest.specs.Linking.{unfed};
 ghost use Rattle.pg_ingest.specs.Runs.{wires};
 ghost use Rattle.pg_ingest.specs.Served.{IsCall};
-ghost use Rattle.pg_service.specs.Lines.{Turned, hearing, settled, turn_after, unguarded, unlinked, with_plan};
+ghost use Rattle.pg_service.specs.Lines.{Turned, guarding, hearing, settled, turn_after, unlinked, with_plan};
 ghost use Rattle.pg_service.specs.Plans.{asked, begun, called, due_by, ended, made, received, renewed, rested, sought};
-ghost use Rattle.pg_service.specs.Posts.{through};
+ghost use Rattle.pg_service.specs.Posts.{passes};
 
 use crate::plan::{CallPlan, Due};
-use crate::watched::{Guarding, Seen, Watched};
+use crate::watched::{Guarding, Guards, Seen, Watched};
 use pg_gateway::Gate;
 use pg_ingest::{End, Link, run_link};
-use pg_limits::{Budget, ClockGuard};
+use pg_limits::Budget;
 use pg_wire::{PmuId, Refusal};
 use std::alloc::Global;
 use std::io::{Read, Write};
@@ -41,7 +41,7 @@ pub enum Turn {
 pub struct SourceLine {
     link: Link,
     plan: CallPlan,
-    guard: Option<ClockGuard>,
+    guards: Guards,
 }
 
 impl Model for SourceLine {
@@ -49,12 +49,12 @@ impl Model for SourceLine {
 
     ghost Value = { Line };
 
-    ghost view = { λ l. record { link = l.link; plan = l.plan; guard = l.guard } };
+    ghost view = { λ l. record { link = l.link; plan = l.plan; guards = l.guards } };
 }
 
 impl SourceLine {
-    /// The line to a source that is to be called at once. A connection may be silent for `silence`, and its measurements as far from this
-    /// machine's clock as `guard` says; `None` is no limit.
+    /// The line to a source that is to be called at once. A connection may be silent for `silence`, `None` for ever, and the times of its
+    /// measurements as far from the clocks as `guards` say.
     ///
     /// # Errors
     ///
@@ -63,16 +63,16 @@ impl SourceLine {
         alloc: Global,
         source: PmuId,
         silence: Option<Duration>,
-        guard: Option<ClockGuard>,
+        guards: Guards,
         now: Instant,
     ) -> Result<SourceLine, Refusal>
-        ensures state { IfOk result (λ l. l ≡ record { link = unfed source no_pmu_stats; plan = begun (instant_nanos now) (option_map as_nanos silence); guard = guard }) }
+        ensures state { IfOk result (λ l. l ≡ record { link = unfed source no_pmu_stats; plan = begun (instant_nanos now) (option_map as_nanos silence); guards = guards }) }
         ensures memory { IfErr result (λ refusal. refusal ≡ Refusal.NoMemory) }
     {
         Ok(SourceLine {
             link: Link::new(alloc, source)?,
             plan: CallPlan::new(now, silence),
-            guard,
+            guards,
         })
     }
 
@@ -165,8 +165,8 @@ impl SourceLine {
     }
 
     /// Serves its connection until the reader's budget is used up, or it would block, and tells what went through the gate
-    /// meanwhile. `clock` is this machine's: milliseconds since 1970-01-01 00:00 UTC. Where the connection ended or failed, the
-    /// link starts anew.
+    /// meanwhile. `clock` is this machine's, in milliseconds since 1970-01-01 00:00 UTC, and `reference` what the times of measurements may be
+    /// ahead of. Where the connection ended or failed, the link starts anew.
     pub fn serve<R: Read, W: Write, G: Gate>(
         &mut self,
         reader: &mut Budget<R>,
@@ -174,13 +174,19 @@ impl SourceLine {
         gate: &mut Watched<G>,
         now: Instant,
         clock: u64,
+        reference: u64,
     ) -> (Turn, Seen)
-        // It posts what its bytes tell and nothing else, where its measurements are not guarded.
+        // It posts what its bytes tell and nothing else, but for the measurements that its guards do not take.
         ensures turned { Turned (instant_nanos now) reader.new.left result.0 result.1 self.old self.new
-            (wires (R.remaining reader.old.reader) (W.contents writer.old) (unguarded self.old.guard (through gate.old.guarding (G.posts gate.old.gate))))
-            (wires (R.remaining reader.new.reader) (W.contents writer.new) (unguarded self.old.guard (through gate.new.guarding (G.posts gate.new.gate)))) }
+            (wires (R.remaining reader.old.reader) (W.contents writer.old) (G.posts gate.old.gate) (passes (guarding self.old clock reference) (G.takes gate.old.gate)))
+            (wires (R.remaining reader.new.reader) (W.contents writer.new) (G.posts gate.new.gate) (passes gate.new.guarding (G.takes gate.new.gate))) }
     {
-        let end = run_guarded(&mut self.link, self.guard, reader, writer, gate, clock);
+        let guarding = Guarding {
+            guards: self.guards,
+            clock,
+            reference,
+        };
+        let end = run_guarded(&mut self.link, guarding, reader, writer, gate);
         let seen = gate.take_seen();
         self.hear(&seen, now);
         (self.settle(end, reader.is_used_up(), now), seen)
@@ -214,26 +220,18 @@ impl SourceLine {
     }
 }
 
-/// One call of a link's loop, with its measurements guarded if they are.
+/// One call of a link's loop, with its measurements guarded so.
 fn run_guarded<R: Read, W: Write, G: Gate>(
     link: &mut Link,
-    guard: Option<ClockGuard>,
+    guarding: Guarding,
     reader: &mut Budget<R>,
     writer: &mut W,
     gate: &mut Watched<G>,
-    clock: u64,
 ) -> End
     ensures call { IsCall result 10000 link.old link.new
-        (wires (R.remaining reader.old.reader) (W.contents writer.old) (unguarded guard (through gate.old.guarding (G.posts gate.old.gate))))
-        (wires (R.remaining reader.new.reader) (W.contents writer.new) (unguarded guard (through gate.new.guarding (G.posts gate.new.gate)))) }
+        (wires (R.remaining reader.old.reader) (W.contents writer.old) (G.posts gate.old.gate) (passes guarding (G.takes gate.old.gate)))
+        (wires (R.remaining reader.new.reader) (W.contents writer.new) (G.posts gate.new.gate) (passes gate.new.guarding (G.takes gate.new.gate))) }
 {
-    match guard {
-        None => run_link(link, reader, writer, gate, TURNS),
-        Some(guard) => {
-            gate.guard(Some(Guarding { guard, clock }));
-            let end = run_link(link, reader, writer, gate, TURNS);
-            gate.guard(None);
-            end
-        }
-    }
+    gate.guard(guarding);
+    run_link(link, reader, writer, gate, TURNS)
 }

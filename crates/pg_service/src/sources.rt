@@ -7,6 +7,7 @@ use crate::board::{Board, Reach, SourceReport};
 use crate::change::ConfigChange;
 use crate::clocks::Clocks;
 use crate::counted::StopsShort;
+use crate::counted_announcements::CountedAnnouncements;
 use crate::journal::{Detail, Entry, Journal, MOST_PMUS, Notice, Whom};
 use crate::mail::{Mailbox, PortOrder, SourceOrder};
 use crate::pace::Pace;
@@ -14,13 +15,13 @@ use crate::plan::{Due, Phase};
 use crate::resolver::{Lookup, Resolver};
 use crate::source::{SourceLine, Turn};
 use crate::waiting::{Waiting, sooner};
-use crate::watched::{Seen, Watched};
+use crate::watched::{Guards, Seen, Watched};
 use mio::net::TcpStream;
 use mio::{Interest, Poll, Token};
 use pg_audit::PmuStats;
 use pg_config::SourceConfig;
 use pg_gateway::Gate;
-use pg_limits::{Budget, ClockGuard, Portion};
+use pg_limits::{Budget, Portion, reference};
 use pg_shared::{Named, SharedGate, Work};
 use pg_wire::{PmuId, Refusal};
 use std::alloc::{AllocError, Global};
@@ -33,6 +34,9 @@ use std::time::{Duration, Instant, SystemTime};
 
 /// The reads of one turn of a source.
 pub(crate) const READS: u32 = 16;
+
+/// How long the times of all sources are held for their newest (own rule), in milliseconds.
+const TIMES_MS: u64 = 10;
 
 /// How soon it is looked at the clocks of all sources once more, in milliseconds.
 const CLOCKS_MS: u64 = 1_000;
@@ -102,8 +106,8 @@ pub struct Dial {
     pub address: Address,
     /// How long a connection may be without an event; `None` for ever.
     pub silence: Option<Duration>,
-    /// How far its measurements may be from the clock; `None` for any.
-    pub guard: Option<ClockGuard>,
+    /// How far the times of its measurements may be from the clocks.
+    pub guards: Guards,
 }
 
 /// A source with its connection, if there is one.
@@ -131,6 +135,8 @@ struct Source {
     heard: Option<Instant>,
     // By how many milliseconds its last measurement was ahead of the clock, where it was refused for that.
     off: Option<i64>,
+    // The time of its last measurement in its connection, in milliseconds since 1970-01-01 00:00 UTC.
+    newest: Option<u64>,
 }
 
 /// The place of this source, if it is one of these.
@@ -178,7 +184,7 @@ impl Neighbours<'_> {
 pub struct SourceWorker<'a, R: Wait + Net + Clock, N: Named> {
     rt: &'a R,
     alloc: Global,
-    gate: Watched<SharedGate<'a, R, N>>,
+    gate: Watched<CountedAnnouncements<'a, SharedGate<'a, R, N>>>,
     waiting: Waiting,
     number: usize,
     mailbox: &'a Mailbox<SourceOrder>,
@@ -189,6 +195,12 @@ pub struct SourceWorker<'a, R: Wait + Net + Clock, N: Named> {
     // How far its sources may be ahead of those who hand their frames out.
     pace: Pace,
     clock: u64,
+    // What the times of measurements may be ahead of, and the clock when the times of all sources were looked at last; those of its own
+    // sources, and of all.
+    reference: u64,
+    referred: u64,
+    own_times: Vec<u64>,
+    times: Vec<u64>,
     // How often a source was dialed.
     dials: u64,
     // How the clocks of its sources stand, and when it was looked at them last.
@@ -204,7 +216,7 @@ impl<'a, R: Wait + Net + Clock, N: Named> Model for SourceWorker<'a, R, N> {
     ghost Value = { Known Event Reply };
 
     // It is seen as the seat of its gate.
-    ghost view = { λ w. w.gate.gate };
+    ghost view = { λ w. w.gate.gate.gate };
 }
 
 impl<'a, R: Wait + Net + Clock, N: Named> SourceWorker<'a, R, N> {
@@ -221,6 +233,7 @@ impl<'a, R: Wait + Net + Clock, N: Named> SourceWorker<'a, R, N> {
     ) -> SourceWorker<'a, R, N>
         ensures seat { result ≡ gate.entry }
     {
+        let gate = CountedAnnouncements::new(gate, neighbours.board.layout_changes());
         SourceWorker {
             rt,
             alloc,
@@ -233,6 +246,10 @@ impl<'a, R: Wait + Net + Clock, N: Named> SourceWorker<'a, R, N> {
             agenda: Agenda::new(alloc, now),
             pace: Pace::new(alloc),
             clock: 0,
+            reference: 0,
+            referred: 0,
+            own_times: Vec::new(alloc),
+            times: Vec::new(alloc),
             dials: 0,
             clocks: Clocks::none(),
             looked: now,
@@ -249,10 +266,11 @@ impl<'a, R: Wait + Net + Clock, N: Named> SourceWorker<'a, R, N> {
             source,
             address,
             silence,
-            guard,
+            guards,
         } = dial;
-        let line = SourceLine::new(self.alloc, source, silence, guard, self.agenda.now)?;
+        let line = SourceLine::new(self.alloc, source, silence, guards, self.agenda.now)?;
         self.agenda.reserve(self.sources.len() + 1)?;
+        self.own_times.try_reserve(self.sources.len() + 1)?;
         self.agenda.due = Some(self.agenda.now);
         self.dials = self.dials.wrapping_add(1);
         let dial = self.dials;
@@ -267,6 +285,7 @@ impl<'a, R: Wait + Net + Clock, N: Named> SourceWorker<'a, R, N> {
             old.far = 0;
             old.heard = None;
             old.off = None;
+            old.newest = None;
             return Ok(());
         }
         self.sources.push(Source {
@@ -285,6 +304,7 @@ impl<'a, R: Wait + Net + Clock, N: Named> SourceWorker<'a, R, N> {
             far: 0,
             heard: None,
             off: None,
+            newest: None,
         })?;
         Ok(())
     }
@@ -295,7 +315,7 @@ impl<'a, R: Wait + Net + Clock, N: Named> SourceWorker<'a, R, N> {
         ensures seat { result ≡ self.entry }
     {
         let SourceWorker { gate, .. } = self;
-        gate.into_inner()
+        gate.into_inner().into_inner()
     }
 
     /// Notes what was met.
@@ -309,6 +329,33 @@ impl<'a, R: Wait + Net + Clock, N: Named> SourceWorker<'a, R, N> {
             Some(clock) => self.clock = clock,
             None => self.note(Notice::ClockFault),
         }
+    }
+
+    /// Finds out what the times of measurements may be ahead of: this machine's clock, and the times of all sources, which are looked at a
+    /// hundred times a second at most.
+    fn find_reference(&mut self) {
+        self.reference = self.reference.max(self.clock);
+        let is_looked = self.referred.saturating_add(TIMES_MS) > self.clock;
+        if is_looked && self.clock >= self.referred {
+            return;
+        }
+        self.own_times.clear();
+        for source in &self.sources {
+            if let (Phase::Up, Some(time)) = (source.line.plan().phase(), source.newest) {
+                // There is room for each source.
+                let _ = self.own_times.push(time);
+            }
+        }
+        let Neighbours { journal, board, .. } = self.neighbours;
+        board.exchange_times(
+            self.rt,
+            journal,
+            self.number,
+            &self.own_times,
+            &mut self.times,
+        );
+        self.reference = reference(self.clock, &self.times);
+        self.referred = self.clock;
     }
 
     /// Serves this source in this turn.
@@ -552,6 +599,7 @@ impl<'a, R: Wait + Net + Clock, N: Named> SourceWorker<'a, R, N> {
                 events,
                 self.agenda.now,
                 self.clock,
+                self.reference,
             ) else {
                 return;
             };
@@ -643,6 +691,7 @@ impl Source {
         self.far = self.far.saturating_add(seen.far);
         let was_off = self.off.is_some();
         if seen.measured > 0 {
+            self.newest = Some(seen.last.millis());
             self.off = match seen.far_at {
                 Some(stamp) => Some(stamp.ahead_of(clock)),
                 None => None,
@@ -720,6 +769,7 @@ impl Source {
         events: u32,
         now: Instant,
         clock: u64,
+        reference: u64,
     ) -> Option<(Turn, Seen)> {
         let Phase::Up = self.line.plan().phase() else {
             return None;
@@ -729,7 +779,9 @@ impl Source {
         let reader = Portion::new(StopsShort::new(stream, self.is_ending), most);
         let mut budget = Budget::new(reader, 1);
         let mut writer = stream;
-        let (turn, seen) = self.line.serve(&mut budget, &mut writer, gate, now, clock);
+        let (turn, seen) = self
+            .line
+            .serve(&mut budget, &mut writer, gate, now, clock, reference);
         if budget.reader.reader.has_read() {
             self.line.received(now);
         }
@@ -823,6 +875,7 @@ impl Source {
     ) -> Entry {
         let both = Interest::READABLE | Interest::WRITABLE;
         self.has_announced = false;
+        self.newest = None;
         let mut stream = match TcpStream::connect(rt, address) {
             Ok(stream) => stream,
             Err(error) => {
@@ -919,6 +972,7 @@ impl<R: Wait + Net + Clock, N: Named> Work for SourceWorker<'_, R, N> {
         self.agenda
             .wait(self.rt, &mut self.waiting, self.neighbours.journal);
         self.read_clock();
+        self.find_reference();
         if self.waiting.is_woken() {
             self.obey_all();
         }

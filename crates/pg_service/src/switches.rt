@@ -37,6 +37,18 @@ impl Switches {
         }
     }
 
+    /// Whether a stream was started, by the last of its commands; `None` where there was none.
+    pub fn find(&self, stream: u16) -> Option<bool> {
+        for place in 0..MOST {
+            match self.at(place) {
+                Some((named, is_on)) if named == stream => return Some(is_on),
+                Some(_) => {}
+                None => return None,
+            }
+        }
+        None
+    }
+
     /// The stream at this place, and whether it was started; `None` behind the last.
     pub fn at(&self, place: usize) -> Option<(u16, bool)> {
         match (self.streams.get(place), self.are_on.get(place)) {

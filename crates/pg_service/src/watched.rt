@@ -1,15 +1,18 @@
 //! A gate that tells what went through it.
 
-ghost use Rattle.std.specs.Prelude.{◌≡◌, None, true, false};
-ghost use Rattle.pg_gateway.specs.Posting.{Answers};
-ghost use Rattle.pg_service.specs.Posts.{through};
+ghost use Rattle.std.specs.Prelude.{◌≡◌, not, option_map, true, false};
+ghost use Rattle.std.specs.Option.{option_map_or};
+ghost use Rattle.pg_data.specs.Measurements.{resolution};
+ghost use Rattle.pg_gateway.specs.Occurrences.{occurrence};
+ghost use Rattle.pg_limits.specs.Clocks.{is_ahead, is_near};
+ghost use Rattle.pg_service.specs.Posts.{frame_in, frames_passed, is_timely, passes, takes_by};
 
 use crate::switches::Switches;
 use pg_command::{Command, Word};
 use pg_config::SourceConfig;
 use pg_data::DataFrame;
 use pg_gateway::{Event, Gate, Reply};
-use pg_limits::{ClockGuard, Stamp};
+use pg_limits::{AheadGuard, ClockGuard, Stamp};
 use pg_wire::Refusal;
 use std::mem;
 use std::sync::Arc;
@@ -44,6 +47,10 @@ pub struct Seen {
     pub gap: u64,
     /// The streams that commands started or stopped.
     pub switched: Switches,
+    /// The streams whose CFG-2 was put among the replies.
+    pub configured: Switches,
+    /// The drains.
+    pub drains: u64,
 }
 
 impl Seen {
@@ -66,6 +73,8 @@ impl Seen {
             handed: 0,
             gap: 0,
             switched: Switches::none(),
+            configured: Switches::none(),
+            drains: 0,
         }
     }
 }
@@ -90,43 +99,96 @@ impl Seen {
         self.far_at = Some(self.last);
     }
 
-    /// Keeps that a command switched its stream, if it did.
-    fn note_switch(&mut self, switch: Option<Command>) {
-        if let Some(command) = switch {
-            let is_on = command.word == Word::StartData.number();
-            self.switched.switch(command.stream, is_on);
+    /// Keeps that a command switched its stream, or had its CFG-2 put among the replies, if it did.
+    fn note_command(&mut self, command: Option<Command>) {
+        if let Some(Command { stream, word }) = command {
+            if word == Word::SendCfgTwo.number() {
+                self.configured.switch(stream, true);
+            } else {
+                self.switched
+                    .switch(stream, word == Word::StartData.number());
+            }
         }
     }
 }
 
-/// A measurement's distance from the clock is looked at.
+/// How far the times of measurements may be from the clocks (own rule).
 #[derive(Clone, Copy, Debug)]
-pub struct Guarding {
-    /// How far it may be.
-    pub guard: ClockGuard,
-    /// This machine's clock: milliseconds since 1970-01-01 00:00 UTC.
-    pub clock: u64,
+pub struct Guards {
+    /// From this machine's clock, either way; `None` for any.
+    pub near: Option<ClockGuard>,
+    /// Ahead of the reference: of this machine's clock, and of the times of most sources; `None` for any.
+    pub ahead: Option<AheadGuard>,
 }
 
-impl Guarding {
-    /// Whether a measurement is too far from the clock.
-    fn is_far(&self, frame: &DataFrame) -> bool {
-        !self
-            .guard
-            .is_near(self.clock, frame.soc, frame.frac, frame.base())
+impl Guards {
+    /// Measurements of any time are taken.
+    pub fn none() -> Guards {
+        Guards {
+            near: None,
+            ahead: None,
+        }
     }
 }
 
-/// A gate that keeps count of what went through it, and refuses measurements that are too far from the clock where it is told
-/// to (own rule). All else is answered as by the gate inside.
-///
-/// What it tells of its posts is what the gate inside tells; while it guards measurements it tells nothing.
+/// Guards, with the clocks that measurements are held against.
+#[derive(Clone, Copy, Debug)]
+pub struct Guarding {
+    /// The guards.
+    pub guards: Guards,
+    /// This machine's clock: milliseconds since 1970-01-01 00:00 UTC.
+    pub clock: u64,
+    /// This machine's clock, or the lower median of the newest times of all connected sources where that is later; in the same.
+    pub reference: u64,
+}
+
+impl Guarding {
+    /// Measurements of any time are taken.
+    pub fn none() -> Guarding {
+        Guarding {
+            guards: Guards::none(),
+            clock: 0,
+            reference: 0,
+        }
+    }
+
+    /// Whether a measurement's time is near enough to this machine's clock.
+    fn is_near(&self, frame: &DataFrame) -> bool
+        ensures { result ≡ option_map_or (λ near. is_near near.limit self.now.clock frame.now.soc frame.now.frac (resolution frame.now.config)) self.now.guards.near true }
+    {
+        match self.guards.near {
+            Some(near) => near.is_near(self.clock, frame.soc, frame.frac, frame.base()),
+            None => true,
+        }
+    }
+
+    /// Whether a measurement's time is too far ahead of the reference.
+    fn is_ahead(&self, frame: &DataFrame) -> bool
+        ensures { result ≡ option_map_or (λ ahead. is_ahead ahead.limit self.now.reference frame.now.soc frame.now.frac (resolution frame.now.config)) self.now.guards.ahead false }
+    {
+        match self.guards.ahead {
+            Some(ahead) => ahead.is_ahead(self.reference, frame.soc, frame.frac, frame.base()),
+            None => false,
+        }
+    }
+
+    /// Whether a measurement is taken.
+    #[inline(always)]
+    fn is_timely(&self, frame: &DataFrame) -> bool
+        ensures { result ≡ is_timely self.now frame.now }
+    {
+        self.is_near(frame) && !self.is_ahead(frame)
+    }
+}
+
+/// A gate that keeps count of what went through it, and refuses the measurements that its guards do not take (own rule). All else is answered
+/// as by the gate inside, and so what was posted is what was posted there.
 #[derive(Drop)]
 pub struct Watched<G> {
     /// The gate inside.
     pub gate: G,
-    /// How measurements are guarded, if they are.
-    pub guarding: Option<Guarding>,
+    /// How measurements are guarded.
+    pub guarding: Guarding,
     /// What went through it since it was asked last.
     pub seen: Seen,
     /// The configuration that was announced last, until it is taken.
@@ -137,18 +199,17 @@ impl<G: Gate> Watched<G> {
     /// A gate through which nothing went.
     pub fn new(gate: G) -> Watched<G>
         ensures gate { result.gate ≡ gate }
-        ensures guarding { result.guarding ≡ None }
     {
         Watched {
             gate,
-            guarding: None,
+            guarding: Guarding::none(),
             seen: Seen::nothing(),
             announced: None,
         }
     }
 
-    /// From now on measurements are guarded by this, or not at all.
-    pub fn guard(&mut self, guarding: Option<Guarding>)
+    /// From now on measurements are guarded by this.
+    pub fn guard(&mut self, guarding: Guarding)
         ensures state { self.new ≡ record self.old { guarding = guarding } }
     {
         self.guarding = guarding;
@@ -186,53 +247,80 @@ impl<G: Gate> Watched<G> {
         gate
     }
 
-    /// Whether a measurement is guarded, and too far from the clock.
-    fn is_far(&self, frame: &DataFrame) -> bool
-        ensures guarding { self.now.guarding ≡ None → result ≡ false }
-    {
-        let guarding = self.guarding;
-        match guarding {
-            Some(guarding) => guarding.is_far(frame),
-            None => false,
-        }
-    }
-
     /// Counts an event, and tells whether it is to be refused.
     #[inline(always)]
     fn refuses(&mut self, event: &Event) -> bool
         ensures gate { self.new.gate ≡ self.old.gate }
         ensures same { self.new.guarding ≡ self.old.guarding }
-        ensures guarding { self.old.guarding ≡ None → result ≡ false }
-        // It is no drain, so that a refusal answers it.
-        ensures answers { result ≡ true → Answers event.now (Reply.Refused Refusal.FarClock) }
+        ensures takes { result ≡ not (takes_by self.old.guarding (occurrence event.now)) }
     {
-        match event {
-            Event::Announce(config) => {
-                self.seen.events = self.seen.events.saturating_add(1);
-                self.seen.rate = match config.parts.first() {
-                    Some(part) => Some(part.rate),
-                    None => None,
-                };
-                self.announced = Arc::try_clone(config).ok();
-                false
-            }
-            Event::Measure(frame) => {
+        if let Event::Announce(config) = event {
+            self.note_announcement(config);
+        }
+        match frame_in(event) {
+            Some(frame) => {
                 self.seen.note_measurement(frame);
-                let is_far = self.is_far(frame);
-                if is_far {
+                let is_timely = self.guarding.is_timely(frame);
+                if !is_timely {
                     self.seen.note_far();
                 }
-                is_far
+                !is_timely
             }
-            _ => false,
+            None => false,
         }
+    }
+
+    /// Keeps what is announced.
+    fn note_announcement(&mut self, config: &Arc<SourceConfig>)
+        ensures gate { self.new.gate ≡ self.old.gate }
+        ensures same { self.new.guarding ≡ self.old.guarding }
+    {
+        self.seen.events = self.seen.events.saturating_add(1);
+        self.seen.rate = match config.parts.first() {
+            Some(part) => Some(part.rate),
+            None => None,
+        };
+        self.announced = Arc::try_clone(config).ok();
+    }
+}
+
+/// The data frame that an event is, if it is one.
+#[inline(always)]
+fn frame_in(event: &Event) -> Option<&DataFrame>
+    ensures { option_map (λ f. f.now) result ≡ frame_in (occurrence event.now) }
+{
+    match event {
+        Event::Measure(frame) => Some(frame),
+        Event::AddPmu(_)
+        | Event::DropPmu(_)
+        | Event::AddSub(..)
+        | Event::DropSub(_)
+        | Event::Grant(..)
+        | Event::Revoke(..)
+        | Event::Define(..)
+        | Event::Remove(..)
+        | Event::Announce(_)
+        | Event::Tick(_)
+        | Event::Connect(_)
+        | Event::Hangup(_)
+        | Event::Command(..)
+        | Event::Drain(..)
+        | Event::Stats(_)
+        | Event::PmuStats(_)
+        | Event::WhoWaits(_)
+        | Event::Audit(..)
+        | Event::Standing(..) => None,
     }
 }
 
 impl<G: Gate> Gate for Watched<G> {
-    ghost posts = { λ w. through w.guarding (G.posts w.gate) };
+    ghost posts = { λ w. G.posts w.gate };
+
+    ghost takes = { λ w. passes w.guarding (G.takes w.gate) };
 
     ghost goes_on = { λ v w. G.goes_on v.gate w.gate };
+
+    ghost frames = { λ w. frames_passed w.guarding (G.takes w.gate) (G.frames w.gate) };
 
     ghost stays = { λ w. G.stays w.gate };
 
@@ -245,7 +333,7 @@ impl<G: Gate> Gate for Watched<G> {
         if self.refuses(&event) {
             return Reply::Refused(Refusal::FarClock);
         }
-        let switch = switch_in(&event);
+        let command = noted_in(&event);
         let reply = self.gate.post(event);
         match &reply {
             Reply::Done { made, .. } => {
@@ -253,10 +341,11 @@ impl<G: Gate> Gate for Watched<G> {
                 if *made > 0 {
                     self.seen.makers = self.seen.makers.saturating_add(1);
                 }
-                self.seen.note_switch(switch);
+                self.seen.note_command(command);
             }
             Reply::Drained { out, .. } => {
                 self.seen.handed = 0;
+                self.seen.drains = self.seen.drains.saturating_add(1);
                 if let Ok(drained) = out {
                     self.seen.handed = drained.len;
                     self.seen.gap = self.seen.gap.saturating_add(drained.gap);
@@ -270,12 +359,12 @@ impl<G: Gate> Gate for Watched<G> {
     }
 }
 
-/// The command that an event is, if it is one to start or to stop a stream.
+/// The command that an event is, if it is one to start or to stop a stream or to send its CFG-2.
 #[inline(always)]
-fn switch_in(event: &Event) -> Option<Command> {
+fn noted_in(event: &Event) -> Option<Command> {
     match event {
         Event::Command(_, command) => match Word::of(command.word) {
-            Some(Word::StartData | Word::StopData) => Some(*command),
+            Some(Word::StartData | Word::StopData | Word::SendCfgTwo) => Some(*command),
             _ => None,
         },
         _ => None,

@@ -20,6 +20,9 @@ impl fmt::Display for Entry {
                 write!(f, "subscriber {number}: ")?;
             }
         }
+        if let Detail::OfStream(stream) = self.detail {
+            write!(f, "stream {stream}: ")?;
+        }
         let said = said(self.notice);
         write!(f, "{said}")?;
         write_detail(self.notice, &self.detail, f)?;
@@ -82,6 +85,13 @@ fn said(notice: Notice) -> &'static str {
         Notice::Reloaded => "the setup was read again, and what changed is done",
         Notice::Unanswered =>
             "a worker did not tell within a second how its sources or ports stand",
+        Notice::Misread =>
+            "disconnected, since its blocks changed and a data frame could be read by the old CFG-2",
+        Notice::Unacknowledged =>
+            "hung up, since its host acknowledged nothing for as long as `stall` says",
+        Notice::NoTable =>
+            "/proc/net/tcp can't be read, so that a subscriber's host that lost its power is found late",
+        Notice::ConfigSent => "its blocks changed; CFG-2 sent unasked",
         Notice::NotReloaded => "the setup was read again; nothing changes",
     }
 }
@@ -93,7 +103,8 @@ fn write_detail<W: fmt::Write>(
     f: &mut fmt::Formatter<W>,
 ) -> fmt::Result {
     match detail {
-        Detail::Nothing => Ok(()),
+        // It is written before.
+        Detail::Nothing | Detail::OfStream(_) => Ok(()),
         Detail::At(address) => {
             let joined = match notice {
                 Notice::Called | Notice::Listening | Notice::Shown => " at ",

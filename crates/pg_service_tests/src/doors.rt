@@ -7,7 +7,7 @@ use crate::frames::{
 use pg_fakes::{FakeReader, FakeWriter};
 use pg_gateway::{Event, Gate, Gateway};
 use pg_ingest::{End, Link, run_link};
-use pg_limits::{Allow, Budget, Network};
+use pg_limits::{Allow, Budget, Network, OnChange};
 use pg_service::{Counted, Door, DoorRules, Gone, Knock, Overdue, Stay, Watched};
 use pg_wire::Refusal;
 use std::alloc::Global;
@@ -27,6 +27,7 @@ fn rules(takeover: bool) -> DoorRules {
         takeover,
         stall: Some(Duration::from_secs(30)),
         idle: None,
+        change: OnChange::Safe,
     }
 }
 

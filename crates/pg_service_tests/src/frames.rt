@@ -102,12 +102,19 @@ pub(crate) fn after(rt: &impl Abort, start: Instant, millis: u64) -> Instant {
 
 /// PMU 7's data frame of this second.
 pub(crate) fn data_of(rt: &impl Abort, alloc: Global, second: u32) -> Vec<u8> {
+    data_at(rt, alloc, second, 33_333)
+}
+
+/// PMU 7's data frame of this second, and so many microseconds behind it.
+pub(crate) fn data_at(rt: &impl Abort, alloc: Global, second: u32, micros: u32) -> Vec<u8> {
     let mut frame = Vec::new(alloc);
     frame.extend_from_slice(&DATA_7[..6]).expect(rt, "memory");
-    let soc = second.to_be_bytes();
-    frame.extend_from_slice(&soc).expect(rt, "memory");
+    for word in [second, micros] {
+        let bytes = word.to_be_bytes();
+        frame.extend_from_slice(&bytes).expect(rt, "memory");
+    }
     frame
-        .extend_from_slice(&DATA_7[10..24])
+        .extend_from_slice(&DATA_7[14..24])
         .expect(rt, "memory");
     let check = pg_wire::check(&frame).to_be_bytes();
     frame.extend_from_slice(&check).expect(rt, "memory");

@@ -9,7 +9,11 @@ mod doors;
 #[cfg(test)]
 mod frames;
 #[cfg(test)]
+mod layouts;
+#[cfg(test)]
 mod logging;
+#[cfg(test)]
+mod patience;
 #[cfg(test)]
 mod plans;
 #[cfg(test)]

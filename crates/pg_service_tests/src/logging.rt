@@ -308,4 +308,12 @@ fn lines_of_clocks_and_changes(rt: HostRuntime) {
         of_subscriber(&rt, 20, Notice::Refused, Detail::Between(second, first)),
         "subscriber 20: a connection was refused: 10.1.2.3:2, since 10.1.2.3:1 is connected (34 Busy)",
     );
+    says(
+        of_subscriber(&rt, 20, Notice::Misread, Detail::OfStream(2000)),
+        "subscriber 20: stream 2000: disconnected, since its blocks changed and a data frame could be read by the old CFG-2",
+    );
+    says(
+        of_subscriber(&rt, 20, Notice::ConfigSent, Detail::OfStream(2000)),
+        "subscriber 20: stream 2000: its blocks changed; CFG-2 sent unasked",
+    );
 }

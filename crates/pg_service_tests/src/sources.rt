@@ -1,11 +1,11 @@
 //! Sources over memory: budgets, silence, the clock's guard, and whose bytes are whose.
 use crate::asserts::same;
-use crate::frames::{CONFIG_7, DATA_7, after, gateway, source};
+use crate::frames::{CONFIG_7, DATA_7, after, data_at, gateway, source};
 use pg_fakes::{FakeGate, FakeReader, FakeWriter};
-use pg_gateway::Event;
-use pg_ingest::End;
-use pg_limits::{Budget, ClockGuard};
-use pg_service::{Clocks, Due, SourceLine, StopsShort, Turn, Watched};
+use pg_gateway::{Event, Gate, Reply};
+use pg_ingest::{End, Link, LinkEvent};
+use pg_limits::{AheadGuard, Budget, ClockGuard, Stamp};
+use pg_service::{Clocks, Due, Guarding, Guards, Seen, SourceLine, StopsShort, Turn, Watched};
 use std::alloc::Global;
 use std::io::{ErrorKind, Read};
 use std::process::Abort;
@@ -57,12 +57,22 @@ fn stream_of(rt: &impl Abort, alloc: Global, frames: u32) -> Vec<u8> {
     bytes
 }
 
+/// Guards of these limits in milliseconds; 0 is none.
+fn guards(near: u16, ahead: u16) -> Guards {
+    Guards {
+        near: Some(ClockGuard { limit: near }).filter(|guard| guard.limit > 0),
+        ahead: Some(AheadGuard { limit: ahead }).filter(|guard| guard.limit > 0),
+    }
+}
+
 /// A source that sends without end is left after 16 reads, and goes on in the next turn where it was: no frame is lost.
 #[test]
 fn budget_of_reads(rt: HostRuntime) {
     let alloc = rt.alloc();
     let now = Instant::now(&rt).expect(&rt, "a clock");
-    let mut line = SourceLine::new(alloc, source(&rt, 7), None, None, now).expect(&rt, "memory");
+    let mut line = SourceLine::new(alloc, source(&rt, 7), None, Guards::none(), now).expect(
+        &rt, "memory",
+    );
     let mut gate = Watched::new(fake_gate(alloc));
     let mut out = writer(alloc);
     let bytes = stream_of(&rt, alloc, 100);
@@ -70,12 +80,12 @@ fn budget_of_reads(rt: HostRuntime) {
     line.made(now);
     // 2,674 bytes are 26 whole reads of 100 and one of 74.
     let mut budget = reader(bytes.as_slice(), 100, 16);
-    let (turn, seen) = line.serve(&mut budget, &mut out, &mut gate, now, 0);
+    let (turn, seen) = line.serve(&mut budget, &mut out, &mut gate, now, 0, 0);
     same(&rt, turn, Turn::More);
     same(&rt, seen.events, 59);
     same(&rt, budget.reader.calls, 16);
     budget.left = 16;
-    let (turn, seen) = line.serve(&mut budget, &mut out, &mut gate, now, 0);
+    let (turn, seen) = line.serve(&mut budget, &mut out, &mut gate, now, 0, 0);
     same(&rt, seen.events, 42);
     same(&rt, turn, Turn::Ended(End::Closed));
     same(&rt, out.taken.as_slice(), ASKED_7);
@@ -88,7 +98,7 @@ fn silent_source(rt: HostRuntime) {
     let alloc = rt.alloc();
     let start = Instant::now(&rt).expect(&rt, "a clock");
     let silence = Some(Duration::from_secs(10));
-    let mut line = SourceLine::new(alloc, source(&rt, 7), silence, None, start).expect(
+    let mut line = SourceLine::new(alloc, source(&rt, 7), silence, Guards::none(), start).expect(
         &rt, "memory",
     );
     let mut gate = Watched::new(fake_gate(alloc));
@@ -102,13 +112,13 @@ fn silent_source(rt: HostRuntime) {
     }
     let mut budget = reader(wrong.as_slice(), 4096, 1);
     let at = after(&rt, start, 5_000);
-    let (turn, seen) = line.serve(&mut budget, &mut out, &mut gate, at, 0);
+    let (turn, seen) = line.serve(&mut budget, &mut out, &mut gate, at, 0, 0);
     assert!(rt; turn == Turn::More && seen.events == 0);
     same(&rt, line.due(after(&rt, start, 10_000)), Due::Silent);
     let good = stream_of(&rt, alloc, 1);
     let mut budget = reader(good.as_slice(), 4096, 1);
     let at = after(&rt, start, 9_000);
-    let (turn, seen) = line.serve(&mut budget, &mut out, &mut gate, at, 0);
+    let (turn, seen) = line.serve(&mut budget, &mut out, &mut gate, at, 0, 0);
     assert!(rt; turn == Turn::More && seen.events == 2);
     same(&rt, line.due(after(&rt, start, 10_000)), Due::Nothing);
     same(&rt, line.due(after(&rt, start, 19_000)), Due::Silent);
@@ -119,7 +129,7 @@ fn silent_source(rt: HostRuntime) {
     line.made(start);
     out.taken.clear();
     let mut budget = reader(DATA_7, 4096, 1);
-    let (_, seen) = line.serve(&mut budget, &mut out, &mut gate, start, 0);
+    let (_, seen) = line.serve(&mut budget, &mut out, &mut gate, start, 0, 0);
     same(&rt, seen.events, 0);
     same(&rt, out.taken.as_slice(), &ASKED_7[..18]);
 }
@@ -130,7 +140,7 @@ fn source_asked_again(rt: HostRuntime) {
     let alloc = rt.alloc();
     let start = Instant::now(&rt).expect(&rt, "a clock");
     let silence = Some(Duration::from_secs(10));
-    let mut line = SourceLine::new(alloc, source(&rt, 7), silence, None, start).expect(
+    let mut line = SourceLine::new(alloc, source(&rt, 7), silence, Guards::none(), start).expect(
         &rt, "memory",
     );
     let mut gate = Watched::new(fake_gate(alloc));
@@ -141,7 +151,7 @@ fn source_asked_again(rt: HostRuntime) {
     let mut bytes = stream_of(&rt, alloc, 0);
     bytes.extend_from_slice(&DATA_7[..10]).expect(&rt, "memory");
     let mut budget = reader(bytes.as_slice(), 4096, 1);
-    line.serve(&mut budget, &mut out, &mut gate, start, 0);
+    line.serve(&mut budget, &mut out, &mut gate, start, 0, 0);
     line.received(start);
     same(&rt, out.taken.as_slice(), ASKED_7);
     same(&rt, line.due(after(&rt, start, 2_999)), Due::Nothing);
@@ -150,7 +160,7 @@ fn source_asked_again(rt: HostRuntime) {
     out.taken.clear();
     let good = stream_of(&rt, alloc, 1);
     let mut budget = reader(good.as_slice(), 4096, 1);
-    let (turn, seen) = line.serve(&mut budget, &mut out, &mut gate, start, 0);
+    let (turn, seen) = line.serve(&mut budget, &mut out, &mut gate, start, 0, 0);
     assert!(rt; turn == Turn::More && seen.events == 2 && seen.measured == 1);
     same(&rt, out.taken.as_slice(), ASKED_7);
 }
@@ -160,14 +170,16 @@ fn source_asked_again(rt: HostRuntime) {
 fn ended_source(rt: HostRuntime) {
     let alloc = rt.alloc();
     let start = Instant::now(&rt).expect(&rt, "a clock");
-    let mut line = SourceLine::new(alloc, source(&rt, 7), None, None, start).expect(&rt, "memory");
+    let mut line = SourceLine::new(alloc, source(&rt, 7), None, Guards::none(), start).expect(
+        &rt, "memory",
+    );
     let mut gate = Watched::new(fake_gate(alloc));
     let mut out = writer(alloc);
     for pause in [1_000u64, 2_000] {
         line.called(start);
         line.made(start);
         let mut budget = reader(&CONFIG_7[..40], 4096, 16);
-        let (turn, _) = line.serve(&mut budget, &mut out, &mut gate, start, 0);
+        let (turn, _) = line.serve(&mut budget, &mut out, &mut gate, start, 0, 0);
         same(&rt, turn, Turn::Ended(End::Closed));
         same(&rt, line.due(after(&rt, start, pause - 1)), Due::Nothing);
         same(&rt, line.due(after(&rt, start, pause)), Due::Call);
@@ -175,7 +187,7 @@ fn ended_source(rt: HostRuntime) {
     line.called(start);
     line.made(start);
     let mut budget = reader(b"\xAB", 4096, 16);
-    let (turn, _) = line.serve(&mut budget, &mut out, &mut gate, start, 0);
+    let (turn, _) = line.serve(&mut budget, &mut out, &mut gate, start, 0, 0);
     same(&rt, turn, Turn::Ended(End::Fault(2)));
     assert!(rt; gate.into_inner().calls.is_empty());
 }
@@ -194,8 +206,8 @@ fn guarded_source(rt: HostRuntime) {
         (99_934, 0, 2),
     ];
     for (clock, far, posted) in rows {
-        let guard = Some(ClockGuard { limit: 100 });
-        let mut line = SourceLine::new(alloc, source(&rt, 7), None, guard, now).expect(
+        let near = guards(100, 0);
+        let mut line = SourceLine::new(alloc, source(&rt, 7), None, near, now).expect(
             &rt, "memory",
         );
         let mut gate = Watched::new(fake_gate(alloc));
@@ -204,7 +216,7 @@ fn guarded_source(rt: HostRuntime) {
         line.made(now);
         let bytes = stream_of(&rt, alloc, 1);
         let mut budget = reader(bytes.as_slice(), 4096, 1);
-        let (_, seen) = line.serve(&mut budget, &mut out, &mut gate, now, clock);
+        let (_, seen) = line.serve(&mut budget, &mut out, &mut gate, now, clock, 0);
         same(&rt, seen.far, far);
         assert!(rt; seen.events == 2 && seen.measured == 1);
         let off = seen.far_at.map(|stamp| stamp.ahead_of(clock));
@@ -223,19 +235,164 @@ fn guarded_source(rt: HostRuntime) {
     }
 }
 
+/// Serves source 7's CFG-2 and data frames of these microseconds behind second 100, so guarded: what was seen, and the microseconds of the
+/// frames that were posted at the gate inside, in their order.
+fn guarded(
+    rt: &(impl Abort + Eprint),
+    alloc: Global,
+    now: Instant,
+    guarding: Guarding,
+    frames: &[u32],
+) -> (Seen, Vec<u32>) {
+    let Guarding {
+        guards,
+        clock,
+        reference,
+    } = guarding;
+    let mut line = SourceLine::new(alloc, source(rt, 7), None, guards, now).expect(rt, "memory");
+    let mut gate = Watched::new(fake_gate(alloc));
+    let mut out = writer(alloc);
+    line.called(now);
+    line.made(now);
+    let mut bytes = stream_of(rt, alloc, 0);
+    for micros in frames {
+        let frame = data_at(rt, alloc, 100, *micros);
+        bytes.extend_from_slice(&frame).expect(rt, "memory");
+    }
+    let mut budget = reader(bytes.as_slice(), 4096, 1);
+    let (_, seen) = line.serve(&mut budget, &mut out, &mut gate, now, clock, reference);
+    let inner = gate.into_inner();
+    assert!(*rt; matches!(inner.calls.first(), Some(Event::Announce(_))));
+    let mut posted = Vec::new(alloc);
+    for event in inner.calls.iter().skip(1) {
+        match event {
+            Event::Measure(frame) => posted.push(frame.frac).expect(rt, "memory"),
+            _ => panic!(*rt; "no measurement"),
+        }
+    }
+    (seen, posted)
+}
+
+/// What reaches the gateway is each measurement that is no further ahead of the reference than `ahead_ms` and no further from the clock than
+/// `clock_ms`, whatever lies before it, and no other.
+#[test]
+fn timely_measurements_are_posted(rt: HostRuntime) {
+    let alloc = rt.alloc();
+    let now = Instant::now(&rt).expect(&rt, "a clock");
+    let rows: [(Guards, u64, u64, &[u32], &[u32]); 7] = [
+        // 200 ms ahead and 201 ms; a millionth of a second counts. The clock does not.
+        (
+            guards(0, 200),
+            0,
+            100_000,
+            &[0, 200_000, 201_000, 100_000],
+            &[0, 200_000, 100_000],
+        ),
+        (
+            guards(0, 200),
+            101_000,
+            100_000,
+            &[200_001, 200_000],
+            &[200_000],
+        ),
+        // Behind is never ahead.
+        (guards(0, 200), 0, 200_000, &[0, 999_999], &[0, 999_999]),
+        // Either way from the clock. The reference does not count.
+        (
+            guards(100, 0),
+            100_500,
+            0,
+            &[399_999, 400_000, 600_000, 600_001],
+            &[400_000, 600_000],
+        ),
+        // Near enough, and too far ahead of a reference of 99.85 s; and not near enough, but not ahead of one of 101 s.
+        (
+            guards(100, 200),
+            100_000,
+            99_850,
+            &[50_000, 51_000, 100_000, 101_000],
+            &[50_000],
+        ),
+        (
+            guards(100, 200),
+            100_000,
+            101_000,
+            &[50_000, 51_000, 100_000, 101_000],
+            &[50_000, 51_000, 100_000],
+        ),
+        // No guard takes all.
+        (
+            guards(0, 0),
+            0,
+            0,
+            &[0, 201_000, 999_999],
+            &[0, 201_000, 999_999],
+        ),
+    ];
+    for (guards, clock, reference, frames, wanted) in rows {
+        let guarding = Guarding {
+            guards,
+            clock,
+            reference,
+        };
+        let (seen, posted) = guarded(&rt, alloc, now, guarding, frames);
+        same(&rt, posted.as_slice(), wanted);
+        same(&rt, seen.measured, frames.len() as u64);
+        same(&rt, seen.far, (frames.len() - wanted.len()) as u64);
+    }
+}
+
+/// A measurement that is 201 ms ahead is refused as FarClock (21), and its time is told; one that is 200 ms ahead is answered by the gate
+/// inside.
+#[test]
+fn refused_as_far_clock(rt: HostRuntime) {
+    let alloc = rt.alloc();
+    let mut link = Link::new(alloc, source(&rt, 7)).expect(&rt, "memory");
+    link.feed(CONFIG_7);
+    assert!(&rt; matches!(link.next_event(), LinkEvent::Announce(_)));
+    let mut gate = Watched::new(fake_gate(alloc));
+    gate.guard(Guarding {
+        guards: guards(0, 200),
+        clock: 0,
+        reference: 100_000,
+    });
+    for (micros, refused) in [(200_000u32, None), (201_000, Some(21u8)), (200_000, None)] {
+        let bytes = data_at(&rt, alloc, 100, micros);
+        assert!(&rt; bytes.len() <= link.room());
+        link.feed(&bytes);
+        let LinkEvent::Measure(frame) = link.next_event() else {
+            panic!(rt; "no measurement");
+        };
+        let answer = match gate.post(Event::Measure(frame)) {
+            Reply::Refused(refusal) => Some(refusal.number()),
+            _ => None,
+        };
+        same(&rt, answer, refused);
+    }
+    let far = Stamp {
+        soc: 100,
+        frac: 201_000,
+        base: 1_000_000,
+    };
+    same(&rt, gate.take_seen().far_at, Some(far));
+    same(&rt, gate.into_inner().calls.len(), 2);
+}
+
 /// What a source's events made is told, so that those who serve subscribers are woken.
 #[test]
 fn made_is_told(rt: HostRuntime) {
     let alloc = rt.alloc();
     let now = Instant::now(&rt).expect(&rt, "a clock");
-    let mut line = SourceLine::new(alloc, source(&rt, 7), None, None, now).expect(&rt, "memory");
+    let mut line = SourceLine::new(alloc, source(&rt, 7), None, Guards::none(), now).expect(
+        &rt, "memory",
+    );
     let mut gate = Watched::new(gateway(&rt, alloc));
     let mut out = writer(alloc);
     line.called(now);
     line.made(now);
     let bytes = stream_of(&rt, alloc, 1);
     let mut budget = reader(bytes.as_slice(), 4096, 1);
-    let (_, seen) = line.serve(&mut budget, &mut out, &mut gate, now, 0);
+    let (_, seen) = line.serve(&mut budget, &mut out, &mut gate, now, 0, 0);
     // Both streams are off.
     assert!(rt; seen.events == 2 && seen.made == 0);
 }

@@ -115,6 +115,10 @@ fn gaps_are_told(rt: HostRuntime) {
     let seen = gate.take_seen();
     assert!(rt; seen.switched.at(0) == Some((101, true)) && seen.switched.at(1).is_none());
     same(&rt, seen.gap, 0);
+    same(&rt, seen.configured.find(101), Some(true));
+    same(&rt, seen.configured.at(1), None);
+    // One behind the bytes that were read, and one where no more came.
+    same(&rt, seen.drains, 2);
     for second in 100..107 {
         let frame = data_of(&rt, alloc, second);
         hear(&rt, alloc, &mut link, &frame, &mut gate);
@@ -135,5 +139,8 @@ fn each_switch_is_told(rt: HostRuntime) {
     assert!(rt; !switched.is_empty());
     same(&rt, switched.at(0), Some((101, false)));
     same(&rt, switched.at(1), Some((2000, true)));
+    same(&rt, switched.find(101), Some(false));
+    same(&rt, switched.find(2000), Some(true));
+    assert!(rt; switched.find(102).is_none());
     assert!(rt; switched.at(2).is_none() && switched.at(8).is_none());
 }

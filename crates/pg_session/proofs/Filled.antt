@@ -1,13 +1,12 @@
 -- Blocks of a data frame that leave no slot of a stream open behind them.
-use Rattle.std.proofs.Common.{length-append, ◌≡◌, ◌⊎◌, ◌||◌, not, inl, inr, get_or, ℕ, zero, suc, ◌+◌, ◌<◌, ◌≤◌, ◌&&◌, ◌==◌, nat_lt, List, [], ◌∷◌, length, map, drop, replicate, slice_set, slice_index_or, Bool, true, false, if◌then◌else◌, IsTrue, Option, Some, None, IfSome, IfOk, is_some, slice_get, option_map, Result, Ok, Err, refl, sym, ap, subst, ◌∙◌, arith}
+use Rattle.std.proofs.Common.{length-append, ◌≡◌, ◌⊎◌, ◌||◌, not, inl, inr, get_or, ℕ, zero, suc, ◌+◌, ◌<◌, ◌≤◌, ◌&&◌, ◌==◌, nat_lt, List, [], ◌∷◌, length, drop, replicate, slice_set, slice_index_or, Bool, true, false, if◌then◌else◌, IsTrue, Option, Some, None, IfSome, IfOk, is_some, slice_get, option_map, Result, Ok, Err, refl, sym, ap, subst, ◌∙◌, arith}
 use Rattle.std.proofs.lemmas.Grind.{common_steps}
 use Rattle.std.proofs.lemmas.List.{drop_all, length-map, length-set, length-replicate}
 use Rattle.pg_wire.specs.declared.ids.PmuKey.{PmuKey}
 use Rattle.pg_data.specs.Measurements.{Measurement, IsMeasurement}
 use Rattle.pg_data.specs.Pieces.{Piece, piece_of}
-use Rattle.pg_align.specs.Histories.{Departed, Departures, is_above, has_all, with_first}
-use Rattle.pg_align.specs.Slots.{Aligned, OpenSlot, with_arrival, answer_at, part_at, with_last, leaves_now, all_leaving, head_with}
-use Rattle.pg_align.specs.declared.answer.Arrived.{Arrived}
+use Rattle.pg_align.specs.Histories.{Departures, is_above, has_all}
+use Rattle.pg_align.specs.Slots.{Aligned, OpenSlot, with_arrival, answer_at, with_last, all_leaving, head_with}
 use Rattle.pg_align.specs.declared.answer.Arrived.TheVariants.{Kept}
 use Rattle.pg_outcfg.specs.Listing.{Listing}
 use Rattle.pg_outcfg.specs.Ordered.{AreBlocks, AreMembers, pieces_in}

@@ -1,18 +1,17 @@
 -- A frame's only block: copies of it lie ready, and it arrives at each stream that has it as a member's.
-use Rattle.std.proofs.Common.{length-append, All, ◌≡◌, ◌⊎◌, inl, inr, ℕ, zero, suc, ◌+◌, ◌-◌, ◌<◌, ◌≤◌, ◌&&◌, ◌||◌, ◌==◌, not, nat_lt, List, [], ◌∷◌, ◌++◌, length, map, take, drop, replicate, get_or, slice_get, slice_set, slice_index_or, Bool, true, false, if◌then◌else◌, IsTrue, Option, Some, None, IfSome, is_some, Result, Ok, Err, refl, sym, ap, ap₂, ◌∙◌, subst, arith}
+use Rattle.std.proofs.Common.{length-append, All, ◌≡◌, ◌⊎◌, inl, inr, ℕ, zero, suc, ◌+◌, ◌-◌, ◌<◌, ◌≤◌, ◌&&◌, ◌||◌, ◌==◌, not, nat_lt, List, [], ◌∷◌, ◌++◌, length, map, take, drop, replicate, get_or, slice_get, slice_set, slice_index_or, Bool, true, false, if◌then◌else◌, Option, Some, None, IfSome, is_some, Ok, refl, sym, ap, ap₂, ◌∙◌, subst, arith}
 use Rattle.std.proofs.lemmas.Grind.{common_steps}
 use Rattle.std.proofs.lemmas.List.{drop_more, length-map, length-set, length-replicate, take-replicate, replicate-append-replicate}
 use Rattle.circular_buffer.specs.Buffer.{last_item}
 use Rattle.pg_wire.specs.declared.ids.PmuKey.{PmuKey}
-use Rattle.pg_wire.specs.declared.refusal.Refusal.{Refusal}
-use Rattle.pg_config.specs.Parts.{Part, block_id}
+use Rattle.pg_config.specs.Parts.{block_id}
 use Rattle.pg_data.specs.Measurements.{Measurement, IsMeasurement, block_of}
 use Rattle.pg_data.specs.Pieces.{Piece, piece_of}
 use Rattle.pg_audit.specs.declared.counters.Stats.{Stats}
 use Rattle.pg_align.specs.declared.answer.Arrived.{Arrived}
 use Rattle.pg_align.specs.declared.answer.Arrived.TheVariants.{Kept, Late, Twice}
 use Rattle.pg_align.specs.Histories.{is_above}
-use Rattle.pg_align.specs.Slots.{Aligned, OpenSlot, answer_at, with_arrival, all_leaving, with_last, head_with}
+use Rattle.pg_align.specs.Slots.{Aligned, OpenSlot, with_last, head_with}
 use Rattle.pg_outcfg.specs.Listing.{Listing}
 use Rattle.pg_stream.specs.Slots.{slot_at}
 use Rattle.pg_session.specs.Events.{Sample, key_in, measure, samples_at, sampled_part}
@@ -21,7 +20,7 @@ use Rattle.pg_session.specs.Output.{all_ignored}
 use Rattle.pg_session.specs.Kept.{by_slots}
 use Rattle.pg_session.specs.Ready.{ArePlaces, IsReady}
 use Rattle.pg_session.specs.Fields.{one_ignored, kept_of, all_kept, Serving}
-use Rattle.pg_session.specs.Filling.{are_all, can_leave, fills, all_fill, may_keep, is_full, filled, count_keeping, IsSpread, IsLaidFor}
+use Rattle.pg_session.specs.Filling.{are_all, can_leave, fills, all_fill, may_keep, is_full, count_keeping, IsSpread, IsLaidFor}
 use Rattle.pg_session.specs.Shown.{SubscriberValue}
 use Rattle.pg_session.specs.Wanted.{piece_of_placed, wanted_of, all_wanted}
 use Rattle.pg_session.proofs.Arrivals.{placed_next}

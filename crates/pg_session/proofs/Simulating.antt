@@ -21,6 +21,7 @@ use Rattle.pg_session.specs.Streams.{StreamOf, Turn, PlacedBlock, Arrivals, plac
 use Rattle.pg_session.specs.ByAll.{by_arrivals}
 use Rattle.pg_session.specs.Kept.{by_slots}
 use Rattle.pg_session.specs.Shown.{StreamShows}
+use Rattle.pg_session.specs.declared.layouts.Layouts.{Layouts}
 
 -- what the code makes of a stream shows what the model makes of it
 pub record TurnShows (t : Turn (Aligned Piece)) (u : Turn (StreamHistory Piece)) : Type 0 where
@@ -31,23 +32,24 @@ pub record TurnShows (t : Turn (Aligned Piece)) (u : Turn (StreamHistory Piece))
   pub past : t.past ≡ u.past
 
 -- a stream by its parts
-abbrev pub stream_of : {A : Type 0} → Definition → A → ℕ → StreamOf A
-stream_of d a count = record { definition = d; slots = a; count = count }
+abbrev pub stream_of : {A : Type 0} → Definition → A → ℕ → Layouts → StreamOf A
+stream_of d a count layouts = record { definition = d; slots = a; count = count; layouts = layouts }
 
--- what holds of streams with one definition and one count holds of streams that show one another
+-- what holds of streams with one definition, one count and the same layouts holds of streams that show one another
 pub lifted : (Q : StreamOf (Aligned Piece) → StreamOf (StreamHistory Piece) → Type 0)
-    → ((d : Definition) (a : Aligned Piece) (h : StreamHistory Piece) (count : ℕ) → align.Shows a h → length a.effective ≡ length d.members
-    → Q (stream_of d a count) (stream_of d h count))
+    → ((d : Definition) (a : Aligned Piece) (h : StreamHistory Piece) (count : ℕ) (layouts : Layouts) → align.Shows a h → length a.effective ≡ length d.members
+    → Q (stream_of d a count layouts) (stream_of d h count layouts))
     → (s : StreamOf (Aligned Piece)) (t : StreamOf (StreamHistory Piece)) → StreamShows s t → Q s t
 lifted Q f s t w =
-    subst (λ d. Q s (stream_of d t.slots t.count)) w.definition
-    (subst (λ count. Q s (stream_of s.definition t.slots count)) w.count
-    (f s.definition s.slots t.slots s.count w.slots w.places))
+    subst (λ d. Q s (stream_of d t.slots t.count t.layouts)) w.definition
+    (subst (λ count. Q s (stream_of s.definition t.slots count t.layouts)) w.count
+    (subst (λ layouts. Q s (stream_of s.definition t.slots s.count layouts)) w.layouts
+    (f s.definition s.slots t.slots s.count s.layouts w.slots w.places)))
 
-still-shows : (d : Definition) (a : Aligned Piece) (h : StreamHistory Piece) (count : ℕ) → align.Shows a h → length a.effective ≡ length d.members
-    → TurnShows (still (stream_of d a count)) (still (stream_of d h count))
-still-shows d a h count s n = record {
-  stream = record { definition = refl; slots = s; places = n; count = refl };
+still-shows : (d : Definition) (a : Aligned Piece) (h : StreamHistory Piece) (count : ℕ) (layouts : Layouts) → align.Shows a h → length a.effective ≡ length d.members
+    → TurnShows (still (stream_of d a count layouts)) (still (stream_of d h count layouts))
+still-shows d a h count layouts s n = record {
+  stream = record { definition = refl; slots = s; places = n; count = refl; layouts = refl };
   frames = refl;
   late = refl;
   twice = refl;
@@ -69,12 +71,12 @@ pub flushed-effective : (a : Aligned Piece) (slots : List (OpenSlot Piece)) → 
 flushed-effective a [] = refl
 flushed-effective a (slot ∷ slots) = flushed-effective (without_first a (slot ∷ slots)) slots
 
-framed-shows : (listed : Listing) (d : Definition) (a : Aligned Piece) (h : StreamHistory Piece) (count : ℕ)
+framed-shows : (listed : Listing) (d : Definition) (a : Aligned Piece) (h : StreamHistory Piece) (count : ℕ) (layouts : Layouts)
     (x : Departures Piece (Aligned Piece)) (y : Departures Piece (StreamHistory Piece))
     → x.frames ≡ y.frames → align.Shows x.after y.after → length x.after.effective ≡ length d.members
-    → TurnShows (framed by_slots listed (stream_of d a count) x) (framed by_arrivals listed (stream_of d h count) y)
-framed-shows listed d a h count x y frames after n = record {
-  stream = record { definition = refl; slots = after; places = n; count = refl };
+    → TurnShows (framed by_slots listed (stream_of d a count layouts) x) (framed by_arrivals listed (stream_of d h count layouts) y)
+framed-shows listed d a h count layouts x y frames after n = record {
+  stream = record { definition = refl; slots = after; places = n; count = refl; layouts = refl };
   frames = ap (map (slot_frame d listed)) frames;
   late = refl;
   twice = refl;
@@ -82,18 +84,19 @@ framed-shows listed d a h count x y frames after n = record {
 }
 
 -- The CFG-1 list becomes another one.
-reshape_by : (listed other : Listing) (d : Definition) (a : Aligned Piece) (h : StreamHistory Piece) (count counted : ℕ) → align.Shows a h
+reshape_by : (listed other : Listing) (d : Definition) (a : Aligned Piece) (h : StreamHistory Piece) (count counted : ℕ) (layouts : Layouts) → align.Shows a h
     → length a.effective ≡ length d.members → (b : Bool) → same_shape d.members listed other ≡ b
     → (if same_list listed other then count else changed count) ≡ counted
-    → TurnShows (reshape_turn by_slots listed other (stream_of d a count)) (reshape_turn by_arrivals listed other (stream_of d h count))
-reshape_by listed other d a h count counted s n true e c = rw (e, c) (still-shows d a h counted s n)
-reshape_by listed other d a h count counted s n false e c =
+    → TurnShows (reshape_turn by_slots listed other (stream_of d a count layouts)) (reshape_turn by_arrivals listed other (stream_of d h count layouts))
+reshape_by listed other d a h count counted layouts s n true e c = rw (e, c) (still-shows d a h counted layouts s n)
+reshape_by listed other d a h count counted layouts s n false e c =
     rw (e, c) record {
       stream = record {
         definition = refl;
         slots = Shows-reshape (all_flushed a).after (flush_all h).after (effective_in other d.members) (Shows-flushed_end a h s) (all_flushed-none_open a);
         places = length-map d.members (λ key. is_some (config_at other key));
         count = refl;
+        layouts = refl;
       };
       frames = ap (map (slot_frame d listed)) (Shows-flushed_frames a h s);
       late = refl;
@@ -105,7 +108,7 @@ pub reshape-shows : (listed other : Listing) (s : StreamOf (Aligned Piece)) (t :
     → TurnShows (reshape_turn by_slots listed other s) (reshape_turn by_arrivals listed other t)
 reshape-shows listed other =
     lifted (λ s t. TurnShows (reshape_turn by_slots listed other s) (reshape_turn by_arrivals listed other t))
-    (λ d a h count s n. reshape_by listed other d a h count _ s n _ refl refl)
+    (λ d a h count layouts s n. reshape_by listed other d a h count _ layouts s n _ refl refl)
 
 -- each place is a member's
 abbrev pub AreWithin : ℕ → List PlacedBlock → Type 0
@@ -151,17 +154,17 @@ arrivals-show d a h slot (p ∷ ps) s on n w =
       twice = ap₂ (λ answer k. is_twice answer + k) here.0 rest.twice;
     }
 
-arrival_by : (listed : Listing) (d : Definition) (a : Aligned Piece) (h : StreamHistory Piece) (count : ℕ) (blocks : List PlacedBlock) (slot : Result ℕ Refusal)
+arrival_by : (listed : Listing) (d : Definition) (a : Aligned Piece) (h : StreamHistory Piece) (count : ℕ) (layouts : Layouts) (blocks : List PlacedBlock) (slot : Result ℕ Refusal)
     → align.Shows a h → IsTrue a.is_on → length a.effective ≡ length d.members → AreWithin (length d.members) blocks
-    → TurnShows (arrival_turn by_slots listed (stream_of d a count) blocks slot) (arrival_turn by_arrivals listed (stream_of d h count) blocks slot)
-arrival_by listed d a h count blocks (Err r) s on n w = record {
-  stream = record { definition = refl; slots = s; places = n; count = refl };
+    → TurnShows (arrival_turn by_slots listed (stream_of d a count layouts) blocks slot) (arrival_turn by_arrivals listed (stream_of d h count layouts) blocks slot)
+arrival_by listed d a h count layouts blocks (Err r) s on n w = record {
+  stream = record { definition = refl; slots = s; places = n; count = refl; layouts = refl };
   frames = refl;
   late = refl;
   twice = refl;
   past = refl;
 }
-arrival_by listed d a h count blocks (Ok slot) s on n w =
+arrival_by listed d a h count layouts blocks (Ok slot) s on n w =
     let arrived = arrivals-show d a h slot blocks s on n w in
     record {
       stream = record {
@@ -169,6 +172,7 @@ arrival_by listed d a h count blocks (Ok slot) s on n w =
         slots = Shows-end _ _ arrived.slots;
         places = ap length (leaving-effective _ _) ∙ arrived.places;
         count = refl;
+        layouts = refl;
       };
       frames = ap (map (slot_frame d listed)) (Shows-frames _ _ arrived.slots);
       late = arrived.late;
@@ -195,29 +199,29 @@ pub measure-shows : (listed : Listing) (soc quality frac : ℕ) (samples : List 
     → TurnShows (measure_turn by_slots listed soc quality frac samples s) (measure_turn by_arrivals listed soc quality frac samples t)
 measure-shows listed soc quality frac samples =
     lifted (λ s t. TurnShows (measure_turn by_slots listed soc quality frac samples s) (measure_turn by_arrivals listed soc quality frac samples t))
-    (λ d a h count s n.
+    (λ d a h count layouts s n.
     let blocks = placed d.members quality samples in
     let slot = slot_at d.rate (base_of samples) soc frac in
     let some = nat_lt 0 (length blocks) in
     turn_by (a.is_on && some) (h.is_on && some)
-    (arrival_turn by_slots listed (stream_of d a count) blocks slot) (still (stream_of d a count))
-    (arrival_turn by_arrivals listed (stream_of d h count) blocks slot) (still (stream_of d h count))
+    (arrival_turn by_slots listed (stream_of d a count layouts) blocks slot) (still (stream_of d a count layouts))
+    (arrival_turn by_arrivals listed (stream_of d h count layouts) blocks slot) (still (stream_of d h count layouts))
     (ap (λ b. b && some) (same_on a h s))
-    (λ e. arrival_by listed d a h count blocks slot s (and_first a.is_on some e) n (placed-within d.members quality samples))
-    (still-shows d a h count s n))
+    (λ e. arrival_by listed d a h count layouts blocks slot s (and_first a.is_on some e) n (placed-within d.members quality samples))
+    (still-shows d a h count layouts s n))
 
-ticked-shows : (listed : Listing) (d : Definition) (a : Aligned Piece) (h : StreamHistory Piece) (count : ℕ) → align.Shows a h → length a.effective ≡ length d.members
-    → TurnShows (framed by_slots listed (stream_of d a count) (by_slots.leave (by_slots.tick a)))
-    (framed by_arrivals listed (stream_of d h count) (by_arrivals.leave (by_arrivals.tick h)))
-ticked-shows listed d a h count s n =
+ticked-shows : (listed : Listing) (d : Definition) (a : Aligned Piece) (h : StreamHistory Piece) (count : ℕ) (layouts : Layouts) → align.Shows a h → length a.effective ≡ length d.members
+    → TurnShows (framed by_slots listed (stream_of d a count layouts) (by_slots.leave (by_slots.tick a)))
+    (framed by_arrivals listed (stream_of d h count layouts) (by_arrivals.leave (by_arrivals.tick h)))
+ticked-shows listed d a h count layouts s n =
     let ticked = Shows-tick a h s in
-    framed-shows listed d a h count _ _ (Shows-frames _ _ ticked) (Shows-end _ _ ticked) (ap length (leaving-effective _ _) ∙ n)
+    framed-shows listed d a h count layouts _ _ (Shows-frames _ _ ticked) (Shows-end _ _ ticked) (ap length (leaving-effective _ _) ∙ n)
 
 pub tick-shows : (listed : Listing) (s : StreamOf (Aligned Piece)) (t : StreamOf (StreamHistory Piece)) → StreamShows s t
     → TurnShows (tick_turn by_slots listed s) (tick_turn by_arrivals listed t)
 tick-shows listed =
     lifted (λ s t. TurnShows (tick_turn by_slots listed s) (tick_turn by_arrivals listed t))
-    (λ d a h count s n. turn_by a.is_on h.is_on
-    (framed by_slots listed (stream_of d a count) (by_slots.leave (by_slots.tick a))) (still (stream_of d a count))
-    (framed by_arrivals listed (stream_of d h count) (by_arrivals.leave (by_arrivals.tick h))) (still (stream_of d h count))
-    (same_on a h s) (λ e. ticked-shows listed d a h count s n) (still-shows d a h count s n))
+    (λ d a h count layouts s n. turn_by a.is_on h.is_on
+    (framed by_slots listed (stream_of d a count layouts) (by_slots.leave (by_slots.tick a))) (still (stream_of d a count layouts))
+    (framed by_arrivals listed (stream_of d h count layouts) (by_arrivals.leave (by_arrivals.tick h))) (still (stream_of d h count layouts))
+    (same_on a h s) (λ e. ticked-shows listed d a h count layouts s n) (still-shows d a h count layouts s n))

@@ -9,6 +9,7 @@ use Rattle.pg_outcfg.specs.Listing.{Listing}
 use Rattle.pg_ring.specs.Shown.{Queue, bytes_to_leave, frames_to_leave, saturated}
 use Rattle.pg_session.specs.declared.standing.Standing.{Standing}
 use Rattle.pg_session.specs.declared.standing.StreamStanding.{StreamStanding}
+use Rattle.pg_session.specs.declared.layouts.Layouts.{Layouts}
 use Rattle.pg_session.specs.Streams.{StreamOf}
 use Rattle.pg_session.specs.Shown.{Model, Own, StreamShows, StreamsShow, OwnShows}
 use Rattle.pg_session.specs.ByAll.{by_arrivals}
@@ -18,13 +19,15 @@ use Rattle.pg_session.specs.Standing.{stream_standing, standing_of, own_standing
 same_stream : (listed : Listing) (s : StreamOf (Aligned Piece)) (t : StreamOf (StreamHistory Piece)) → StreamShows s t
     → stream_standing by_slots listed s ≡ stream_standing by_arrivals listed t
 same_stream listed s t shows =
-    let stands : Definition → Bool → StreamStanding = λ d on. record {
+    let stands : Definition → Bool → Layouts → StreamStanding = λ d on layouts. record {
       stream = d.stream;
       is_on = on;
       effective = length (effective_of listed d.members);
       members = length d.members;
+      layouts = layouts;
     } in
-    ap₂ stands shows.definition (ap (λ a. a.is_on) shows.slots.same)
+    ap₂ (λ d on. stands d on s.layouts) shows.definition (ap (λ a. a.is_on) shows.slots.same)
+    ∙ ap (stands t.definition t.slots.is_on) shows.layouts
 
 same_place : (listed : Listing) (ss : List (StreamOf (Aligned Piece))) (ts : List (StreamOf (StreamHistory Piece))) (place : ℕ) → StreamsShow ss ts
     → option_map (stream_standing by_slots listed) (slice_get ss place) ≡ option_map (stream_standing by_arrivals listed) (slice_get ts place)

@@ -1,5 +1,5 @@
 -- One step of what is kept shows one step of the private gateway.
-use Rattle.std.proofs.Common.{◌≡◌, ◌⊎◌, ℕ, zero, suc, ◌+◌, ◌-◌, ◌≤◌, ◌&&◌, ◌==◌, nat_le, List, [], ◌∷◌, ◌++◌, length, map, filter, take, min, Bool, true, false, not, if◌then◌else◌, is_some, unwrap_or, option_map, Option, Some, None, MatchOption, inl, inr, refl, sym, ap, ap₂, ◌∙◌, arith, subst}
+use Rattle.std.proofs.Common.{◌≡◌, ◌⊎◌, ℕ, zero, suc, ◌+◌, ◌-◌, ◌%◌, ◌^◌, ◌≤◌, ◌&&◌, ◌==◌, nat_le, List, [], ◌∷◌, ◌++◌, length, map, filter, take, min, Bool, true, false, not, if◌then◌else◌, is_some, unwrap_or, option_map, Option, Some, None, MatchOption, inl, inr, refl, sym, ap, ap₂, ◌∙◌, arith, subst}
 use Rattle.std.specs.List.{flat_map}
 use Rattle.std.proofs.lemmas.List.{length-map, length_push}
 use Rattle.pg_wire.specs.declared.refusal.Refusal.{Refusal}
@@ -24,7 +24,7 @@ use Rattle.pg_entitle.specs.Grants.{has_key, granted, without_key}
 use Rattle.pg_outcfg.specs.Frames.{cfg1_frame, cfg2_frame, header_frame}
 use Rattle.pg_outcfg.specs.Listing.{Listing, config_at, without_config}
 use Rattle.pg_session.specs.Events.{Happening, grant, revoke, announce, measure, define, remove, tick, connect, hangup, command, drain}
-use Rattle.pg_session.specs.Streams.{StreamOf, Turn, still, effective_in, reshape_turn}
+use Rattle.pg_session.specs.Streams.{StreamOf, Turn, still, effective_in, first_layout, frame_len, reshape_turn}
 use Rattle.pg_session.specs.Output.{Output, all_ignored, kept_frame, lost_frame, frames_made, ignored, turns_taken}
 use Rattle.pg_session.specs.ByAll.{by_arrivals, by_numbers}
 use Rattle.pg_session.specs.Kept.{by_slots, by_gaps}
@@ -131,28 +131,37 @@ turned-frames (t ∷ ts) [] w = absurd w
 turned-frames (t ∷ ts) (u ∷ us) w = ap₂ (λ fs gs. fs ++ gs) w.0.frames (turned-frames ts us w.1)
 
 -- What holds of two states that differ in their streams and queues alone holds of a state that shows another.
-abbrev own_of : {A Q : Type 0} → Bool → List PmuKey → Listing → Stats → Option ℕ → List (StreamOf A) → Q → private.Private A Q
-own_of c g l s t streams queue =
-    record { connected = c; grants = g; listed = l; streams = streams; output = record { queue = queue; stats = s }; last_tick = t }
+abbrev own_of : {A Q : Type 0} → Bool → List PmuKey → Listing → Stats → Option ℕ → ℕ → List (StreamOf A) → Q → private.Private A Q
+own_of c g l s t n streams queue = record {
+  connected = c;
+  grants = g;
+  listed = l;
+  streams = streams;
+  output = record { queue = queue; stats = s };
+  last_tick = t;
+  definitions = n;
+}
 
 lifted_own : (P : Own → Model → Type 0)
-    → ((c : Bool) (g : List PmuKey) (l : Listing) (s : Stats) (t : Option ℕ) (ss : List (StreamOf (Aligned Piece))) (ts : List (StreamOf (StreamHistory Piece)))
-    (q : Queue) (m : Numbered) → StreamsShow ss ts → ring.ShowsNumbered q m → P (own_of c g l s t ss q) (own_of c g l s t ts m))
+    → ((c : Bool) (g : List PmuKey) (l : Listing) (s : Stats) (t : Option ℕ) (n : ℕ) (ss : List (StreamOf (Aligned Piece)))
+    (ts : List (StreamOf (StreamHistory Piece))) (q : Queue) (m : Numbered) → StreamsShow ss ts → ring.ShowsNumbered q m
+    → P (own_of c g l s t n ss q) (own_of c g l s t n ts m))
     → (v : Own) (p : Model) → OwnShows v p → P v p
 lifted_own P f v p w =
-    subst (λ c. P v (own_of c p.grants p.listed p.output.stats p.last_tick p.streams p.output.queue)) w.connected
-    (subst (λ g. P v (own_of v.connected g p.listed p.output.stats p.last_tick p.streams p.output.queue)) w.grants
-    (subst (λ l. P v (own_of v.connected v.grants l p.output.stats p.last_tick p.streams p.output.queue)) w.listed
-    (subst (λ s. P v (own_of v.connected v.grants v.listed s p.last_tick p.streams p.output.queue)) w.stats
-    (subst (λ t. P v (own_of v.connected v.grants v.listed v.output.stats t p.streams p.output.queue)) w.last_tick
-    (f v.connected v.grants v.listed v.output.stats v.last_tick v.streams p.streams v.output.queue p.output.queue w.streams w.queue)))))
+    subst (λ c. P v (own_of c p.grants p.listed p.output.stats p.last_tick p.definitions p.streams p.output.queue)) w.connected
+    (subst (λ g. P v (own_of v.connected g p.listed p.output.stats p.last_tick p.definitions p.streams p.output.queue)) w.grants
+    (subst (λ l. P v (own_of v.connected v.grants l p.output.stats p.last_tick p.definitions p.streams p.output.queue)) w.listed
+    (subst (λ s. P v (own_of v.connected v.grants v.listed s p.last_tick p.definitions p.streams p.output.queue)) w.stats
+    (subst (λ t. P v (own_of v.connected v.grants v.listed v.output.stats t p.definitions p.streams p.output.queue)) w.last_tick
+    (subst (λ n. P v (own_of v.connected v.grants v.listed v.output.stats v.last_tick n p.streams p.output.queue)) w.definitions
+    (f v.connected v.grants v.listed v.output.stats v.last_tick v.definitions v.streams p.streams v.output.queue p.output.queue w.streams w.queue))))))
 
-shows_of : (c : Bool) (g : List PmuKey) (l : Listing) (s : Stats) (t : Option ℕ) (ss : List (StreamOf (Aligned Piece))) (ts : List (StreamOf (StreamHistory Piece)))
+shows_of : (c : Bool) (g : List PmuKey) (l : Listing) (s : Stats) (t : Option ℕ) (n : ℕ) (ss : List (StreamOf (Aligned Piece))) (ts : List (StreamOf (StreamHistory Piece)))
     (o : Output Queue) (p : Output Numbered) → StreamsShow ss ts → OutputShows o p
-    → OwnShows (record { connected = c; grants = g; listed = l; streams = ss; output = o; last_tick = t })
-    (record { connected = c; grants = g; listed = l; streams = ts; output = p; last_tick = t })
-shows_of c g l s t ss ts o p w h =
-    record { connected = refl; grants = refl; listed = refl; streams = w; queue = h.queue; stats = h.stats; last_tick = refl }
+    → OwnShows (record { connected = c; grants = g; listed = l; streams = ss; output = o; last_tick = t; definitions = n })
+    (record { connected = c; grants = g; listed = l; streams = ts; output = p; last_tick = t; definitions = n })
+shows_of c g l s t n ss ts o p w h =
+    record { connected = refl; grants = refl; listed = refl; streams = w; queue = h.queue; stats = h.stats; last_tick = refl; definitions = refl }
 
 still-each : (s : StreamOf (Aligned Piece)) (t : StreamOf (StreamHistory Piece)) → StreamShows s t → TurnShows (still s) (still t)
 still-each s t w = record { stream = w; frames = refl; late = refl; twice = refl; past = refl }
@@ -167,15 +176,15 @@ grant_turns false l other ss ts w = turns-map _ _ (reshape-shows l other) ss ts 
 
 turns_shown : (e : Happening) (v : Own) (p : Model) → OwnShows v p → TurnsOf e v p
 turns_shown (grant key config) = lifted_own (TurnsOf (grant key config))
-    (λ c g l s t ss ts q m w h. grant_turns _ l (put_first l key config) ss ts w)
+    (λ c g l s t n ss ts q m w h. grant_turns _ l (put_first l key config) ss ts w)
 turns_shown (revoke key) = lifted_own (TurnsOf (revoke key))
-    (λ c g l s t ss ts q m w h. turns-map _ _ (reshape-shows l (without_config l key)) ss ts w)
+    (λ c g l s t n ss ts q m w h. turns-map _ _ (reshape-shows l (without_config l key)) ss ts w)
 turns_shown (announce list) = lifted_own (TurnsOf (announce list))
-    (λ c g l s t ss ts q m w h. turns-map _ _ (reshape-shows l (put_all l list)) ss ts w)
+    (λ c g l s t n ss ts q m w h. turns-map _ _ (reshape-shows l (put_all l list)) ss ts w)
 turns_shown (measure soc quality frac samples) = lifted_own (TurnsOf (measure soc quality frac samples))
-    (λ c g l s t ss ts q m w h. turns-map _ _ (measure-shows l soc quality frac samples) ss ts w)
+    (λ c g l s t n ss ts q m w h. turns-map _ _ (measure-shows l soc quality frac samples) ss ts w)
 turns_shown (tick soc) = lifted_own (TurnsOf (tick soc))
-    (λ c g l s t ss ts q m w h. turns-map _ _ (tick-shows l) ss ts w)
+    (λ c g l s t n ss ts q m w h. turns-map _ _ (tick-shows l) ss ts w)
 turns_shown (define definition) = λ v p w. tt
 turns_shown (remove number) = λ v p w. tt
 turns_shown connect = λ v p w. tt
@@ -200,6 +209,7 @@ turned_shown e kept v p w =
       queue = out.queue;
       stats = out.stats;
       last_tick = w.last_tick;
+      definitions = w.definitions;
     }
 
 -- the stream of a number
@@ -231,32 +241,32 @@ abbrev Refuses : Happening → Own → Model → Type 0
 Refuses e v p = private.refusal by_slots by_gaps v e ≡ private.refusal by_arrivals by_numbers p e
 
 refusal_shown : (e : Happening) (v : Own) (p : Model) → OwnShows v p → Refuses e v p
-refusal_shown (grant key config) = lifted_own (Refuses (grant key config)) (λ c g l s t ss ts q m w h. refl)
-refusal_shown (revoke key) = lifted_own (Refuses (revoke key)) (λ c g l s t ss ts q m w h. refl)
+refusal_shown (grant key config) = lifted_own (Refuses (grant key config)) (λ c g l s t n ss ts q m w h. refl)
+refusal_shown (revoke key) = lifted_own (Refuses (revoke key)) (λ c g l s t n ss ts q m w h. refl)
 refusal_shown (announce list) = λ v p w. refl
 refusal_shown (measure soc quality frac samples) = λ v p w. refl
 refusal_shown (tick soc) = λ v p w. refl
 refusal_shown (define definition) = lifted_own (Refuses (define definition))
-    (λ c g l s t ss ts q m w h. ap₂
-    (λ there n. private.refuse (not (is_within_limits definition)) BadDefinition
-    (private.refuse there StreamExists (private.refuse (nat_le 8 n) StreamsFull None)))
+    (λ c g l s t n ss ts q m w h. ap₂
+    (λ there many. private.refuse (not (is_within_limits definition)) BadDefinition
+    (private.refuse there StreamExists (private.refuse (nat_le 8 many) StreamsFull None)))
     (stream_found ss ts definition.stream w) (streams-length ss ts w))
 refusal_shown (remove number) = lifted_own (Refuses (remove number))
-    (λ c g l s t ss ts q m w h. ap (λ there. private.refuse (not there) NoSuchStream None) (stream_found ss ts number w))
-refusal_shown connect = lifted_own (Refuses connect) (λ c g l s t ss ts q m w h. refl)
-refusal_shown hangup = lifted_own (Refuses hangup) (λ c g l s t ss ts q m w h. refl)
+    (λ c g l s t n ss ts q m w h. ap (λ there. private.refuse (not there) NoSuchStream None) (stream_found ss ts number w))
+refusal_shown connect = lifted_own (Refuses connect) (λ c g l s t n ss ts q m w h. refl)
+refusal_shown hangup = lifted_own (Refuses hangup) (λ c g l s t n ss ts q m w h. refl)
 refusal_shown (command number word) = lifted_own (Refuses (command number word))
-    (λ c g l s t ss ts q m w h. ap₂
+    (λ c g l s t n ss ts q m w h. ap₂
     (λ there takes. private.refuse (not c) NotConnected (private.refuse (not there) NoSuchStream
     (private.refuse (not (is_known word)) UnknownCommand (private.refuse (is_unsupported word) Unsupported
     (private.refuse (asks_reply word && not takes) ReplyFull None)))))
     (stream_found ss ts number w) (takes_shown q m h))
-refusal_shown (drain n) = lifted_own (Refuses (drain n)) (λ c g l s t ss ts q m w h. refl)
+refusal_shown (drain n) = lifted_own (Refuses (drain n)) (λ c g l s t n ss ts q m w h. refl)
 
 -- streams that are switched, added and removed
 stopped-shows : (s : StreamOf (Aligned Piece)) (t : StreamOf (StreamHistory Piece)) → StreamShows s t
     → StreamShows (private.stopped by_slots by_gaps s) (private.stopped by_arrivals by_numbers t)
-stopped-shows s t w = record { definition = w.definition; slots = Shows-discard _ _ w.slots; places = w.places; count = w.count }
+stopped-shows s t w = record { definition = w.definition; slots = Shows-discard _ _ w.slots; places = w.places; count = w.count; layouts = w.layouts }
 
 start_places : (a : Aligned Piece) (b : Bool) → a.is_on ≡ b → (by_slots.start a).effective ≡ a.effective
 start_places a true e = rw e refl
@@ -265,7 +275,7 @@ start_places a false e = rw e refl
 started-shows : (s : StreamOf (Aligned Piece)) (t : StreamOf (StreamHistory Piece)) → StreamShows s t
     → StreamShows (private.started by_slots by_gaps s) (private.started by_arrivals by_numbers t)
 started-shows s t w =
-    record { definition = w.definition; slots = Shows-start _ _ w.slots; places = ap length (start_places s.slots _ refl) ∙ w.places; count = w.count }
+    record { definition = w.definition; slots = Shows-start _ _ w.slots; places = ap length (start_places s.slots _ refl) ∙ w.places; count = w.count; layouts = w.layouts }
 
 switched_by : (b c : Bool) (s : StreamOf (Aligned Piece)) (t : StreamOf (StreamHistory Piece)) → StreamShows s t
     → StreamShows (if b then private.stopped by_slots by_gaps s else (if c then private.started by_slots by_gaps s else s))
@@ -287,15 +297,16 @@ at-shows number word s t w =
     (if d.stream == number then private.switched by_arrivals by_numbers word t else t)) w.definition
     (at_by word (s.definition.stream == number) s t w)
 
-defined-shows : (v : Own) (p : Model) (d : Definition) → v.listed ≡ p.listed
+defined-shows : (v : Own) (p : Model) (d : Definition) → v.listed ≡ p.listed → v.definitions ≡ p.definitions
     → StreamShows (private.defined by_slots by_gaps v d) (private.defined by_arrivals by_numbers p d)
-defined-shows v p d e = record {
+defined-shows v p d e f = record {
   definition = refl;
   slots = subst (λ l. align.Shows (by_slots.reshape (by_slots.opening d) (effective_in v.listed d.members))
       (by_arrivals.reshape (by_arrivals.opening d) (effective_in l d.members))) e
       (Shows-reshape _ _ _ (Shows-opening d.window d.wait (length d.members)) refl);
   places = length-map d.members (λ key. is_some (config_at v.listed key));
   count = refl;
+  layouts = ap₂ (λ n l. first_layout ((n + 1) % 2 ^ 64) (frame_len l d.members)) f e;
 }
 
 streams-append : (ss rs : List (StreamOf (Aligned Piece))) (ts us : List (StreamOf (StreamHistory Piece))) → StreamsShow ss ts → StreamsShow rs us
@@ -390,6 +401,7 @@ effect_shown (grant key config) kept v p w =
       queue = turned.queue;
       stats = turned.stats;
       last_tick = turned.last_tick;
+      definitions = turned.definitions;
     }))
 effect_shown (revoke key) kept v p w =
     let turned = turned_shown (revoke key) kept v p w in
@@ -401,6 +413,7 @@ effect_shown (revoke key) kept v p w =
       queue = turned.queue;
       stats = turned.stats;
       last_tick = turned.last_tick;
+      definitions = turned.definitions;
     }
 effect_shown (announce list) kept v p w =
     let turned = turned_shown (announce list) kept v p w in
@@ -412,6 +425,7 @@ effect_shown (announce list) kept v p w =
       queue = turned.queue;
       stats = turned.stats;
       last_tick = turned.last_tick;
+      definitions = turned.definitions;
     }
 effect_shown (measure soc quality frac samples) kept v p w = turned_shown (measure soc quality frac samples) kept v p w
 effect_shown (tick soc) kept v p w =
@@ -424,15 +438,17 @@ effect_shown (tick soc) kept v p w =
       queue = turned.queue;
       stats = turned.stats;
       last_tick = refl;
+      definitions = turned.definitions;
     }
 effect_shown (define definition) kept v p w = record {
   connected = w.connected;
   grants = w.grants;
   listed = w.listed;
-  streams = streams-append v.streams _ p.streams _ w.streams (defined-shows v p definition w.listed, tt);
+  streams = streams-append v.streams _ p.streams _ w.streams (defined-shows v p definition w.listed w.definitions, tt);
   queue = w.queue;
   stats = w.stats;
   last_tick = w.last_tick;
+  definitions = ap (λ n. (n + 1) % 2 ^ 64) w.definitions;
 }
 effect_shown (remove number) kept v p w = record {
   connected = w.connected;
@@ -442,6 +458,7 @@ effect_shown (remove number) kept v p w = record {
   queue = w.queue;
   stats = w.stats;
   last_tick = w.last_tick;
+  definitions = w.definitions;
 }
 effect_shown connect kept v p w = record {
   connected = refl;
@@ -451,6 +468,7 @@ effect_shown connect kept v p w = record {
   queue = w.queue;
   stats = w.stats;
   last_tick = w.last_tick;
+  definitions = w.definitions;
 }
 effect_shown hangup kept v p w = record {
   connected = refl;
@@ -460,6 +478,7 @@ effect_shown hangup kept v p w = record {
   queue = Shows-clear v.output.queue p.output.queue w.queue;
   stats = ap₂ (λ (s : Stats) n. record s { cleared = more s.cleared n }) w.stats (Shows-cleared v.output.queue p.output.queue _ w.queue refl);
   last_tick = w.last_tick;
+  definitions = w.definitions;
 }
 effect_shown (command number word) kept v p w =
     let out = reply_shows v.output p.output _ _
@@ -473,6 +492,7 @@ effect_shown (command number word) kept v p w =
       queue = out.queue;
       stats = out.stats;
       last_tick = w.last_tick;
+      definitions = w.definitions;
     }
 effect_shown (drain n) kept v p w = record {
   connected = w.connected;
@@ -482,6 +502,7 @@ effect_shown (drain n) kept v p w = record {
   queue = Shows-drain v.output.queue p.output.queue n w.queue;
   stats = ap₂ (λ (s : Stats) (q : Queue). record s { handed = more s.handed (min n (length (bytes_to_leave q))) }) w.stats w.queue.same;
   last_tick = w.last_tick;
+  definitions = w.definitions;
 }
 
 answer_shown : (e : Happening) (kept : ℕ) (v : Own) (p : Model) → OwnShows v p
@@ -515,6 +536,7 @@ refused_shown (command number word) r v p w =
       queue = w.queue;
       stats = ap (λ (s : Stats). record s { by_reason = counted s.by_reason (number_of r) }) w.stats;
       last_tick = w.last_tick;
+      definitions = w.definitions;
     }))
 refused_shown (grant key config) r v p w = w
 refused_shown (revoke key) r v p w = w

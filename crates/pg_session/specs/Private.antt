@@ -1,5 +1,5 @@
 -- The private gateway: what one subscriber is after its private events alone, and the replies to them.
-use Rattle.std.specs.Prelude.{◌≡◌, ◌⊎◌, ℕ, ◌≤◌, ◌==◌, ◌&&◌, ◌||◌, Bool, true, false, not, if◌then◌else◌, nat_le, is_some, unwrap_or, option_map, min, List, [], ◌∷◌, ◌++◌, length, map, filter, take, Option, Some, None, MatchOption, Result, Ok, Err}
+use Rattle.std.specs.Prelude.{◌≡◌, ◌⊎◌, ℕ, ◌+◌, ◌%◌, ◌^◌, ◌≤◌, ◌==◌, ◌&&◌, ◌||◌, Bool, true, false, not, if◌then◌else◌, nat_le, is_some, unwrap_or, option_map, min, List, [], ◌∷◌, ◌++◌, length, map, filter, take, Option, Some, None, MatchOption, Result, Ok, Err}
 use Rattle.std.specs.List.{flat_map}
 use Rattle.pg_wire.specs.declared.refusal.Refusal.{Refusal}
 use Rattle.pg_wire.specs.declared.refusal.Refusal.TheVariants.{NoMemory, NoSuchStream, UnknownCommand, Unsupported, ReplyFull, GrantsFull, StreamExists, StreamsFull, BadDefinition, NotConnected, Busy, NotGranted}
@@ -17,7 +17,7 @@ use Rattle.pg_session.specs.declared.event.PrivateReply.{PrivateReply}
 use Rattle.pg_session.specs.declared.event.PrivateReply.TheVariants as reply
 use Rattle.pg_session.specs.Events.{Happening, Announcing, grant, revoke, announce, measure, define, remove, tick, connect, hangup, command, drain}
 use Rattle.pg_session.specs.Machines.{Alignment, Queueing}
-use Rattle.pg_session.specs.Streams.{StreamOf, Turn, still, effective_in, reshape_turn, measure_turn, tick_turn}
+use Rattle.pg_session.specs.Streams.{StreamOf, Turn, still, effective_in, first_layout, frame_len, reshape_turn, measure_turn, tick_turn}
 use Rattle.pg_session.specs.Output.{Output, turns_taken}
 
 -- one subscriber, over some slots and some queue
@@ -32,6 +32,8 @@ pub record Private (A Q : Type 0) : Type 0 where
   pub output : Output Q
   -- the SOC of the last tick
   pub last_tick : Option ℕ
+  -- how many streams were defined, modulo 2^64
+  pub definitions : ℕ
 
 -- what a reply tells, with no memory in it
 pub data Told : Type 0 where
@@ -182,6 +184,7 @@ module _ {A Q : Type 0} (slots : Alignment A) (queues : Queueing Q) where
         definition = definition;
         slots = slots.reshape (slots.opening definition) (effective_in p.listed definition.members);
         count = 0;
+        layouts = first_layout ((p.definitions + 1) % 2 ^ 64) (frame_len p.listed definition.members);
       }
 
   -- a stream is switched off, with its open slots discarded, or on
@@ -230,7 +233,7 @@ module _ {A Q : Type 0} (slots : Alignment A) (queues : Queueing Q) where
   effect p (announce list) kept = record (turned p (announce list) kept) { listed = put_all p.listed list }
   effect p (measure soc quality frac samples) kept = turned p (measure soc quality frac samples) kept
   effect p (tick soc) kept = record (turned p (tick soc) kept) { last_tick = Some soc }
-  effect p (define definition) kept = record p { streams = p.streams ++ defined p definition ∷ [] }
+  effect p (define definition) kept = record p { streams = p.streams ++ defined p definition ∷ []; definitions = (p.definitions + 1) % 2 ^ 64 }
   effect p (remove number) kept = record p { streams = filter (λ s. not (s.definition.stream == number)) p.streams }
   effect p connect kept = record p { connected = true }
   effect p hangup kept =

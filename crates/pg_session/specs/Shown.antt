@@ -39,6 +39,7 @@ begin size limit last =
       streams = [];
       output = record { queue = none_made size limit; stats = no_stats };
       last_tick = last;
+      definitions = 0;
     }
 
 pub record StreamShows (s : StreamOf (Aligned Piece)) (t : StreamOf (StreamHistory Piece)) : Type 0 where
@@ -46,6 +47,7 @@ pub record StreamShows (s : StreamOf (Aligned Piece)) (t : StreamOf (StreamHisto
   pub slots : align.Shows s.slots t.slots
   pub places : length s.slots.effective ≡ length s.definition.members
   pub count : s.count ≡ t.count
+  pub layouts : s.layouts ≡ t.layouts
 
 -- each stream shows one
 abbrev pub StreamsShow : List (StreamOf (Aligned Piece)) → List (StreamOf (StreamHistory Piece)) → Type 0
@@ -62,6 +64,7 @@ pub record OwnShows (v : Own) (p : Model) : Type 0 where
   pub queue : ring.ShowsNumbered v.output.queue p.output.queue
   pub stats : v.output.stats ≡ p.output.stats
   pub last_tick : v.last_tick ≡ p.last_tick
+  pub definitions : v.definitions ≡ p.definitions
 
 -- The value shows this state. Copies that lie ready are no part of it.
 abbrev pub ShowsPrivate : SubscriberValue → Model → Type 0

@@ -21,6 +21,7 @@ stream_standing slots listed s =
       is_on = slots.is_on s.slots;
       effective = length (effective_of listed s.definition.members);
       members = length s.definition.members;
+      layouts = s.layouts;
     }
 
 -- a subscriber whose queue shows this, and the stream at a place among its streams

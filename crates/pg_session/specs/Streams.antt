@@ -1,5 +1,5 @@
 -- What an event is to one stream: its successor, the frames that it makes, and what it ignores.
-use Rattle.std.specs.Prelude.{ℕ, ◌+◌, ◌&&◌, Bool, if◌then◌else◌, is_some, nat_lt, List, [], ◌∷◌, length, map, Option, Some, None, Result, Ok, Err}
+use Rattle.std.specs.Prelude.{ℕ, ◌+◌, ◌%◌, ◌^◌, take, replicate, ◌&&◌, Bool, if◌then◌else◌, is_some, nat_lt, List, [], ◌∷◌, length, map, Option, Some, None, Result, Ok, Err}
 use Rattle.std.specs.List.{position}
 use Rattle.pg_wire.specs.declared.refusal.Refusal.{Refusal}
 use Rattle.pg_wire.specs.declared.ids.PmuKey.{PmuKey}
@@ -10,18 +10,22 @@ use Rattle.pg_stream.specs.Slots.{slot_at}
 use Rattle.pg_align.specs.declared.answer.Arrived.{Arrived}
 use Rattle.pg_align.specs.declared.answer.Arrived.TheVariants.{Kept, Late, Twice}
 use Rattle.pg_align.specs.Histories.{Departed, Departures}
-use Rattle.pg_outcfg.specs.Frames.{data_frame_of}
+use Rattle.pg_config.specs.Parts.{data_lens}
+use Rattle.pg_outcfg.specs.Frames.{data_frame_of, effective_of}
 use Rattle.pg_outcfg.specs.Listing.{Listing, config_at}
 use Rattle.pg_outcfg.specs.Frames.{changed}
 use Rattle.pg_session.specs.Shape.{same_shape, same_list}
 use Rattle.pg_session.specs.Events.{Sample}
+use Rattle.pg_session.specs.declared.layouts.Layouts.{Layouts}
 use Rattle.pg_session.specs.Machines.{Alignment}
 
--- a stream: its definition, its slots, and the number of events since its definition that changed the CFG-1 list, modulo 65536
+-- a stream: its definition, its slots, the number of events since its definition that changed the CFG-1 list, modulo 65536, and the
+-- layouts of its data frames
 pub record StreamOf (A : Type 0) : Type 0 where
   pub definition : Definition
   pub slots : A
   pub count : ℕ
+  pub layouts : Layouts
 
 -- what an event is to a stream
 pub record Turn (A : Type 0) : Type 0 where
@@ -82,6 +86,18 @@ pub record Arrivals (A : Type 0) : Type 0 where
   pub late : ℕ
   pub twice : ℕ
 
+-- how many bytes a data frame of these members has by a CFG-1 list: 16 around its blocks, and for each effective member its block
+abbrev pub frame_len : Listing → List PmuKey → ℕ
+frame_len listed members = 16 + data_lens (effective_of listed members)
+
+-- the layouts of a stream that was just defined, and the definition's number among those of its subscriber
+abbrev pub first_layout : ℕ → ℕ → Layouts
+first_layout definition len = record { definition = definition; number = 0; lengths = len ∷ replicate 31 0 }
+
+-- the layouts where the effective blocks become others, with data frames of this length
+abbrev pub next_layout : ℕ → Layouts → Layouts
+next_layout len l = record { definition = l.definition; number = (l.number + 1) % 2 ^ 64; lengths = take 32 (len ∷ l.lengths) }
+
 -- a stream to which an event is nothing
 abbrev pub still : {A : Type 0} → StreamOf A → Turn A
 still s = record { stream = s; frames = []; late = 0; twice = 0; past = 0 }
@@ -99,7 +115,7 @@ module _ {A : Type 0} (by : Alignment A) where
       }
 
   -- The CFG-1 list is about to become another one. Where that changes the stream's effective blocks, its open slots all
-  -- leave by the old one. The count goes up where the list itself changes.
+  -- leave by the old one, and its layout is another one, whether it is on or not. The count goes up where the list itself changes.
   abbrev pub reshape_turn : Listing → Listing → StreamOf A → Turn A
   reshape_turn listed other s =
       let counted = record s { count = (if same_list listed other then s.count else changed s.count) } in
@@ -107,7 +123,12 @@ module _ {A : Type 0} (by : Alignment A) where
       then still counted
       else
       (let turn = framed listed counted (by.flush s.slots) in
-      record turn { stream = record turn.stream { slots = by.reshape turn.stream.slots (effective_in other s.definition.members) } })
+      record turn {
+        stream = record turn.stream {
+          slots = by.reshape turn.stream.slots (effective_in other s.definition.members);
+          layouts = next_layout (frame_len other s.definition.members) turn.stream.layouts;
+        };
+      })
 
   -- blocks arrive in a slot, one after another
   abbrev pub arrive_all : A → ℕ → List PlacedBlock → Arrivals A

@@ -8,6 +8,7 @@ mod copying;
 mod event;
 mod filling;
 mod laws;
+mod layouts;
 mod leaving;
 mod listing;
 mod on;
@@ -26,6 +27,7 @@ pub use laws::{
     changes_are_told, no_slot_needs_no_memory, numbers_are_kept, only_time_ends, runs_go_on,
     stamps_rise,
 };
+pub use layouts::Layouts;
 pub use session::{Next, Session};
 pub use standing::{Standing, StreamStanding};
 pub use subscriber::Subscriber;

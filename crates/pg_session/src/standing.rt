@@ -4,6 +4,7 @@ ghost use Rattle.std.specs.Prelude.{◌≡◌, ◌≤◌, length};
 ghost use Rattle.pg_outcfg.specs.Frames.{effective_of};
 
 use crate::change::config_of;
+use crate::layouts::Layouts;
 use pg_outcfg::ConfigList;
 use pg_wire::{PmuKey, StreamId};
 
@@ -29,6 +30,8 @@ pub struct StreamStanding {
     pub effective: u16,
     /// All its members, 1 to 32.
     pub members: u16,
+    /// The layouts of its data frames.
+    pub layouts: Layouts,
 }
 
 /// How many of these members are effective.

@@ -12,7 +12,7 @@ ghost use Rattle.pg_outcfg.specs.Frames.{changed, header_frame, cfg1_frame, cfg2
 ghost use Rattle.pg_session.specs.Events.{samples_at};
 ghost use Rattle.pg_session.specs.Shape.{same_list, same_shape};
 ghost use Rattle.pg_session.specs.Changing.{IsOfParts, list_after};
-ghost use Rattle.pg_session.specs.Streams.{StreamOf, place_of, placed, effective_in, slot_frame, reshape_turn, tick_turn, measure_turn};
+ghost use Rattle.pg_session.specs.Streams.{StreamOf, place_of, placed, effective_in, first_layout, frame_len, slot_frame, reshape_turn, tick_turn, measure_turn};
 ghost use Rattle.pg_session.specs.Private.{stopped, started};
 ghost use Rattle.pg_session.specs.Sending.{Sending, Sends};
 ghost use Rattle.pg_session.specs.Kept.{by_slots, by_gaps};
@@ -29,6 +29,7 @@ use crate::arriving::{arrive_all_in, arrive_one, count_placed, has_placed, pass_
 use crate::change::{Change, config_of};
 use crate::copying::{copy_members, lay_copy};
 use crate::filling::{Brought, place_all, place_one, send_filled};
+use crate::layouts::{Layouts, frame_len, frame_len_after};
 use crate::leaving::{flush_all, leave_all};
 use crate::output::Output;
 use crate::standing::{StreamStanding, count_effective};
@@ -55,6 +56,7 @@ pub(crate) struct Stream {
     changes: OutCfg,
     front: Front,
     guess: usize,
+    layouts: Layouts,
 }
 
 impl Model for Stream {
@@ -66,9 +68,9 @@ impl Model for Stream {
 
     ghost Value = { StreamOf (Aligned Piece) };
 
-    ghost view = { λ s. record { definition = s.definition; slots = s.align; count = s.changes } };
+    ghost view = { λ s. record { definition = s.definition; slots = s.align; count = s.changes; layouts = s.layouts } };
 
-    ghost invariant = { λ s. IsStream (record { definition = s.definition; slots = s.align; count = s.changes }) };
+    ghost invariant = { λ s. IsStream (record { definition = s.definition; slots = s.align; count = s.changes; layouts = s.layouts }) };
 }
 
 /// Which members a CFG-1 list has.
@@ -178,18 +180,20 @@ fn count_if(changes: &mut OutCfg, counts: bool)
 }
 
 impl Stream {
-    /// A stream that is off, whose effective members are those that the CFG-1 list has. It asks for a definition within
-    /// the limits. The one refusal is `NoMemory`.
+    /// A stream that is off, whose effective members are those that the CFG-1 list has, of the definition of this number among
+    /// those of its subscriber. It asks for a definition within the limits. The one refusal is `NoMemory`.
     pub fn new(
         alloc: Global,
         definition: Definition,
         listed: &ConfigList,
+        number: u64,
     ) -> Result<Stream, Refusal>
         requires limits { IsWithinLimits definition }
         ensures stream { IfOk result (λ s. s ≡ record {
           definition = definition;
           slots = with_shape (none_open definition.window definition.wait (length definition.members)) (effective_in listed.now definition.members);
           count = 0;
+          layouts = first_layout number (frame_len listed.now definition.members);
         }) }
         ensures memory { IfErr result (λ refusal. refusal ≡ Refusal.NoMemory) }
     {
@@ -199,12 +203,14 @@ impl Stream {
         let effective = &mut effective[..members.len()];
         mark_listed(listed, members, effective);
         align.reshape(effective);
+        let layouts = Layouts::first(number, frame_len(listed, members));
         Ok(Stream {
             definition,
             align,
             changes: OutCfg::new(),
             front: Front::new(),
             guess: 0,
+            layouts,
         })
     }
 
@@ -232,6 +238,7 @@ impl Stream {
             is_on: self.align.is_on(),
             effective: count_effective(listed, members),
             members: members.len() as u16,
+            layouts: self.layouts,
         }
     }
 
@@ -297,6 +304,8 @@ impl Stream {
             let effective = &mut effective[..members.len()];
             mark_changed(listed, change, members, effective);
             self.align.reshape(effective);
+            self.layouts
+                .change_to(frame_len_after(listed, change, members));
         }
     }
 

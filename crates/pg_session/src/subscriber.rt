@@ -66,6 +66,8 @@ pub struct Subscriber {
     last_tick: Option<u32>,
     blocks: HeapCircularBuffer<SharedBlock>,
     configs: HeapCircularBuffer<Arc<PmuConfig>>,
+    // How many streams were defined, modulo 2^64.
+    definitions: u64,
 }
 
 impl Model for Subscriber {
@@ -84,6 +86,7 @@ impl Model for Subscriber {
         streams = s.streams.items;
         output = s.output.output;
         last_tick = s.last_tick;
+        definitions = s.definitions;
       };
       blocks = s.blocks.items;
       configs = map arc_value s.configs.items;
@@ -97,6 +100,7 @@ impl Model for Subscriber {
         streams = s.streams.items;
         output = s.output.output;
         last_tick = s.last_tick;
+        definitions = s.definitions;
       };
       blocks = s.blocks.items;
       configs = map arc_value s.configs.items;
@@ -128,6 +132,7 @@ impl Subscriber {
             last_tick: last,
             blocks: HeapCircularBuffer::with_capacity(alloc, MOST_BLOCKS)?,
             configs: HeapCircularBuffer::with_capacity(alloc, MOST_CONFIGS)?,
+            definitions: 0,
         })
     }
 
@@ -859,8 +864,10 @@ impl Subscriber {
         if self.streams.len() >= MOST_STREAMS {
             return PrivateReply::Refused(Refusal::StreamsFull);
         }
-        match Stream::new(self.alloc, definition, &self.listed) {
+        let number = self.definitions.wrapping_add(1);
+        match Stream::new(self.alloc, definition, &self.listed, number) {
             Ok(stream) => {
+                self.definitions = number;
                 self.streams.push_reserved(stream);
                 PrivateReply::Done { made: 0, kept: 0 }
             }

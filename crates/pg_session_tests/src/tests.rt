@@ -204,6 +204,22 @@ fn with_two(
     Ok(sub)
 }
 
+// The stream at a place.
+fn stream_at(rt: &impl Abort, sub: &Subscriber, place: usize) -> StreamStanding {
+    sub.standing(place).stream.expect(rt, "a stream")
+}
+
+// The layouts of the one stream: the number of its definition, that of its layout, and the bytes of its last data frames, the present layout
+// first.
+fn has_layouts(rt: &impl Abort, sub: &Subscriber, definition: u64, number: u64, last: &[u16]) {
+    let layouts = stream_at(rt, sub, 0).layouts;
+    same(rt, layouts.definition, definition);
+    same(rt, layouts.number, number);
+    for (place, len) in layouts.lengths.iter().enumerate() {
+        same(rt, *len, last.get(place).copied().unwrap_or(0));
+    }
+}
+
 // How stream 102 stands, of two members, and how many frames and bytes wait.
 fn stands(rt: &impl Abort, sub: &Subscriber, frames: u64, bytes: u64, effective: u16, is_on: bool) {
     let stream = StreamStanding {
@@ -211,6 +227,7 @@ fn stands(rt: &impl Abort, sub: &Subscriber, frames: u64, bytes: u64, effective:
         is_on,
         effective,
         members: 2,
+        ..stream_at(rt, sub, 0)
     };
     let expected = Standing {
         frames,
@@ -249,6 +266,77 @@ fn standing_of_two(rt: HostRuntime) {
     stands(&rt, &sub, 1, 24, 1, true);
     done(&rt, give(&rt, &mut sub, PrivateEvent::Hangup), 0);
     stands(&rt, &sub, 0, 0, 1, false);
+}
+
+// A layout is another one where an effective block comes, goes or changes, and not where the same is announced again or CFGCNT alone differs.
+// PMU 7 has 10 bytes in a data frame, PMU 8 has 8, and 16 are around them.
+#[test]
+fn layouts_of_two(rt: HostRuntime) {
+    let alloc = rt.alloc();
+    let first = source_7(&rt, alloc).expect(&rt, "memory");
+    let second = source_8(&rt, alloc).expect(&rt, "memory");
+    let mut sub = with_two(&rt, alloc, &first, &second, 0, 4).expect(&rt, "memory");
+    has_layouts(&rt, &sub, 1, 2, &[34, 26, 16]);
+    let again = PrivateEvent::Announce(&first, &[0]);
+    done(&rt, give(&rt, &mut sub, again), 0);
+    has_layouts(&rt, &sub, 1, 2, &[34, 26, 16]);
+    let counted = announced(&rt, alloc, &[&CONFIG_7, &BLOCK_7[..48], &[0, 9], &RATE]).expect(
+        &rt, "memory",
+    );
+    let counted = PrivateEvent::Announce(&counted, &[0]);
+    done(&rt, give(&rt, &mut sub, counted), 0);
+    has_layouts(&rt, &sub, 1, 2, &[34, 26, 16]);
+    // FNOM is 50 Hz.
+    let other = announced(
+        &rt,
+        alloc,
+        &[&CONFIG_7, &BLOCK_7[..46], &[0, 1, 0, 9], &RATE],
+    )
+    .expect(&rt, "memory");
+    let other = PrivateEvent::Announce(&other, &[0]);
+    done(&rt, give(&rt, &mut sub, other), 0);
+    has_layouts(&rt, &sub, 1, 3, &[34, 34, 26, 16]);
+    let revoke = PrivateEvent::Revoke(key(8).expect(&rt, "a key"));
+    done(&rt, give(&rt, &mut sub, revoke), 0);
+    has_layouts(&rt, &sub, 1, 4, &[26, 34, 34, 26, 16]);
+    done(&rt, give(&rt, &mut sub, PrivateEvent::Hangup), 0);
+    has_layouts(&rt, &sub, 1, 4, &[26, 34, 34, 26, 16]);
+    let number = StreamId::new(102).expect(&rt, "a number");
+    done(&rt, give(&rt, &mut sub, PrivateEvent::Remove(number)), 0);
+    let members = [key(7).expect(&rt, "a key"), key(8).expect(&rt, "a key")];
+    let definition = stream(alloc, 102, 0, 4, &members).expect(&rt, "memory");
+    done(
+        &rt,
+        give(&rt, &mut sub, PrivateEvent::Define(definition)),
+        0,
+    );
+    has_layouts(&rt, &sub, 2, 0, &[26]);
+}
+
+// The last 32 lengths are kept.
+#[test]
+fn layouts_of_many(rt: HostRuntime) {
+    let alloc = rt.alloc();
+    let first = source_7(&rt, alloc).expect(&rt, "memory");
+    let second = source_8(&rt, alloc).expect(&rt, "memory");
+    let mut sub = with_two(&rt, alloc, &first, &second, 0, 4).expect(&rt, "memory");
+    let mut last = [0; 32];
+    for place in 0..32 {
+        last[place] = if place % 2 == 0 { 34 } else { 26 };
+    }
+    for _ in 0..20 {
+        let revoke = PrivateEvent::Revoke(key(8).expect(&rt, "a key"));
+        done(&rt, give(&rt, &mut sub, revoke), 0);
+        let parts = Arc::try_clone(&second).expect(&rt, "memory");
+        let grant = PrivateEvent::Grant(key(8).expect(&rt, "a key"), None);
+        done(&rt, give(&rt, &mut sub, grant), 0);
+        done(
+            &rt,
+            give(&rt, &mut sub, PrivateEvent::Announce(&parts, &[0])),
+            0,
+        );
+    }
+    has_layouts(&rt, &sub, 1, 42, &last);
 }
 
 // Row take-without-memory: a block that completes no slot takes its place, and the reply is the one with memory.

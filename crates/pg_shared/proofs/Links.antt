@@ -1,5 +1,5 @@
 -- What a link tells over a seat, in one call and in several.
-use Rattle.std.proofs.Common.{◌≡◌, refl, sym, ap, ap₂, subst, ◌∙◌, ℕ, List, [], ◌∷◌, ◌++◌, map, reverse, append_assoc, Option, Some}
+use Rattle.std.proofs.Common.{◌≡◌, refl, sym, ap, ap₂, subst, ◌∙◌, ℕ, true, List, [], ◌∷◌, ◌++◌, filter, map, reverse, append_assoc, Option, Some}
 use Rattle.std.specs.List.{flat_map}
 use Rattle.std.specs.Io.KnownBytes.{Consumes}
 use Rattle.std.proofs.lemmas.Grind.{flat_map-append}
@@ -9,6 +9,7 @@ use Rattle.pg_wire.specs.Split.{frames_in}
 use Rattle.pg_gateway.specs.declared.event.Event.{Event}
 use Rattle.pg_gateway.specs.declared.event.Reply.{Reply}
 use Rattle.pg_gateway.specs.Histories.{said}
+use Rattle.pg_gateway.specs.Occurrences.{Occurrence}
 use Rattle.pg_ingest.specs.declared.run.End.{End}
 use Rattle.pg_ingest.specs.Items.{Item, AreTold}
 use Rattle.pg_ingest.specs.Commands.{asks, tells, told_in}
@@ -25,8 +26,13 @@ use Rattle.pg_shared.specs.Continuing.{calls_more, owned_more}
 use Rattle.pg_shared.specs.Telling.{Tells, HasTold}
 use Rattle.pg_shared.proofs.Opening.{none_told}
 
+-- a seat's gate takes all events
+all_taken : (events : List Occurrence) → filter (λ o. true) events ≡ events
+all_taken [] = refl
+all_taken (o ∷ events) = ap (λ xs. o ∷ xs) (all_taken events)
+
 pub tells_call : (end : End) (turns : ℕ) (s s' : Known Event Reply) (v v' : Linking) (r r' w w' : Option (List ℕ))
-    → IsCall end turns v v' (wires r w (Some (said_at s.seen s.own))) (wires r' w' (Some (said_at s'.seen s'.own))) → GoesOn s s'
+    → IsCall end turns v v' (wires r w (Some (said_at s.seen s.own)) (λ o. true)) (wires r' w' (Some (said_at s'.seen s'.own)) (λ o. true)) → GoesOn s s'
     → Tells v v' s s' r r'
 tells_call end turns s s' v v' r r' w w' call on = λ past shows.
     let ran = (call.ran past shows).0 in
@@ -39,7 +45,7 @@ tells_call end turns s s' v v' r r' w w' call on = λ past shows.
       are = ran.are;
       shows = ran.shows;
       read = ran.read;
-      events = ap (map event_posted) same ∙ ran.events;
+      events = ap (map event_posted) same ∙ ran.events ∙ all_taken (flat_map events_of ran.steps);
       all = (call.ran past shows).1.told;
     }
 

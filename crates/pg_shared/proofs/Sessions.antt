@@ -1,5 +1,5 @@
 -- Runs of a session's loop, put together.
-use Rattle.std.proofs.Common.{◌≡◌, ◌≢◌, ◌∙◌, sym, subst, ap, ap₂, refl, arith, ℕ, zero, suc, ◌<◌, ◌≤◌, Bool, ◌||◌, length, List, [], ◌∷◌, ◌++◌, map, append-nil, append_assoc, Option, Some, None, true, false, take, inl, inr, Result, Ok, Err, ◌==◌}
+use Rattle.std.proofs.Common.{◌≡◌, ◌≢◌, ◌∙◌, sym, subst, ap, ap₂, refl, ℕ, Bool, ◌||◌, List, [], ◌∷◌, ◌++◌, map, append-nil, append_assoc, Option, Some, None, true, false, take, inl, inr, Result, Ok, Err, ◌==◌}
 use Rattle.std.specs.Prelude.{◌⊎◌, MatchOption, IfSome}
 use Rattle.std.specs.List.{flat_map}
 use Rattle.std.specs.Io.KnownBytes.{Consumes, IsAtEnd}

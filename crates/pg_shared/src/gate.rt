@@ -1,8 +1,8 @@
 //! The gates of workers, whose seats are of one shared gateway.
 
-ghost use Rattle.std.specs.Prelude.{◌≡◌, [], ◌∷◌, Some};
+ghost use Rattle.std.specs.Prelude.{◌≡◌, Bool, true, false, [], ◌∷◌, Some};
 ghost use Rattle.atomic_table.specs.Seated.{TableId};
-ghost use Rattle.pg_gateway.specs.Occurrences.{occurrence, told};
+ghost use Rattle.pg_gateway.specs.Occurrences.{Occurrence, occurrence, told};
 ghost use Rattle.pg_gateway.specs.Posting.{Answers, Notes};
 ghost use Rattle.pg_shared.specs.Gates.{said_at};
 ghost use Rattle.pg_shared.specs.Continuing.{goes_on_same, goes_on_more};
@@ -12,6 +12,7 @@ ghost use Rattle.pg_shared.specs.Sharing.{history_of, PostedCall, HandsByViews, 
 use crate::seat_gate::SeatGate;
 use crate::shared::{Seat, Shared};
 use pg_gateway::{Event, Gate, Reply};
+use pg_wire::Refusal;
 use std::marker::{Brand, Model, PhantomData};
 use std::sync::Wait;
 
@@ -74,6 +75,8 @@ impl<R: Wait, N: Named> Gate for SharedGate<'_, R, N> {
 
     ghost goes_on = { λ g h. GoesOn g h };
 
+    ghost frames = { λ _ _ e. absurd (cc e) };
+
     ghost stays = { λ g. goes_on_same g };
 
     ghost joins = { λ g h k. goes_on_more g h k };
@@ -88,6 +91,8 @@ impl<R: Wait, N: Named> Gate for SharedGate<'_, R, N> {
         ensures answers { Answers event result }
         ensures posted { Notes (Some (said_at self.old.seen self.old.own)) (Some (said_at self.new.seen self.new.own))
             ((occurrence event, told result) ∷ []) }
+        ensures takes { ◌≡◌ {A = Occurrence → Bool} (λ _. true) (λ _. true) }
+        ensures refused { true ≡ false → result ≡ Reply.Refused Refusal.FarClock }
         ensures goes_on { GoesOn self.old self.new }
     {
         self.gate.post(event)

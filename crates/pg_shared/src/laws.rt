@@ -1,5 +1,5 @@
 //! Laws of the loops over a shared gateway, as contracts of functions that do nothing: a caller that needs one calls it.
-ghost use Rattle.std.specs.Prelude.{◌≡◌, ℕ, List, [], ◌++◌, ◌∷◌, Option, Some};
+ghost use Rattle.std.specs.Prelude.{◌≡◌, ℕ, true, List, [], ◌++◌, ◌∷◌, Option, Some};
 ghost use Rattle.std.specs.List.{flat_map};
 ghost use mathlib.Core.List.{IsPrefix};
 ghost use Rattle.pg_ingest.specs.declared.run.End.{End};
@@ -79,7 +79,7 @@ pub fn deliveries_agree()
 /// reads. And so do all calls since the link was new or reset.
 pub fn links_tell_on()
     ensures call { (end : End) (turns : ℕ) (s s' : Known Event Reply) (v v' : Linking) (r r' w w' : Option (List ℕ))
-        → IsCall end turns v v' (wires r w (Some (said_at s.seen s.own))) (wires r' w' (Some (said_at s'.seen s'.own)))
+        → IsCall end turns v v' (wires r w (Some (said_at s.seen s.own)) (λ o. true)) (wires r' w' (Some (said_at s'.seen s'.own)) (λ o. true))
         → GoesOn s s' → Tells v v' s s' r r' }
     ensures none { (v : Linking) (s : Known Event Reply) (r : Option (List ℕ)) (past : LinkPast)
         → ShowsPast v past → IsFresh past → HasTold past.source v s s r r }

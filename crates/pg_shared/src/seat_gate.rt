@@ -1,7 +1,7 @@
 //! A gate that posts to a shared gateway.
 
-ghost use Rattle.std.specs.Prelude.{◌≡◌, [], ◌∷◌, Some};
-ghost use Rattle.pg_gateway.specs.Occurrences.{occurrence, told};
+ghost use Rattle.std.specs.Prelude.{◌≡◌, Bool, true, false, [], ◌∷◌, Some};
+ghost use Rattle.pg_gateway.specs.Occurrences.{Occurrence, occurrence, told};
 ghost use Rattle.pg_gateway.specs.Posting.{Answers, Notes};
 ghost use Rattle.pg_shared.specs.Gates.{said_at};
 ghost use Rattle.pg_shared.specs.Continuing.{goes_on_same, goes_on_more};
@@ -10,6 +10,7 @@ ghost use Rattle.pg_shared.specs.Sharing.{history_of, PostedCall, HandsByViews, 
 
 use crate::shared::{Seat, Shared};
 use pg_gateway::{Event, Gate, Reply};
+use pg_wire::Refusal;
 use std::marker::Model;
 use std::sync::Wait;
 
@@ -72,6 +73,8 @@ impl<R: Wait> Gate for SeatGate<'_, R> {
 
     ghost goes_on = { λ g h. GoesOn g h };
 
+    ghost frames = { λ _ _ e. absurd (cc e) };
+
     ghost stays = { λ g. goes_on_same g };
 
     ghost joins = { λ g h k. goes_on_more g h k };
@@ -87,6 +90,8 @@ impl<R: Wait> Gate for SeatGate<'_, R> {
         ensures answers { Answers event result }
         ensures posted { Notes (Some (said_at self.old.seen self.old.own)) (Some (said_at self.new.seen self.new.own))
             ((occurrence event, told result) ∷ []) }
+        ensures takes { ◌≡◌ {A = Occurrence → Bool} (λ _. true) (λ _. true) }
+        ensures refused { true ≡ false → result ≡ Reply.Refused Refusal.FarClock }
         ensures goes_on { GoesOn self.old self.new }
     {
         let Some(seat) = self.seat.take() else {

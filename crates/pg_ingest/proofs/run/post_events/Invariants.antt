@@ -5,7 +5,9 @@ use Rattle.pg_ingest.proofs.run.post_events.Given as goal
 
 abbrev pub invariant-events : goal.invariant-events
 invariant-events g l = record {
-  ran : (r w : Option (List ℕ)) → Ran Posted l.fn.link l.link (wires r w (g.G.Gate.posts l.initial.gate)) (wires r w (g.G.Gate.posts l.gate));
+  ran : (r w : Option (List ℕ)) → Ran Posted l.fn.link l.link (wires r w (g.G.Gate.posts l.initial.gate) (g.G.Gate.takes l.initial.gate))
+      (wires r w (g.G.Gate.posts l.gate) (g.G.Gate.takes l.initial.gate));
+  takes : g.G.Gate.takes l.gate ≡ g.G.Gate.takes l.initial.gate;
   onward : g.G.Gate.goes_on l.initial.gate l.gate;
   left : l.link.left ≡ l.fn.link.left;
 }

@@ -6,7 +6,7 @@ use Rattle.pg_ingest.proofs.Stepping.{ran_wrote, left_unshown}
 use Rattle.pg_ingest.proofs.run.push_left.Goals as goal
 
 pub returns-clause-ran : goal.returns-clause-ran
-returns-clause-ran g c = λ r p.
+returns-clause-ran g c = λ r p t.
     let size = c.write_bytes-size.result.0 in
     let left = c.args.link.now.left in
     let sent : c.send.new.self ≡ record c.args.link.now { left = drop size left } = c.send.ensures in

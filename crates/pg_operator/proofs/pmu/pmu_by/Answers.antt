@@ -12,4 +12,5 @@ returns c =
     let connect : absent_or address_in (codes "connect") ms ≡ Some (option_map (λ s. s.now) c.in_ok-connect.connect) = sym c.in_ok-connect.ensures in
     let silence : absent_or (whole_in 0 3600) (codes "silence") ms ≡ Some c.in_ok-silence.silence = sym c.in_ok-silence.ensures in
     let clock : absent_or (whole_in 1 30000) (codes "clock_ms") ms ≡ Some c.in_ok-clock_ms.clock_ms = sym c.in_ok-clock_ms.ensures in
-    rw (keys, id, source, connect, silence, clock) refl
+    let ahead : absent_or (whole_in 0 30000) (codes "ahead_ms") ms ≡ Some c.in_ok-ahead_ms.ahead_ms = sym c.in_ok-ahead_ms.ensures in
+    rw (keys, id, source, connect, silence, clock, ahead) refl

@@ -1,12 +1,12 @@
 use Rattle.std.proofs.Common.{rules, refl, sym, ap, ◌≡◌, ◌∙◌, ◌==◌, ◌+◌, map, drop, Some, None, true, false, ◌∷◌}
 use Rattle.std.proofs.lemmas.List.{at_drop_more, at_drop_all}
 use Rattle.pg_operator.specs.Setups.{agreed, said, told}
-use Rattle.pg_operator.proofs.Sources.{goes_on, own_table, other_table, differs_here, none_left, no_silence, no_clock}
+use Rattle.pg_operator.proofs.Sources.{goes_on, own_table, other_table, differs_here, none_left, no_silence, no_clock, no_ahead}
 use Rattle.pg_operator.proofs.source.rules_of.Goals as goal
-use Rattle.pg_operator.proofs.source.rules_of.Goals.{then-eq+in_ok-silence+in_ok-clock_ms, else-eq}
+use Rattle.pg_operator.proofs.source.rules_of.Goals.{then-eq+in_ok-silence+in_ok-clock_ms+in_ok-ahead_ms, else-eq}
 
 pub pmus-init : goal.pmus-init
-pmus-init c = record { silence = refl; clock = refl }
+pmus-init c = record { silence = refl; clock = refl; ahead = refl }
 
 pub returns-in_err-silence : goal.returns-in_err-silence
 returns-in_err-silence c =
@@ -32,6 +32,18 @@ returns-in_err-clock_ms c =
     ∙ differs_here (λ q. q.clock_ms) c.args.source c.pmus.clock_ms p rest own (sym c.in_err-clock_ms.ensures) in
     c.from_residual-in_err-clock_ms.ensures ∙ sym (no_clock (map told ps) c.args.source gone)
 
+pub returns-in_err-ahead_ms : goal.returns-in_err-ahead_ms
+returns-in_err-ahead_ms c =
+    let ps = c.args.pmus.now in
+    let p = told c.pmu-item.result in
+    let rest = map told (drop (c.pmus.pmu-index + 1) ps) in
+    let left : map told (drop c.pmus.pmu-index ps) ≡ p ∷ rest = at_drop_more (map told) ps c.pmus.pmu-index c.pmu-item.result c.pmus-test.true ∙ ap (λ x. told x ∷ rest) (sym c.pmu-item.is) in
+    let own : (p.key.source == c.args.source) ≡ true = search rules in
+    let gone : agreed (said (λ q. q.ahead_ms) c.args.source (map told ps)) ≡ None =
+    sym c.pmus.invariant.ahead ∙ ap (goes_on (λ q. q.ahead_ms) c.args.source c.pmus.ahead_ms) left
+    ∙ differs_here (λ q. q.ahead_ms) c.args.source c.pmus.ahead_ms p rest own (sym c.in_err-ahead_ms.ensures) in
+    c.from_residual-in_err-ahead_ms.ensures ∙ sym (no_ahead (map told ps) c.args.source gone)
+
 pub pmus-preserved : goal.pmus-preserved
 pmus-preserved c =
     let ps = c.args.pmus.now in
@@ -41,20 +53,24 @@ pmus-preserved c =
     let left : map told (drop c.pmus.pmu-index ps) ≡ p ∷ rest = at_drop_more (map told) ps c.pmus.pmu-index c.pmu-item.result c.pmus-test.true ∙ ap (λ x. told x ∷ rest) (sym c.pmu-item.is) in
     let silent = sym (ap (goes_on (λ q. q.silence) source c.pmus.silence) left) ∙ c.pmus.invariant.silence in
     let clock = sym (ap (goes_on (λ q. q.clock_ms) source c.pmus.clock_ms) left) ∙ c.pmus.invariant.clock in
+    let ahead = sym (ap (goes_on (λ q. q.ahead_ms) source c.pmus.ahead_ms) left) ∙ c.pmus.invariant.ahead in
     elim c.if-eq.branch [
-      | then-eq+in_ok-silence+in_ok-clock_ms w ↦
+      | then-eq+in_ok-silence+in_ok-clock_ms+in_ok-ahead_ms w ↦
           let own : (p.key.source == source) ≡ true = search rules in
           record {
             silence = ap (λ s. goes_on (λ q. q.silence) source s rest) w.silence-is
                 ∙ sym (own_table (λ q. q.silence) source c.pmus.silence w.in_ok-silence.silence p rest own (sym w.in_ok-silence.ensures)) ∙ silent;
             clock = ap (λ s. goes_on (λ q. q.clock_ms) source s rest) w.clock_ms-is
                 ∙ sym (own_table (λ q. q.clock_ms) source c.pmus.clock_ms w.in_ok-clock_ms.clock_ms p rest own (sym w.in_ok-clock_ms.ensures)) ∙ clock;
+            ahead = ap (λ s. goes_on (λ q. q.ahead_ms) source s rest) w.ahead_ms-is
+                ∙ sym (own_table (λ q. q.ahead_ms) source c.pmus.ahead_ms w.in_ok-ahead_ms.ahead_ms p rest own (sym w.in_ok-ahead_ms.ensures)) ∙ ahead;
           }
       | else-eq w ↦
           let other : (p.key.source == source) ≡ false = search rules in
           record {
             silence = ap (λ s. goes_on (λ q. q.silence) source s rest) w.silence-is ∙ sym (other_table (λ q. q.silence) source c.pmus.silence p rest other) ∙ silent;
             clock = ap (λ s. goes_on (λ q. q.clock_ms) source s rest) w.clock_ms-is ∙ sym (other_table (λ q. q.clock_ms) source c.pmus.clock_ms p rest other) ∙ clock;
+            ahead = ap (λ s. goes_on (λ q. q.ahead_ms) source s rest) w.ahead_ms-is ∙ sym (other_table (λ q. q.ahead_ms) source c.pmus.ahead_ms p rest other) ∙ ahead;
           }
     ]
 
@@ -66,4 +82,7 @@ returns c =
     sym c.pmus.invariant.silence ∙ at_drop_all (λ l. goes_on (λ q. q.silence) source c.pmus.silence (map told l)) ps c.pmus.pmu-index c.pmus-test.false ∙ none_left (λ q. q.silence) source c.pmus.silence in
     let clock : agreed (said (λ q. q.clock_ms) source (map told ps)) ≡ Some c.pmus.clock_ms =
     sym c.pmus.invariant.clock ∙ at_drop_all (λ l. goes_on (λ q. q.clock_ms) source c.pmus.clock_ms (map told l)) ps c.pmus.pmu-index c.pmus-test.false ∙ none_left (λ q. q.clock_ms) source c.pmus.clock_ms in
-    rw (silence, clock) (ap (λ s. Some (record { source = source; silence = s; clock_ms = c.pmus.clock_ms })) c.unwrap_or.ensures)
+    let ahead : agreed (said (λ q. q.ahead_ms) source (map told ps)) ≡ Some c.pmus.ahead_ms =
+    sym c.pmus.invariant.ahead ∙ at_drop_all (λ l. goes_on (λ q. q.ahead_ms) source c.pmus.ahead_ms (map told l)) ps c.pmus.pmu-index c.pmus-test.false ∙ none_left (λ q. q.ahead_ms) source c.pmus.ahead_ms in
+    rw (silence, clock, ahead)
+    (λ i. Some (record { source = source; silence = c.unwrap_or.ensures i; clock_ms = c.pmus.clock_ms; ahead_ms = c.unwrap_or-2.ensures i }))

@@ -7,4 +7,5 @@ abbrev pub invariant-pmus : goal.invariant-pmus
 invariant-pmus l = record {
   silence : goes_on (λ p. p.silence) l.source l.silence (map told (drop l.pmu-index l.pmus)) ≡ goes_on (λ p. p.silence) l.source None (map told l.pmus);
   clock : goes_on (λ p. p.clock_ms) l.source l.clock_ms (map told (drop l.pmu-index l.pmus)) ≡ goes_on (λ p. p.clock_ms) l.source None (map told l.pmus);
+  ahead : goes_on (λ p. p.ahead_ms) l.source l.ahead_ms (map told (drop l.pmu-index l.pmus)) ≡ goes_on (λ p. p.ahead_ms) l.source None (map told l.pmus);
 }

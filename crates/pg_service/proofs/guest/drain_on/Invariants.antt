@@ -1,5 +1,5 @@
 use Rattle.std.proofs.Common.{◌≡◌}
-use Rattle.pg_service.specs.Posts.{OwnOnly, through}
+use Rattle.pg_service.specs.Posts.{OwnOnly}
 use Rattle.pg_service.specs.Visits.{HasHeard}
 use Rattle.pg_service.proofs.guest.drain_on.Given as goal
 
@@ -7,5 +7,5 @@ abbrev pub invariant-drains : goal.invariant-drains
 invariant-drains g l = record {
   heard : HasHeard l.session;
   sub : l.session.sub ≡ l.fn.session.sub;
-  own : OwnOnly l.fn.session.sub (through l.fn.gate.guarding (g.G.Gate.posts l.fn.gate.gate)) (through l.gate.guarding (g.G.Gate.posts l.gate.gate));
+  own : OwnOnly l.fn.session.sub (g.G.Gate.posts l.fn.gate.gate) (g.G.Gate.posts l.gate.gate);
 }

@@ -1,7 +1,13 @@
-use Rattle.std.proofs.Common.{ap}
-use Rattle.pg_service.specs.Posts.{through}
-use Rattle.pg_service.proofs.Calls.{guarded_call}
+use Rattle.std.proofs.Common.{subst, sym}
+use Rattle.pg_ingest.specs.Runs.{wires}
+use Rattle.pg_ingest.specs.Served.{IsCall}
+use Rattle.pg_service.specs.Posts.{passes}
 use Rattle.pg_service.proofs.source.run_guarded.Goals as goal
 
-pub returns-in-Some : goal.returns-in-Some
-returns-in-Some g c = record { call = guarded_call _ _ _ _ _ _ _ _ _ _ _ _ _ c.in-Some.is (ap (λ w. through w.guarding (g.G.Gate.posts w.gate)) c.guard.ensures.state) c.run_link-end.ensures.call }
+pub returns : goal.returns
+returns g c = record {
+  call = subst (λ w. IsCall c.run_link.result 10000 c.args.link.now c.run_link.new.link
+      (wires (g.R.Read.remaining c.args.reader.now.reader) (g.W.Write.contents c.args.writer.now) (g.G.Gate.posts w.gate) (passes w.guarding (g.G.Gate.takes w.gate)))
+      (wires (g.R.Read.remaining c.run_link.new.reader.reader) (g.W.Write.contents c.run_link.new.writer) (g.G.Gate.posts c.run_link.new.gate.gate)
+      (passes c.run_link.new.gate.guarding (g.G.Gate.takes c.run_link.new.gate.gate)))) c.guard.ensures.state c.run_link.ensures.call;
+}

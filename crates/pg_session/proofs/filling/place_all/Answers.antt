@@ -1,15 +1,14 @@
-use Rattle.std.proofs.Common.{◌≡◌, ◌+◌, ◌<◌, ◌≤◌, [], List, length, false, true, Some, None, is_some, option_map, ap, sym, ◌∙◌, arith}
+use Rattle.std.proofs.Common.{◌≡◌, length, Some, None, option_map, ap, sym, ◌∙◌, arith}
 use Rattle.std.proofs.lemmas.List.Quantifiers.{position-Some}
 use Rattle.std.proofs.lemmas.List.{length-map}
 use Rattle.pg_wire.specs.Keys.{key_eq}
 use Rattle.pg_data.specs.Pieces.{piece_of}
 use Rattle.pg_outcfg.specs.Ordered.{pieces_in}
 use Rattle.pg_session.specs.Events.{samples_at}
-use Rattle.pg_session.specs.Streams.{PlacedBlock, place_of, placed}
+use Rattle.pg_session.specs.Streams.{place_of, placed}
 use Rattle.pg_session.specs.Filling.{is_full}
 use Rattle.pg_session.proofs.Arrivals.{placed_next, rest_some, rest_none}
-use Rattle.pg_session.proofs.Laying.{empty_list}
-use Rattle.pg_session.proofs.Filled.{Placing, placing-none, placing-one, placing-twice, placing-end, came_full, came_some, in_all}
+use Rattle.pg_session.proofs.Filled.{placing-none, placing-one, placing-twice, placing-end, came_full, came_some, in_all}
 use Rattle.pg_session.proofs.filling.place_all.Goals as goal
 
 pub loop-place-init : goal.loop-place-init

@@ -1,6 +1,4 @@
-use Rattle.std.proofs.Common.{◌≡◌, ◌<◌, [], ◌∷◌, length, true, false, Some, None, ap, sym, ◌∙◌, refl, arith}
-use Rattle.pg_data.specs.Pieces.{piece_of}
-use Rattle.pg_session.specs.Filling.{filled}
+use Rattle.std.proofs.Common.{true, false, sym, ◌∙◌, refl, arith}
 use Rattle.pg_session.proofs.Filled.{one_placed}
 use Rattle.pg_session.proofs.filling.place_one.Goals as goal
 

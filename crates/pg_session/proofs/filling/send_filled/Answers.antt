@@ -1,4 +1,4 @@
-use Rattle.std.proofs.Common.{◌≡◌, List, ℕ, Vec}
+use Rattle.std.proofs.Common.{◌≡◌}
 use Rattle.pg_align.specs.Slots.{head_with}
 use Rattle.pg_outcfg.specs.Listing.{Listing}
 use Rattle.pg_outcfg.specs.Ordered.{AreMembers, pieces_in}

@@ -3,6 +3,7 @@ use Rattle.pg_session.specs.Commands.{Hearing, ShowsHearing}
 use Rattle.pg_session.specs.Events.{command}
 use Rattle.pg_gateway.specs.Occurrences.{asks, told}
 use Rattle.pg_gateway.specs.Posting.{Notes}
+use Rattle.pg_gateway.proofs.Taken.{posts_asked}
 use Rattle.pg_shared.proofs.Sessions.{turned_nothing, turned_more, turned_passed, turned_ignored, turned_broken, broken_out}
 use Rattle.pg_shared.proofs.serve.post_commands.Goals as goal
 
@@ -13,7 +14,8 @@ pub commands-preserved-in-Cmd-2 : goal.commands-preserved-in-Cmd-2
 commands-preserved-in-Cmd-2 g c =
     let asked = c.in-Cmd.command in
     let posted = subst (λ u. Notes (g.G.Gate.posts c.commands.gate) (g.G.Gate.posts c.post.new.self) ((asks u (command asked.stream asked.word), told c.post.result) ∷ []))
-    c.sub.ensures.value c.post.ensures.posted in
+    c.sub.ensures.value
+    (posts_asked (g.G.Gate.takes c.commands.gate) (g.met.G.Gate.frames c.commands.gate) c.sub.result (command asked.stream asked.word) (told c.post.result) _ _ c.post.ensures.posted) in
     record {
       ran = λ r w due.
           turned_more _ _ _ _ _ _ _ _ _ _ _ _ _ _ _ _ _ _ (c.commands.invariant.ran r w due)
@@ -26,7 +28,8 @@ pub commands-preserved-in-Cmd-3 : goal.commands-preserved-in-Cmd-3
 commands-preserved-in-Cmd-3 g c =
     let asked = c.in-Cmd.command in
     let posted = subst (λ u. Notes (g.G.Gate.posts c.commands.gate) (g.G.Gate.posts c.post.new.self) ((asks u (command asked.stream asked.word), told c.post.result) ∷ []))
-    c.sub.ensures.value c.post.ensures.posted in
+    c.sub.ensures.value
+    (posts_asked (g.G.Gate.takes c.commands.gate) (g.met.G.Gate.frames c.commands.gate) c.sub.result (command asked.stream asked.word) (told c.post.result) _ _ c.post.ensures.posted) in
     record {
       ran = λ r w due.
           turned_more _ _ _ _ _ _ _ _ _ _ _ _ _ _ _ _ _ _ (c.commands.invariant.ran r w due)

@@ -1,8 +1,7 @@
-use Rattle.std.proofs.Common.{[], ◌∷◌, ◌<◌, length, get_or, true, IfSome, refl, sym, subst, ◌∙◌}
+use Rattle.std.proofs.Common.{[], ◌∷◌, get_or, true, IfSome, refl, sym, subst, ◌∙◌}
 use Rattle.std.proofs.lemmas.List.{append-nil}
 use Rattle.std.specs.Arc.{arc_value}
 use Rattle.pg_audit.specs.Noting as audit
-use Rattle.pg_data.specs.Measurements.{Measurement}
 use Rattle.pg_session.specs.Events.{measure, samples_at}
 use Rattle.pg_session.specs.Private.{told}
 use Rattle.pg_gateway.specs.Routes.{TellsShare, IsOnlyBit}

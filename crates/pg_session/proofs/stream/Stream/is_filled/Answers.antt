@@ -22,7 +22,7 @@ pub returns-in-All : goal.returns-in-All
 returns-in-All c =
     let m = c.args.frame.now in
     let def = c.self.inside.definition in
-    let s : StreamOf (Aligned Piece) = stream_of def c.self.inside.align c.self.inside.changes in
+    let s : StreamOf (Aligned Piece) = stream_of def c.self.inside.align c.self.inside.changes c.self.inside.layouts in
     let samples = samples_at m c.args.places.now in
     let on : c.self.inside.align.is_on ≡ true = subst (λ (v : StreamOf (Aligned Piece)). v.slots.is_on ≡ true) (sym c.self.view_is) c.requires.on in
     let came = c.place_all.ensures.all c.in-All.is in

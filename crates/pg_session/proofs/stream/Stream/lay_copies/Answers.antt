@@ -12,7 +12,7 @@ pub returns-in_err-copy_members-clause-needless : goal.returns-in_err-copy_membe
 returns-in_err-copy_members-clause-needless c = λ empty.
     let quality = (arc_value c.args.frame.now).quality in
     let samples = samples_at (arc_value c.args.frame.now) c.args.places.now in
-    let s : StreamOf (Aligned Piece) = record { definition = c.self.inside.definition; slots = c.self.inside.align; count = c.self.inside.changes } in
+    let s : StreamOf (Aligned Piece) = record { definition = c.self.inside.definition; slots = c.self.inside.align; count = c.self.inside.changes; layouts = c.self.inside.layouts } in
     let wanted : wanted_of s quality samples ≡ [] = subst (λ (t : StreamOf (Aligned Piece)). wanted_of t quality samples ≡ []) (sym c.self.view_is) empty in
     let none = on_wanted s quality samples (subst (λ (t : StreamOf (Aligned Piece)). t.slots.is_on ≡ true) (sym c.self.view_is) c.requires.on) wanted in
     absurd (let never : false ≡ true = c.in_err-copy_members.ensures.needless none in cc never)

@@ -19,7 +19,7 @@ use Rattle.pg_session.proofs.stream.Stream.measure.Goals as goal
 
 pub arrive_all_in-some-requires-clause-effective : goal.arrive_all_in-some-requires-clause-effective
 arrive_all_in-some-requires-clause-effective c =
-    let s : StreamOf (Aligned Piece) = stream_of c.self.inside.definition c.self.inside.align c.self.inside.changes in
+    let s : StreamOf (Aligned Piece) = stream_of c.self.inside.definition c.self.inside.align c.self.inside.changes c.self.inside.layouts in
     let same : s.slots.effective ≡ effective_in c.args.listed.now s.definition.members = rw (← c.self.view_is) at c.requires.effective in
     rw same (effective-placed c.args.listed.now c.self.inside.definition.members c.args.frame.now.quality (samples_at c.args.frame.now c.args.places.now) c.requires.listed)
 
@@ -45,7 +45,7 @@ leave_all-requires-clause-bounded c =
     let m = c.args.frame.now in
     let places = c.args.places.now in
     let def = c.self.inside.definition in
-    let s : StreamOf (Aligned Piece) = stream_of def c.self.inside.align c.self.inside.changes in
+    let s : StreamOf (Aligned Piece) = stream_of def c.self.inside.align c.self.inside.changes c.self.inside.layouts in
     let blocks = placed def.members m.quality (samples_at m places) in
     let keep = arrivals-keep def.rate c.self.inside.align c.in-Ok.slot blocks c.in-Ok.ensures.time c.self.invariant.timed in
     let longer = ap (λ (a : Aligned Piece). length a.slots) c.arrive_all_in-some.ensures.slots in
@@ -68,7 +68,7 @@ invariant_of-self-in-Ok c =
     let m = c.args.frame.now in
     let places = c.args.places.now in
     let def = c.self.inside.definition in
-    let s : StreamOf (Aligned Piece) = stream_of def c.self.inside.align c.self.inside.changes in
+    let s : StreamOf (Aligned Piece) = stream_of def c.self.inside.align c.self.inside.changes c.self.inside.layouts in
     let blocks = placed def.members m.quality (samples_at m places) in
     let keep = arrivals-keep def.rate c.self.inside.align c.in-Ok.slot blocks c.in-Ok.ensures.time c.self.invariant.timed in
     let arrived = (arrive_all by_slots c.self.inside.align c.in-Ok.slot blocks).slots in
@@ -85,7 +85,7 @@ returns-else-not-some-clause-stream c =
     let m = c.args.frame.now in
     let places = c.args.places.now in
     let def = c.self.inside.definition in
-    let s : StreamOf (Aligned Piece) = stream_of def c.self.inside.align c.self.inside.changes in
+    let s : StreamOf (Aligned Piece) = stream_of def c.self.inside.align c.self.inside.changes c.self.inside.layouts in
     let blocks = placed def.members m.quality (samples_at m places) in
     let is : IsMeasurement m = subst IsMeasurement c.frame.view_is c.frame.invariant.0 in
     let on : c.self.inside.align.is_on ≡ true = subst (λ (v : StreamOf (Aligned Piece)). v.slots.is_on ≡ true) (sym c.self.view_is) c.requires.on in
@@ -94,9 +94,9 @@ returns-else-not-some-clause-stream c =
     let turn = measure_is c.args.listed.now m places s (length blocks) c.base.result (Ok c.in-Ok.slot) is c.requires.places on
     refl (c.arrive_all_in-some.ensures.some c.if-not-some.false) c.base.ensures.value (sym c.in-Ok.is ∙ exact) in
     let after = c.leave_all.ensures.slots ∙ ap (λ (a : Aligned Piece). (all_leaving a).after) c.arrive_all_in-some.ensures.slots in
-    let made : stream_of def c.leave_all.new.align c.self.inside.changes ≡ (arrival_turn by_slots c.args.listed.now s blocks (Ok c.in-Ok.slot)).stream =
-    ap (λ (a : Aligned Piece). stream_of def a c.self.inside.changes) after in
-    subst (λ (v : StreamOf (Aligned Piece)). stream_of def c.leave_all.new.align c.self.inside.changes
+    let made : stream_of def c.leave_all.new.align c.self.inside.changes c.self.inside.layouts ≡ (arrival_turn by_slots c.args.listed.now s blocks (Ok c.in-Ok.slot)).stream =
+    ap (λ (a : Aligned Piece). stream_of def a c.self.inside.changes c.self.inside.layouts) after in
+    subst (λ (v : StreamOf (Aligned Piece)). stream_of def c.leave_all.new.align c.self.inside.changes c.self.inside.layouts
     ≡ (measure_turn by_slots c.args.listed.now m.soc m.quality m.frac (samples_at m places) v).stream) c.self.view_is
     (made ∙ sym (ap (λ (t : Turn (Aligned Piece)). t.stream) turn))
 
@@ -105,7 +105,7 @@ returns-else-not-some-clause-sends c =
     let m = c.args.frame.now in
     let places = c.args.places.now in
     let def = c.self.inside.definition in
-    let s : StreamOf (Aligned Piece) = stream_of def c.self.inside.align c.self.inside.changes in
+    let s : StreamOf (Aligned Piece) = stream_of def c.self.inside.align c.self.inside.changes c.self.inside.layouts in
     let blocks = placed def.members m.quality (samples_at m places) in
     let is : IsMeasurement m = subst IsMeasurement c.frame.view_is c.frame.invariant.0 in
     let on : c.self.inside.align.is_on ≡ true = subst (λ (v : StreamOf (Aligned Piece)). v.slots.is_on ≡ true) (sym c.self.view_is) c.requires.on in
@@ -130,7 +130,7 @@ returns-else-not-some-clause-bounded c =
     let m = c.args.frame.now in
     let places = c.args.places.now in
     let def = c.self.inside.definition in
-    let s : StreamOf (Aligned Piece) = stream_of def c.self.inside.align c.self.inside.changes in
+    let s : StreamOf (Aligned Piece) = stream_of def c.self.inside.align c.self.inside.changes c.self.inside.layouts in
     let blocks = placed def.members m.quality (samples_at m places) in
     let keep = arrivals-keep def.rate c.self.inside.align c.in-Ok.slot blocks c.in-Ok.ensures.time c.self.invariant.timed in
     let longer = ap (λ (a : Aligned Piece). length a.slots) c.arrive_all_in-some.ensures.slots in
@@ -153,7 +153,7 @@ returns-else-not-has_placed-clause-stream c =
     let m = c.args.frame.now in
     let places = c.args.places.now in
     let def = c.self.inside.definition in
-    let s : StreamOf (Aligned Piece) = stream_of def c.self.inside.align c.self.inside.changes in
+    let s : StreamOf (Aligned Piece) = stream_of def c.self.inside.align c.self.inside.changes c.self.inside.layouts in
     let blocks = placed def.members m.quality (samples_at m places) in
     let is : IsMeasurement m = subst IsMeasurement c.frame.view_is c.frame.invariant.0 in
     let on : c.self.inside.align.is_on ≡ true = subst (λ (v : StreamOf (Aligned Piece)). v.slots.is_on ≡ true) (sym c.self.view_is) c.requires.on in
@@ -169,7 +169,7 @@ returns-else-not-has_placed-clause-sends c =
     let m = c.args.frame.now in
     let places = c.args.places.now in
     let def = c.self.inside.definition in
-    let s : StreamOf (Aligned Piece) = stream_of def c.self.inside.align c.self.inside.changes in
+    let s : StreamOf (Aligned Piece) = stream_of def c.self.inside.align c.self.inside.changes c.self.inside.layouts in
     let blocks = placed def.members m.quality (samples_at m places) in
     let is : IsMeasurement m = subst IsMeasurement c.frame.view_is c.frame.invariant.0 in
     let on : c.self.inside.align.is_on ≡ true = subst (λ (v : StreamOf (Aligned Piece)). v.slots.is_on ≡ true) (sym c.self.view_is) c.requires.on in
@@ -201,7 +201,7 @@ returns-then-not-some-clause-sends c =
     let m = c.args.frame.now in
     let places = c.args.places.now in
     let a = c.self.inside.align in
-    let s : StreamOf (Aligned Piece) = stream_of c.self.inside.definition a c.self.inside.changes in
+    let s : StreamOf (Aligned Piece) = stream_of c.self.inside.definition a c.self.inside.changes c.self.inside.layouts in
     let listed = c.args.listed.now in
     let out = c.args.output.now in
     let new = c.arrive_all_in-some.new.output in
@@ -220,7 +220,7 @@ pub returns-then-not-has_placed-clause-sends : goal.returns-then-not-has_placed-
 returns-then-not-has_placed-clause-sends c =
     let m = c.args.frame.now in
     let places = c.args.places.now in
-    let s : StreamOf (Aligned Piece) = stream_of c.self.inside.definition c.self.inside.align c.self.inside.changes in
+    let s : StreamOf (Aligned Piece) = stream_of c.self.inside.definition c.self.inside.align c.self.inside.changes c.self.inside.layouts in
     let listed = c.args.listed.now in
     let out = c.args.output.now in
     let turn = nothing-turns listed m places s (c.has_placed.ensures.none c.if-not-has_placed.true) in

@@ -1,14 +1,13 @@
-use Rattle.std.proofs.Common.{◌≡◌, ◌<◌, ℕ, List, [], ◌∷◌, length, replicate, slice_index_or, Option, Some, None, Ok, Err, true, false, refl, ap, sym, ◌∙◌, subst, arith}
+use Rattle.std.proofs.Common.{◌≡◌, ◌<◌, List, [], ◌∷◌, length, replicate, slice_index_or, Some, None, Ok, Err, true, false, refl, ap, sym, ◌∙◌, subst, arith}
 use Rattle.pg_wire.specs.declared.ids.PmuKey.{PmuKey}
 use Rattle.pg_data.specs.Measurements.{Measurement, IsMeasurement}
 use Rattle.pg_data.specs.Pieces.{Piece}
 use Rattle.pg_stream.specs.Slots.{slot_at}
 use Rattle.pg_align.specs.Histories.{is_above}
-use Rattle.pg_align.specs.Slots.{Aligned, with_last, head_with}
-use Rattle.pg_outcfg.specs.Listing.{Listing}
+use Rattle.pg_align.specs.Slots.{Aligned}
 use Rattle.pg_outcfg.specs.Ordered.{pieces_in}
 use Rattle.pg_session.specs.Events.{samples_at}
-use Rattle.pg_session.specs.Streams.{StreamOf, Turn, placed, still, slot_frame, arrival_turn, measure_turn}
+use Rattle.pg_session.specs.Streams.{StreamOf, Turn, placed, still, measure_turn}
 use Rattle.pg_session.specs.Sending.{Sending, Sends}
 use Rattle.pg_session.specs.Kept.{by_slots}
 use Rattle.pg_session.specs.Fields.{with_stats, turn_stats}
@@ -39,7 +38,7 @@ returns-in_default c =
     let place = c.args.place in
     let def = c.self.inside.definition in
     let a = c.self.inside.align in
-    let s : StreamOf (Aligned Piece) = stream_of def a c.self.inside.changes in
+    let s : StreamOf (Aligned Piece) = stream_of def a c.self.inside.changes c.self.inside.layouts in
     let samples = samples_at m (place ∷ []) in
     let listed = c.args.listed.now in
     let out = c.args.output.now in
@@ -67,7 +66,7 @@ returns-in-Ok-clause-stream c =
     let place = c.args.place in
     let def = c.self.inside.definition in
     let a = c.self.inside.align in
-    let s : StreamOf (Aligned Piece) = stream_of def a c.self.inside.changes in
+    let s : StreamOf (Aligned Piece) = stream_of def a c.self.inside.changes c.self.inside.layouts in
     let samples = samples_at m (place ∷ []) in
     let listed = c.args.listed.now in
     let out = c.args.output.now in
@@ -98,7 +97,7 @@ returns-in-Ok-clause-sends c =
     let place = c.args.place in
     let def = c.self.inside.definition in
     let a = c.self.inside.align in
-    let s : StreamOf (Aligned Piece) = stream_of def a c.self.inside.changes in
+    let s : StreamOf (Aligned Piece) = stream_of def a c.self.inside.changes c.self.inside.layouts in
     let samples = samples_at m (place ∷ []) in
     let listed = c.args.listed.now in
     let out = c.args.output.now in
@@ -129,7 +128,7 @@ returns-in-Ok-2-clause-stream c =
     let place = c.args.place in
     let def = c.self.inside.definition in
     let a = c.self.inside.align in
-    let s : StreamOf (Aligned Piece) = stream_of def a c.self.inside.changes in
+    let s : StreamOf (Aligned Piece) = stream_of def a c.self.inside.changes c.self.inside.layouts in
     let samples = samples_at m (place ∷ []) in
     let listed = c.args.listed.now in
     let out = c.args.output.now in
@@ -159,7 +158,7 @@ returns-in-Ok-2-clause-sends c =
     let place = c.args.place in
     let def = c.self.inside.definition in
     let a = c.self.inside.align in
-    let s : StreamOf (Aligned Piece) = stream_of def a c.self.inside.changes in
+    let s : StreamOf (Aligned Piece) = stream_of def a c.self.inside.changes c.self.inside.layouts in
     let samples = samples_at m (place ∷ []) in
     let listed = c.args.listed.now in
     let out = c.args.output.now in
@@ -192,7 +191,7 @@ returns-in-Err-clause-stream c =
     let place = c.args.place in
     let def = c.self.inside.definition in
     let a = c.self.inside.align in
-    let s : StreamOf (Aligned Piece) = stream_of def a c.self.inside.changes in
+    let s : StreamOf (Aligned Piece) = stream_of def a c.self.inside.changes c.self.inside.layouts in
     let samples = samples_at m (place ∷ []) in
     let listed = c.args.listed.now in
     let out = c.args.output.now in
@@ -221,7 +220,7 @@ returns-in-Err-clause-sends c =
     let place = c.args.place in
     let def = c.self.inside.definition in
     let a = c.self.inside.align in
-    let s : StreamOf (Aligned Piece) = stream_of def a c.self.inside.changes in
+    let s : StreamOf (Aligned Piece) = stream_of def a c.self.inside.changes c.self.inside.layouts in
     let samples = samples_at m (place ∷ []) in
     let listed = c.args.listed.now in
     let out = c.args.output.now in

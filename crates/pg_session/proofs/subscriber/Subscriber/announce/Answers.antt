@@ -60,6 +60,7 @@ returns-clause-steps c =
       streams = ss;
       output = c.self.inside.output.output;
       last_tick = c.self.inside.last_tick;
+      definitions = c.self.inside.definitions;
     } in
     let list = announced_at c.args.config.now c.args.places.now in
     let turn = reshape_turn by_slots own.listed (put_all own.listed list) in

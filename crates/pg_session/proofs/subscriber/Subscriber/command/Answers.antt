@@ -17,6 +17,7 @@ returns-in-Err-clause-steps c =
       streams = c.self-2.inside.streams.items;
       output = c.self-2.inside.output.output;
       last_tick = c.self-2.inside.last_tick;
+      definitions = c.self-2.inside.definitions;
     } in
     let connected : p.connected ≡ true = ap (λ (v : SubscriberValue). v.own.connected) (sym c.self.view_is) ∙ c.if-not-self.false in
     let same : own ≡ p = ap (λ (v : SubscriberValue). v.own) c.self-2.view_is ∙ c.in-Err.ensures.unchanged in

@@ -20,6 +20,7 @@ returns-clause-steps c =
       streams = c.self.inside.streams.items;
       output = c.self.inside.output.output;
       last_tick = c.self.inside.last_tick;
+      definitions = c.self.inside.definitions;
     } in
     let queue = own.output.queue in
     let buf = c.args.buf in

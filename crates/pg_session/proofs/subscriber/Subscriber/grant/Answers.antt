@@ -28,6 +28,7 @@ returns-then-holds-clause-steps c = λ config h.
       streams = c.self.inside.streams.items;
       output = c.self.inside.output.output;
       last_tick = c.self.inside.last_tick;
+      definitions = c.self.inside.definitions;
     } in
     let value : SubscriberValue = record { own = own; blocks = c.self.inside.blocks.items; configs = map arc_value c.self.inside.configs.items } in
     let held : has_key own.grants c.args.key ≡ true = sym c.holds.ensures.value ∙ c.if-holds.true in
@@ -59,6 +60,7 @@ returns-in_default-clause-steps c = λ config h.
       streams = c.self.inside.streams.items;
       output = c.self.inside.output.output;
       last_tick = c.self.inside.last_tick;
+      definitions = c.self.inside.definitions;
     } in
     let items = c.self.inside.configs.items in
     let free : has_key own.grants c.args.key ≡ false = sym c.holds.ensures.value ∙ c.if-holds.false in
@@ -122,6 +124,7 @@ returns-clause-steps c = λ config h.
       streams = ss;
       output = c.self.inside.output.output;
       last_tick = c.self.inside.last_tick;
+      definitions = c.self.inside.definitions;
     } in
     let items = c.self.inside.configs.items in
     let given = arc_value c.in-Some.copy in

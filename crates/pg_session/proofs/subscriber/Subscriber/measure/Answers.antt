@@ -46,6 +46,7 @@ returns-clause-steps c =
       streams = ss;
       output = c.self.inside.output.output;
       last_tick = c.self.inside.last_tick;
+      definitions = c.self.inside.definitions;
     } in
     let turn = measure_turn by_slots c.self.inside.listed c.args.frame.now.soc c.args.frame.now.quality c.args.frame.now.frac (samples_at c.args.frame.now c.args.places.now) in
     let e = event.measure c.args.frame.now.soc c.args.frame.now.quality c.args.frame.now.frac (samples_at c.args.frame.now c.args.places.now) in

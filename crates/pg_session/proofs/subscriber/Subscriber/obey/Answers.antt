@@ -40,6 +40,7 @@ returns-clause-done c =
       streams = c.self.inside.streams.items;
       output = c.self.inside.output.output;
       last_tick = c.self.inside.last_tick;
+      definitions = c.self.inside.definitions;
     } in
     let number = c.args.asked.now.stream in
     let word = c.args.asked.now.word in

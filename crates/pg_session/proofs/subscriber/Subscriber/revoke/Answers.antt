@@ -45,6 +45,7 @@ returns-clause-steps c =
       streams = ss;
       output = c.self.inside.output.output;
       last_tick = c.self.inside.last_tick;
+      definitions = c.self.inside.definitions;
     } in
     let turn = reshape_turn by_slots c.self.inside.listed (without_config c.self.inside.listed c.args.key) in
     let e = event.revoke c.args.key in

@@ -1,11 +1,10 @@
-use Rattle.std.proofs.Common.{◌<◌, [], ◌∷◌, ℕ, List, length, sym, subst}
+use Rattle.std.proofs.Common.{[], ◌∷◌, sym, subst}
 use Rattle.std.specs.Arc.{arc_value}
 use Rattle.pg_data.specs.Measurements.{Measurement}
 use Rattle.pg_data.specs.Pieces.{piece_of}
 use Rattle.pg_session.specs.Events.{measure, samples_at}
 use Rattle.pg_session.specs.Private.{told}
 use Rattle.pg_session.specs.Steps.{Steps}
-use Rattle.pg_session.specs.Ready.{AreHeld}
 use Rattle.pg_session.specs.Fields.{Serving}
 use Rattle.pg_session.proofs.Stepping.{steps_taken}
 use Rattle.pg_session.proofs.OneBlock.{laid_one}

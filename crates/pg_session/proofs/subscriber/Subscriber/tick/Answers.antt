@@ -43,6 +43,7 @@ returns-clause-steps c =
       streams = ss;
       output = c.self.inside.output.output;
       last_tick = c.self.inside.last_tick;
+      definitions = c.self.inside.definitions;
     } in
     let turn = tick_turn by_slots c.self.inside.listed in
     let e = event.tick c.args.soc in
