@@ -80,19 +80,21 @@ def test_a_source_deaf_at_first_comes_up(bench):
 
 @takes(7)
 def test_a_lost_start_is_sent_again(bench):
-    """A source whose first command 2 is lost, and which sends CFG-2 by itself, is asked again after 3 seconds, and its data come."""
+    """A source whose first command 2 is lost, and which sends CFG-2 by itself and half a data frame, is asked again after 3 seconds; the half is forgotten,
+    and its data come."""
     pair = Pair(bench)
     gateway = bench.gateway(pair.text).serves(1, 20)
     pair.nine.come()
     pair.seven.accept()
     pair.seven.announce()
     time.sleep(1.5)
-    pair.seven.link.send(pair.seven.configuration())
+    pair.seven.link.send(pair.seven.configuration() + pair.seven.data(now_soc() * RATE, 1)[:10])
     pair.seven.announce()
     pair.gateway = gateway
     pair.first = bench.subscriber(pair.ports[0])
     pair.first.start(101)
     pair.first_is_served(3)
+    expect(" ignored - " in gateway.status()["source 7"], "frames of source 7 are ignored")
     same(gateway.logged("source 7: called at .*"), 1)
     gateway.quit()
 
@@ -240,8 +242,24 @@ def test_a_name_without_an_answer_holds_up_no_other(bench):
     gateway = bench.gateway(text, words=words)
     nine.come(3)
     for number in (7, 8, 300):
-        gateway.line(f"source {number}: no name server answers for its name since 5 seconds")
+        gateway.line(f"source {number}: no name server has answered for its name for 5 seconds")
     gateway.process.kill()
+
+
+@takes(3)
+def test_quit_waits_for_no_look_up(bench):
+    """Half a second after two sources were called by names that no server answers, `quit` ends the program within 2 seconds, with status 0. (Where
+    this user may not set a name server, nothing is tried.)"""
+    words = silent_name_server(bench)
+    if not words:
+        return
+    text = "".join(pmu(number, connect=f"no-answer-{number}.test:4712") for number in (7, 300)) + subscriber(1, bench.port())
+    gateway = bench.gateway(text, words=words).serves(1)
+    time.sleep(0.5)
+    begun = time.monotonic()
+    gateway.quit()
+    took = time.monotonic() - begun
+    expect(took < 2, f"`quit` took {took:.1f} s")
 
 
 @takes(5)

@@ -7,7 +7,7 @@ import subprocess
 import sys
 import time
 
-from peers import PATIENCE, Lines, Pair, PassedBy, expect, metrics, pmu, same, subscriber, takes, until
+from peers import PATIENCE, Lines, Pair, PassedBy, expect, metrics, pmu, read_all, same, subscriber, takes, until
 
 
 class Client:
@@ -67,6 +67,169 @@ def test_lines_of_the_control_socket(bench):
     gateway.quit()
 
 
+def test_lines_however_they_are_cut(bench):
+    """Lines end with LF or CR LF, and the last one with the connection; they are answered in order, however their bytes come. Lines that are like `quit` or
+    `end`, but another word, end nothing."""
+    pair, path = controlled(bench)
+    gateway = pair.run()
+    text = b"pmustats 7\ngrant 1 9\r\n\n\r\n# nothing\n revoke\r1 9 \nstats 99"
+    answers = b"pmustats taken 0\ndone 0 0\nrefused 36 BadLine\nrefused 26 NoSuchSub\n"
+    for size in (1, 2, 7, 1000):
+        client = Client(bench, path)
+        for at in range(0, len(text), size):
+            client.send(text[at:at + size])
+            time.sleep(0.002)
+        client.socket.shutdown(socket.SHUT_WR)
+        same(read_all(client.socket), answers, f"pieces of {size} bytes:")
+        gateway.does("revoke 1 9", "done 0 0")
+    client = Client(bench, path)
+    client.socket.shutdown(socket.SHUT_WR)
+    same(read_all(client.socket), b"", "a client that sends nothing")
+    client = Client(bench, path)
+    for line in (b"qui", b"quite", b"quit now", b"Quit", b"\tquit", b"end ", b" end", b"ends", b"en"):
+        client.send(line + b"\nend\n")
+        client.gets(b"refused 36 BadLine\nend\n")
+    gateway.quit()
+
+
+def test_a_line_at_its_bound(bench):
+    """A line of 4,096 bytes is taken whole, and one of 4,097 is refused and not cut: as a comment it has no answer."""
+    pair, path = controlled(bench)
+    gateway = pair.run()
+    client = Client(bench, path)
+    for size in (4096, 4097, 4096):
+        client.send(b"#" * size + b"\nend\n")
+        client.gets(b"refused 36 BadLine\nend\n" if size > 4096 else b"end\n")
+    client.send(b"#" * 1_000_000)
+    client.send(b"\nend\n")
+    client.gets(b"refused 36 BadLine\nend\n")
+    gateway.quit()
+
+
+def test_a_client_that_reads_late_gets_each_answer(bench):
+    """A client that has 300,000 bytes of answers unread gets all of them, in order, though its socket took only a part at a time."""
+    pair, path = controlled(bench)
+    gateway = pair.run()
+    client, wanted = Client(bench, path), bytearray()
+    while len(wanted) < 300_000:
+        client.send(b"stats 20\npmustats 99\n")
+        wanted += b"stats made 0 dropped 0 lost 0 late 0 twice 0 cleared 0 handed 0 replies 0\nrefused 23 NoSuchPmu\n"
+    time.sleep(0.3)
+    client.gets(bytes(wanted))
+    gateway.quit()
+
+
+def test_quit_waits_for_the_answers_before_it(bench):
+    """`quit` with spaces around it, behind answers that its client does not read, ends the program once these are read, and no sooner; a last line `quit`
+    without an end does it too."""
+    for line in (b" quit \r\nstatus\n", b"quit"):
+        pair, path = controlled(bench)
+        gateway = pair.run()
+        client = Client(bench, path)
+        client.send(b"status\n" * 800 + line)
+        client.socket.shutdown(socket.SHUT_WR)
+        time.sleep(0.5)
+        same(gateway.process.poll(), None, "the program, before the answers are read:")
+        # Two sources, two subscribers and three streams.
+        same(read_all(client.socket).count(b"\n"), 800 * 7, "lines of `status`")
+        same(gateway.ended(3), 0)
+        for source in (pair.seven, pair.nine):
+            source.close()
+
+
+def test_the_end_behind_a_reload(bench):
+    """A client that ends its side behind `reload`, with or without an end of its line, gets the answer, and so does one that sends `quit` behind it, which
+    ends the program then. Lines between reloads are answered in order. One that goes at once costs the others nothing."""
+    pair, path = controlled(bench)
+    gateway = pair.run()
+    done = b"reloaded: 0 edits, 0 orders\n"
+    for text, answers in ((b"pmustats 7\nreload", b"pmustats taken 0\n" + done), (b"reload\n", done),
+                          (b"reload\npmustats 9\nreload\nend\nstats 99\n", done + b"pmustats taken 0\n" + done + b"end\nrefused 26 NoSuchSub\n")):
+        Client(bench, path).send(b"reload\n")
+        bench.made[-1].close()
+        client = Client(bench, path)
+        client.send(text)
+        client.socket.shutdown(socket.SHUT_WR)
+        same(read_all(client.socket), answers)
+    client = Client(bench, path)
+    client.send(b"pmustats 7\nreload\nquit\npmustats 9\n")
+    same(read_all(client.socket), b"pmustats taken 0\n" + done)
+    same(gateway.ended(3), 0)
+
+
+# Lines for `ctl`; what the other side sends; what it is sent; what `ctl` prints; the status, and what it says: `{}` is the socket's path.
+REFUSED = "{}: a line was refused; its answer tells the reason, and docs/OPERATING.md what it means\n"
+ENDED = "{{}}: the connection ended before `{}` was answered; whether it was done is not known\npdcgw: 39 ReadFault\n"
+BUSY = "{}: 8 clients are connected already; it takes one more when one of them has gone\npdcgw: 34 Busy\n"
+CONVERSATIONS = [
+    (["status"], "source 7 - up\nstream 1 101 on\nend\n", "status\nend\n", "source 7 - up\nstream 1 101 on\n", 0, ""),
+    # A line without an answer.
+    (["# a remark", "addpmu 9"], "end\ndone 0 0\nend\n", "# a remark\nend\naddpmu 9\nend\n", "done 0 0\n", 0, ""),
+    # One that is refused, and the others are sent all the same.
+    (["addpmu 9", "addpmu 10"], "refused 24 PmuExists\nend\ndone 0 0\nend\n", "addpmu 9\nend\naddpmu 10\nend\n",
+     "refused 24 PmuExists\ndone 0 0\n", 1, REFUSED),
+    # The service ended within an answer, and before one. An answer without the mark behind it is not taken for all of it.
+    (["status"], "source 7 - up\nstr", "status\nend\n", "source 7 - up\nstr", 1, ENDED.format("status")),
+    (["addpmu 9", "addpmu 10", "addpmu 11"], "done 0 0\nend\n", "addpmu 9\nend\naddpmu 10\nend\n", "done 0 0\n", 1,
+     ENDED.format("addpmu 10")),
+    (["addpmu 9"], "done 0 0\n", "addpmu 9\nend\n", "done 0 0\n", 1, ENDED.format("addpmu 9")),
+    (["status", "quit"], "refused 34 Busy\n", "status\nend\n", "refused 34 Busy\n", 1, BUSY),
+    (["quit"], "refused 34 Busy\n", "quit\n", "refused 34 Busy\n", 1, BUSY),
+    # What is refused so by a line is another thing.
+    (["a"], "refused 34 Busy\nend\n", "a\nend\n", "refused 34 Busy\n", 1, REFUSED),
+    # The end of the connection is what `quit` asks for, and nothing else.
+    (["addpmu 9", " quit "], "done 0 0\nend\n", "addpmu 9\nend\n quit \n", "done 0 0\n", 0, ""),
+    (["quit", "status"], "", "quit\nstatus\nend\n", "", 1, ENDED.format("status")),
+    # Two lines in a word, of which one is `end` itself.
+    (["addpmu 9\nend", "stats 1"], "done 0 0\nend\nend\nstats made 0\nend\n", "addpmu 9\nend\nend\nstats 1\nend\n",
+     "done 0 0\nstats made 0\n", 0, ""),
+]
+
+
+def converse(bench, path, row, is_reset):
+    """`ctl` gets this other side, which closes behind its answers; with `is_reset` before it has read, so that the connection is reset."""
+    lines, back, sent, printed, status, errors = row
+    with socket.socket(socket.AF_UNIX) as listener:
+        listener.bind(path)
+        listener.listen(1)
+        done = subprocess.Popen([bench.program, "ctl", "--control", path, *lines], stdin=subprocess.DEVNULL, stdout=subprocess.PIPE, stderr=subprocess.PIPE)
+        with listener.accept()[0] as peer:
+            peer.settimeout(PATIENCE)
+            came = bytearray()
+            # Each answer is sent once its line has come.
+            for part in [back] if is_reset else back.replace("end\n", "end\n\0").split("\0"):
+                came += b"" if is_reset else peer.recv(1 << 16)
+                if part:
+                    peer.sendall(part.encode())
+            peer.shutdown(socket.SHUT_WR)
+            while not is_reset and len(came) < len(sent):
+                came += peer.recv(1 << 16)
+        out, told = done.communicate(timeout=PATIENCE)
+    same((out.decode(), told.decode(), done.returncode), (printed, errors.format(path), status), f"ctl {lines}:")
+    same(came.decode(), "" if is_reset else sent, f"ctl {lines} sends:")
+
+
+def test_how_lines_of_ctl_were_answered(bench):
+    """`ctl` sends each line once the one before it was answered, prints the answers, and says by its status and on standard error how they were answered,
+    however the other side ends."""
+    for at, row in enumerate(CONVERSATIONS):
+        converse(bench, f"{bench.folder}/{at}.control", row, False)
+        # (of a line that a reset cuts nothing is printed)
+        if not row[1] or row[1].endswith("\n"):
+            converse(bench, f"{bench.folder}/reset-{at}.control", row, True)
+
+
+def test_output_of_ctl_that_can_not_be_written(bench):
+    """Where standard output is full `ctl` says so, and its status is 1."""
+    pair, path = controlled(bench)
+    gateway = pair.run()
+    with open("/dev/full", "w") as full:
+        done = subprocess.run([bench.program, "ctl", "--control", path, "status"], stdin=subprocess.DEVNULL, stdout=full, stderr=subprocess.PIPE)
+    same(done.returncode, 1)
+    expect(done.stderr, "nothing is said")
+    gateway.quit()
+
+
 def test_ctl(bench):
     """`pdcgw ctl` prints the answers; its status is 1 where a line is refused, and where no gateway listens."""
     pair, path = controlled(bench)
@@ -106,6 +269,7 @@ def test_a_ninth_client_is_refused(bench):
     clients = [Client(bench, path) for _ in range(9)]
     clients[8].gets(b"refused 34 Busy\n")
     expect(clients[8].is_closed(), "the ninth client was not closed")
+    gateway.logs(r"WARN control socket: a client was refused \(34 Busy\), since 8 are connected")
     for client in clients[:8]:
         client.send(b"pmustats 7\n")
         client.gets(b"pmustats taken 0\n")
@@ -226,6 +390,38 @@ def test_the_socket_is_never_open_to_others(bench):
             until(lambda: printed.lines[1:], "the other user connects to a socket that is open to all")
     finally:
         stranger.kill()
+
+
+def stopped(gateway):
+    """Stops the program until it is sent SIGCONT."""
+    gateway.process.send_signal(signal.SIGSTOP)
+    until(lambda: open(f"/proc/{gateway.process.pid}/stat").read().rpartition(") ")[2][0] == "T", "the program's stop")
+
+
+def test_sixteen_lines_at_a_time(bench):
+    """Of a client that floods lines 16 are answered before the line of another one, and lines that ask for nothing count among them."""
+    pair, path = controlled(bench)
+    gateway = pair.run()
+    flood, other = Client(bench, path), Client(bench, path)
+    for each, most in ((b"pmustats 8\n", 16), (b"\n" * 15 + b"pmustats 8\n", 1)):
+        gateway.does("addpmu 8", "done 0 0")
+        for client in (flood, other):
+            client.send(b"pmustats 8\n")
+            client.gets(b"pmustats taken 0\n")
+        stopped(gateway)
+        flood.send(each * 100)
+        other.send(b"droppmu 8\n")
+        gateway.process.send_signal(signal.SIGCONT)
+        other.gets(b"done 0 0\n")
+        flood.send(b"end\n")
+        answers = bytearray()
+        while not answers.endswith(b"end\n"):
+            answers += flood.socket.recv(1 << 16)
+        lines = bytes(answers).splitlines()
+        before = lines.count(b"pmustats taken 0")
+        same(lines, [b"pmustats taken 0"] * before + [b"refused 23 NoSuchPmu"] * (100 - before) + [b"end"])
+        expect(before in (0, most), f"{before} lines were answered before one of another client")
+    gateway.quit()
 
 
 def test_a_flood_of_lines(bench):

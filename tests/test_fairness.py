@@ -5,7 +5,7 @@ import re
 import time
 
 from c37118 import START, STOP, command, frame, stamp
-from peers import Pair, expect, metrics, now_soc, same, takes, until, with_wrong_check
+from peers import Pair, expect, http, metrics, now_soc, same, takes, until, with_wrong_check
 
 RING = 16
 # A frame of 16 PMUs of 27 phasors: head, blocks of STAT, phasors, FREQ and DFREQ, and CHK.
@@ -64,6 +64,7 @@ def test_what_waits_is_shown(bench):
     shown = metrics(page)
     for name, value in (("queue_frames", frames), ("queue_bytes", size), ("dropped_frames_total", counts["dropped"])):
         same((name, shown[f'pdcgw_subscriber_{name}{{subscriber="20"}}']), (name, str(value)))
+    expect(f'"queue_frames":{frames},"queue_bytes":{size},' in http(page, "/state")[1], "what waits, in the state")
     gateway.quit()
 
 

@@ -37,6 +37,109 @@ def test_what_the_page_serves(bench):
     gateway.quit()
 
 
+def asked(page, *pieces, ends=False, pause=0.003):
+    """The whole answer to the bytes of a client, which come in these pieces; with `ends` it then ends its side."""
+    with socket.create_connection(("127.0.0.1", page), 10) as client:
+        client.setsockopt(socket.IPPROTO_TCP, socket.TCP_NODELAY, 1)
+        for piece in pieces:
+            client.sendall(piece)
+            time.sleep(pause)
+        if ends:
+            client.shutdown(socket.SHUT_WR)
+        return read_all(client)
+
+
+def answer(status, kind, body, is_head=False, more=""):
+    """An answer of the page's host."""
+    text = f"HTTP/1.1 {status}\r\n{more}Content-Type: {kind}\r\nContent-Length: {len(body)}\r\nCache-Control: no-store\r\nConnection: close\r\n\r\n"
+    return text.encode() + (b"" if is_head else body)
+
+
+PLAIN = "text/plain; charset=utf-8"
+# What is shown, by the beginning of its content; what is refused, whole.
+SHOWN = {"page": ("text/html; charset=utf-8", b"<!DOCTYPE html>\n"), "state": ("application/json", b'{"sources":['),
+         "metrics": ("text/plain; version=0.0.4; charset=utf-8", b"# HELP pdcgw_source_up ")}
+DENIED = {"400": ("400 Bad Request", "", b"This is no request of HTTP/1.1.\n"),
+          "404": ("404 Not Found", "", b"Nothing is here. There are /, /state and /metrics.\n"),
+          "405": ("405 Method Not Allowed", "Allow: GET, HEAD\r\n", b"All here is read by GET or HEAD.\n"),
+          "431": ("431 Request Header Fields Too Large", "", b"The head of a request has at most 8192 bytes and 64 fields.\n"),
+          "503": ("503 Service Unavailable", "Retry-After: 1\r\n", b"As many connections are served as may be: ask again in a second.\n")}
+ASKED = """\
+GET / HTTP/1.1=page
+GET / HTTP/1.0=page
+GET /state HTTP/1.1=state
+GET /metrics HTTP/1.1=metrics
+HEAD / HTTP/1.1=page alone
+HEAD /metrics HTTP/1.1=metrics alone
+GET /metrics?a=b&c HTTP/1.1=metrics
+GET /?/state HTTP/1.1=page
+GET /metrics/ HTTP/1.1=404
+GET /Metrics HTTP/1.1=404
+GET /metric HTTP/1.1=404
+GET // HTTP/1.1=404
+GET ? HTTP/1.1=404
+HEAD /page.html HTTP/1.1=404 alone
+POST / HTTP/1.1=405
+get / HTTP/1.1=405
+GETS / HTTP/1.1=405
+DELETE /nothing HTTP/1.1=405
+OPTIONS * HTTP/1.1=405
+GET / HTTP/2.0=400
+GET /=400
+G(T / HTTP/1.1=400
+\x16\x03\x01=400"""
+
+
+def is_answered(came, word, what=""):
+    """An answer is the one that this word stands for."""
+    word, _, alone = word.partition(" ")
+    if word in DENIED:
+        status, more, body = DENIED[word]
+        same(came, answer(status, PLAIN, body, bool(alone), more), what)
+        return
+    kind, begin = SHOWN[word]
+    head, _, body = came.partition(b"\r\n\r\n")
+    size = int((re.search(rb"\r\nContent-Length: (\d+)\r\n", head) or [0, 0])[1])
+    same(head + b"\r\n\r\n", answer("200 OK", kind, bytes(size), True), what)
+    same((body[:len(begin)], len(body)), (b"", 0) if alone else (begin, size), what)
+
+
+def test_what_a_head_asks_for(bench):
+    """Each request is answered by its method and path, and the head of the answer is whole; bytes that begin no request are refused by 400."""
+    pair, page = paged(bench)
+    gateway = pair.run()
+    for row in ASKED.split("\n"):
+        line, _, word = row.rpartition("=")
+        is_answered(asked(page, f"{line}\r\nHost: a\r\n\r\n".encode(), pause=0), word, line)
+    gateway.quit()
+
+
+def test_a_head_that_comes_byte_by_byte(bench):
+    """A head is awaited however its bytes come. A client that ends its side behind it gets the whole answer; one that ends it before gets none."""
+    pair, page = paged(bench)
+    gateway = pair.run()
+    head = b"GET /state HTTP/1.1\r\nHost: a:80\r\nAccept: */*\r\n\r\n"
+    is_answered(asked(page, *(bytes([it]) for it in head)), "state")
+    is_answered(asked(page, b"HEAD /state HTTP/1.1\r\n\r\n", ends=True), "state alone")
+    is_answered(asked(page, b"GET / HTTP/1.1\r\n\r\n", ends=True, pause=0), "page")
+    same(asked(page, b"GET / HT", ends=True), b"")
+    gateway.quit()
+
+
+def test_a_head_at_its_bounds(bench):
+    """A head of 8,192 bytes is answered, and 8,192 bytes without its end are refused by 431 at once; so is a head of more than 64 fields."""
+    pair, page = paged(bench)
+    gateway = pair.run()
+    front = b"GET / HTTP/1.1\r\nA: "
+    whole = front + b"a" * (8192 - len(front) - 4) + b"\r\n\r\n"
+    is_answered(asked(page, whole), "page")
+    is_answered(asked(page, whole[:8191], whole[8191:], pause=0.1), "page")
+    is_answered(asked(page, front + b"a" * (8192 - len(front))), "431")
+    for fields, word in ((64, "page"), (65, "431")):
+        is_answered(asked(page, b"GET / HTTP/1.1\r\n" + b"A: b\r\n" * fields + b"\r\n"), word)
+    gateway.quit()
+
+
 def test_the_page_is_bound_on_its_address(bench):
     """The page is served at the address that `status` names, and at no other."""
     pair, page = paged(bench, host="127.0.0.2")
@@ -69,10 +172,14 @@ def test_a_seventeenth_client_is_answered(bench):
     pair, page = paged(bench)
     gateway = pair.run()
     clients = [socket.create_connection(("127.0.0.1", page)) for _ in range(17)]
-    expect(read_all(clients[16]).startswith(b"HTTP/1.1 503 Service Unavailable\r\nRetry-After: 1\r\n"), "the seventeenth")
+    # It asks all the same, and is not reset.
+    clients[16].sendall(b"GET / HTTP/1.1\r\n\r\n")
+    is_answered(read_all(clients[16]), "503")
+    gateway.logs("WARN page: a connection was answered 503, since 16 are open")
     time.sleep(1.2)
     expect(http(page, "/")[0].startswith("HTTP/1.1 200 OK"), "one more, once the others are idle")
     same(read_all(clients[0]), b"", "the one that was idle longest")
+    gateway.logs("WARN page: an idle connection was closed for another")
     for client in clients[1:16]:
         client.sendall(b"GET / HTTP/1.1\r\n\r\n")
         expect(read_all(client).startswith(b"HTTP/1.1 200 OK\r\n"), "one of the 16")
@@ -81,22 +188,48 @@ def test_a_seventeenth_client_is_answered(bench):
     gateway.quit()
 
 
+@takes(4)
+def test_a_place_is_kept_by_clients_that_ask(bench):
+    """Of 16 clients that have begun to ask none loses its place to another one. One that was answered is idle from then on: a second later its place
+    is another's."""
+    pair, page = paged(bench)
+    gateway = pair.run()
+    clients = [socket.create_connection(("127.0.0.1", page)) for _ in range(16)]
+    for client in clients:
+        client.sendall(b"GET / HTTP/1.1\r\n")
+    time.sleep(1.2)
+    is_answered(asked(page), "503")
+    clients[5].sendall(b"\r\n")
+    is_answered(read_all(clients[5]), "page")
+    time.sleep(0.5)
+    is_answered(asked(page), "503")
+    time.sleep(0.8)
+    is_answered(asked(page, b"GET / HTTP/1.1\r\n\r\n"), "page")
+    for client in clients:
+        client.close()
+    gateway.quit()
+
+
 @takes(6)
 def test_a_client_that_asks_slowly_is_closed(bench):
-    """A client that has not asked after five seconds is closed, though it sends on, and so is one that sends nothing."""
+    """A client that has not asked after five seconds is closed, though it sends on; so is one that sends nothing, and one that was answered and sends
+    on."""
     pair, page = paged(bench)
     gateway = pair.run()
     begun = time.monotonic()
-    slow, silent = (socket.create_connection(("127.0.0.1", page)) for _ in range(2))
-    try:
-        while time.monotonic() < begun + 20:
-            slow.sendall(b"G")
-            time.sleep(0.1)
-    except OSError:
-        pass
+    slow, silent, answered = (socket.create_connection(("127.0.0.1", page)) for _ in range(3))
+    answered.sendall(b"GET / HTTP/1.1\r\n\r\n")
+    is_answered(read_all(answered), "page")
+    ended = {}
+    while len(ended) < 2 and time.monotonic() < begun + 20:
+        for client in (slow, answered):
+            try:
+                client.sendall(b"G")
+            except OSError:
+                ended.setdefault(client, time.monotonic() - begun)
+        time.sleep(0.05)
     same(read_all(silent), b"")
-    took = time.monotonic() - begun
-    expect(5 <= took < 9, f"they were closed after {took:.1f} s")
+    expect(len(ended) == 2 and all(5 <= took < 7 for took in ended.values()), f"they were closed after {list(ended.values())} s")
     gateway.quit()
 
 
@@ -104,12 +237,11 @@ def test_a_head_of_a_megabyte_is_refused(bench):
     """A request head of more than 8,192 bytes is refused by 431, and a client that sends a megabyte gets the whole answer."""
     pair, page = paged(bench)
     gateway = pair.run()
-    for size, answer in ((8_000, b"HTTP/1.1 200 OK\r\n"), (8_300, b"HTTP/1.1 431 "), (1_000_000, b"HTTP/1.1 431 ")):
+    for size, word in ((8_000, "page"), (8_300, "431"), (1_000_000, "431")):
         with socket.create_connection(("127.0.0.1", page)) as client:
             client.settimeout(10)
             client.sendall(b"GET / HTTP/1.1\r\na: " + b"a" * size + b"\r\n\r\n")
-            got = read_all(client)
-            expect(got.startswith(answer), f"a head of {size} bytes is answered {got[:40]!r}")
+            is_answered(read_all(client), word)
     gateway.quit()
 
 

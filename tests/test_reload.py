@@ -1,9 +1,12 @@
 """`reload`: what changed in the file is done and nothing else, while a neighbour gets each frame over the connection that it has."""
+import os
 import socket
 import time
 
 from c37118 import CONFIG_2, data_of, stamp
-from peers import RATE, Pair, expect, is_refused, now_soc, number_block, pmu, same, stream, stream_frame, subscriber, takes, until
+from peers import (RATE, Pair, expect, http, is_refused, metrics, now_soc, number_block, pmu, read_all, same, stream, stream_frame, subscriber, takes,
+                   until)
+from test_control import Client, controlled
 from test_layouts import RATE as SWAP_RATE, WAIT, Swap
 
 
@@ -364,3 +367,109 @@ def test_a_port_is_tried_again_by_itself(bench):
     until(is_opened, "the port is opened", 36)
     expect(time.monotonic() > begun + 20, "the port was opened while somebody else had it")
     taken.is_open()
+
+
+class Beside:
+    """A pair with a control socket and a page, and all that goes on beside a reload that client `asking` asks for."""
+
+    def __init__(self, bench):
+        self.page = bench.port()
+        self.pair, path = controlled(bench, more=f'status = "127.0.0.1:{self.page}"\n')
+        self.gateway = self.pair.run()
+        self.pair.start()
+        self.asking, self.other = Client(bench, path), Client(bench, path)
+        self.other.send(b"status\nend\n")
+        self.status_comes()
+
+    def status_comes(self):
+        answer = bytearray()
+        while not answer.endswith(b"end\n"):
+            answer += self.other.socket.recv(1 << 16)
+        expect(answer.startswith(b"source 7 "), bytes(answer))
+
+    def says(self, line, answer):
+        self.other.send(line)
+        self.other.gets(answer)
+
+    def goes_on(self, seconds, *more):
+        """For so many seconds each is served within half a second: lines of another client, the page, the metrics, both streams and `more`."""
+        works = (lambda: self.says(b"pmustats 77\n", b"refused 23 NoSuchPmu\n"), lambda: (self.other.send(b"status\nend\n"), self.status_comes()),
+                 lambda: same(http(self.page, "/")[0][:15], "HTTP/1.1 200 OK"), lambda: metrics(self.page),
+                 self.pair.first_is_served, self.pair.second_is_served, *more)
+        end, turns = time.monotonic() + seconds, 0
+        while time.monotonic() < end:
+            for at, work in enumerate(works):
+                begun = time.monotonic()
+                work()
+                took = time.monotonic() - begun
+                expect(took < 0.5, f"amid a reload number {at} of what goes on took {took:.2f} s")
+            turns += 1
+            time.sleep(0.02)
+        expect(turns > 5, f"{turns} turns in {seconds} s")
+
+    def is_unanswered(self):
+        self.asking.socket.settimeout(0.01)
+        try:
+            same(self.asking.socket.recv(100), None, "the answer to a reload that is not done")
+        except socket.timeout:
+            pass
+        self.asking.socket.settimeout(15)
+
+
+@takes(3)
+def test_a_reload_keeps_nothing_waiting(bench):
+    """While a reload waits two seconds for the text of its file, all else is served; then it is answered, and the line behind it. A second client's
+    reload comes behind it."""
+    beside = Beside(bench)
+    file, text = beside.gateway.file, beside.pair.text.encode()
+    os.remove(file)
+    os.mkfifo(file)
+    beside.asking.send(b"reload\npmustats 77\n")
+    beside.goes_on(2)
+    beside.is_unanswered()
+    # Nobody reads the pipe unless the reload does.
+    pipe = os.open(file, os.O_WRONLY | os.O_NONBLOCK)
+    os.remove(file)
+    beside.gateway.write(beside.pair.text + pmu(8))
+    beside.other.send(b"reload\nstatus\nend\n")
+    os.write(pipe, text)
+    os.close(pipe)
+    beside.asking.gets(b"reloaded: 0 edits, 0 orders\nrefused 23 NoSuchPmu\n")
+    beside.other.gets(b"reloaded: 1 edits, 0 orders\nsource 7 ")
+    beside.gateway.quit()
+
+
+@takes(3)
+def test_a_reload_of_a_large_file_keeps_nothing_waiting(bench):
+    """All else is served while a reload reads a file of 100,000 tables with a mistake each, whose client sends no more."""
+    beside = Beside(bench)
+    beside.gateway.write(beside.pair.text + "[[pmu]]\nid = 0\n" * 100_000)
+    beside.asking.send(b"reload")
+    beside.asking.socket.shutdown(socket.SHUT_WR)
+    beside.goes_on(0.5)
+    lines = read_all(beside.asking.socket).decode().splitlines()
+    same((len(lines), lines[100].split(": ")[1], lines[101]), (102, "99900 more faults", "refused 37 BadSetup"))
+    beside.gateway.quit()
+
+
+@takes(4)
+def test_quit_amid_a_reload(bench):
+    """A reload tries five ports that are taken, a second each. All else is served meanwhile, also a line that reads the setup in force; `quit` ends
+    the program within two seconds."""
+    beside, more = Beside(bench), []
+    for at in range(5):
+        port, holder = bench.port(), socket.socket()
+        bench.made.append(holder)
+        holder.bind(("", port))
+        holder.listen()
+        more.append(subscriber(30 + at, port, ring=16))
+    beside.gateway.write(beside.pair.text + pmu(8) + "".join(more))
+    beside.asking.send(b"reload\n")
+    beside.gateway.logs("subscriber 34: added")
+    beside.goes_on(1.2, lambda: beside.says(b"dial 8 127.0.0.3:9\nundial 8\n", b"done 0 0\ndone 0 0\n"))
+    beside.is_unanswered()
+    begun = time.monotonic()
+    beside.other.send(b"quit\n")
+    same(beside.gateway.ended(), 0)
+    took = time.monotonic() - begun
+    expect(took < 2, f"the program ended {took:.2f} s after `quit`")

@@ -132,13 +132,13 @@ def log():
     page = " ".join(section("docs/OPERATING.md", "## The log").split())
     table_rows = rows(section("docs/OPERATING.md", "## The log"))
     levels = {}
-    arms = between(source("pg_service", "journal"), "fn level(", "\n    }")
+    arms = between(source("pg_log", "journal"), "fn level(", "\n    }")
     for arm, level in re.findall(r"((?:Notice::\w+[\s|{]*)+)(?:=> )?\{?\s*(?:=>\s*\{?\s*)?Level::(\w+)", arms):
         levels.update({name: level.upper() for name in re.findall(r"Notice::(\w+)", arm)})
-    words = source("pg_service", "words")
+    words = source("pg_log", "words")
     texts = re.findall(r'Notice::(\w+) =>\s*"([^"]+)"', between(words, "fn said(", "\n    }"))
     for notice, text in texts:
-        expect(notice in levels, f"pg_service journal.rt: no level of {notice} was found")
+        expect(notice in levels, f"pg_log journal.rt: no level of {notice} was found")
         # What is known beside may follow: an address, a stream, a reason.
         told = re.compile(re.escape(text) + r"(?:[ :,].*)?")
         table = [cells for cells in table_rows if any(told.fullmatch(it) for it in spans(cells[1]))]

@@ -3,7 +3,7 @@
 use crate::setup::unfit;
 use crate::{Outcome, help};
 use clap::{Arg, ArgAction, ArgMatches, Command};
-use pg_service::system_words;
+use pg_log::system_words;
 use pg_status::Answered;
 use pg_window::ask;
 use pg_wire::Refusal;

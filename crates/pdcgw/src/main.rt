@@ -10,6 +10,7 @@ use clap::error::ErrorKind;
 use clap::{Arg, ArgMatches, Command};
 use pg_check::{Checked, Trouble};
 use pg_replay::{Fault, replay};
+use pg_run::{Runtime, Start};
 use pg_tools::Misword;
 use pg_wire::Refusal;
 use pg_words::{Signed, say};
@@ -97,20 +98,22 @@ enum Outcome {
     Unread,
 }
 
+/// What the service is started with. The system's journal reads standard error where it has set `JOURNAL_STREAM` (systemd.exec(5)).
+fn start_of<'a, R: Env + Alloc<A = Global>>(rt: &R, file: &'a str) -> Start<'a> {
+    Start {
+        file,
+        version: VERSION,
+        has_priority: env::var(rt, "JOURNAL_STREAM").is_ok(),
+    }
+}
+
 /// Does what the words ask for.
-fn do_words<R>(rt: &R, files: &HostRuntime, matches: &ArgMatches<'_>, is_terminal: bool) -> Outcome
-where
-    R: Files
-        + Input<Reader = StdinLock<'static>>
-        + Print
-        + Eprint
-        + Clock
-        + Net<Listener = TcpListener, Stream = TcpStream>
-        + Threads
-        + Wait
-        + Sync
-        + Alloc<A = Global>,
-{
+fn do_words<R: Files + Env + Runtime + Alloc<A = Global>>(
+    rt: &R,
+    files: &HostRuntime,
+    matches: &ArgMatches<'_>,
+    is_terminal: bool,
+) -> Outcome {
     let Some((work, words)) = matches.subcommand() else {
         return Outcome::Unread;
     };
@@ -122,9 +125,9 @@ where
         _ => {}
     }
     match (work, words.get_str("setup")) {
-        ("run", Some(file)) => match pg_run::run(rt, files, file) {
+        ("run", Some(file)) => match pg_run::run(rt, files, start_of(rt, file)) {
             Ok(()) => Outcome::Done,
-            Err(failure) => Outcome::Unfit(setup::why(rt, file, &failure)),
+            Err(failure) => Outcome::Unfit(setup::why(rt, file, failure)),
         },
         ("check", Some(file)) => match setup::check(rt, file) {
             Ok(checked) => Outcome::Checked(checked),
@@ -147,7 +150,8 @@ fn replay_input<R: Input + Print + Alloc<A = Global>>(rt: &R) -> Result<(), Faul
     replay(alloc, rt.reader(), &mut out)
 }
 
-/// What the words come to, where standard output is a terminal or is not.
+/// What the words come to, where standard output is a terminal or is not. (Its bounds are those of `Runtime`, one by one: `main` gets no
+/// proof where it is asked for them by that name.)
 fn outcome_of<R>(rt: &R, files: &HostRuntime, is_terminal: bool) -> Outcome
 where
     R: Files
@@ -160,7 +164,10 @@ where
         + Threads
         + Wait
         + Sync
-        + Alloc<A = Global>,
+        + Copy
+        + Send
+        + Alloc<A = Global>
+        + 'static,
 {
     let alloc = rt.alloc();
     let words: Vec<String> = match env::args(rt) {

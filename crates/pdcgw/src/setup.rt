@@ -1,9 +1,9 @@
 //! Setup files, checked for a person.
 
 use pg_check::{Checked, Trouble, check_setup};
+use pg_log::system_words;
 use pg_operator::{BoundBy, line_of_key};
 use pg_run::Failure;
-use pg_service::system_words;
 use pg_wire::Refusal;
 use pg_words::{Bound, not_bound, not_read};
 use std::alloc::{AllocError, Global};
@@ -41,15 +41,16 @@ pub fn unfit(alloc: Global, refusal: Refusal, told: Result<String, AllocError>) 
 }
 
 /// Why nothing runs by this setup file, in words. Where the service says no more than a reason, the file is looked at again.
-pub fn why<R: Files + Alloc<A = Global>>(rt: &R, file: &str, failure: &Failure) -> Trouble {
+pub fn why<R: Files + Alloc<A = Global>>(rt: &R, file: &str, failure: Failure) -> Trouble {
     let alloc = rt.alloc();
     let refusal = failure.refusal();
-    let told = match failure {
+    let told = match &failure {
         Failure::Refused(_) => match check(rt, file) {
             // Nothing is wrong with the file itself.
             Ok(_) => Ok(String::new(alloc)),
             Err(trouble) => Ok(trouble.told),
         },
+        Failure::Unfit(trouble) => String::from_str(alloc, trouble.told.as_str()),
         Failure::NotBound { by, address, kind } => {
             let line = line_in(rt, file, *by);
             let why = system_words(*kind);

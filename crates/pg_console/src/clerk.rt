@@ -1,18 +1,22 @@
 //! Who answers at the control socket and for the page.
 
-use crate::console::{Console, Steering, answer_lines};
+use crate::console::{Console, Steering, answer_lines, is_reload};
+use crate::reloads::Reloads;
 use crate::seeing::seen_by;
 use crate::told::Told;
+use pg_log::Journal;
 use pg_service::Watched;
 use pg_shared::{Named, SharedGate};
-use pg_status::{Answer, Histogram, Snapshot};
+use pg_status::{Answer, Histogram, LineAnswer, Snapshot};
 use pg_window::Clerk;
 use std::alloc::{AllocError, Global};
 use std::io;
+use std::io::Write;
 use std::rt::Clock;
 use std::sync::Wait;
 
-/// Answers the lines of a control socket as those of an operator, and tells what the service shows of itself (own rule).
+/// Answers the lines of a control socket as those of an operator, and tells what the service shows of itself (own rule). The line `reload` is put
+/// off, where a worker of its own does it.
 #[derive(Drop)]
 pub struct Counter<'a, R: Wait + Clock, N: Named, S: Steering + Drop> {
     rt: &'a R,
@@ -50,7 +54,11 @@ impl<'a, R: Wait + Clock, N: Named, S: Steering + Drop> Counter<'a, R, N, S> {
 }
 
 impl<R: Wait + Clock, N: Named, S: Steering + Drop> Answer for Counter<'_, R, N, S> {
-    fn answer(&mut self, line: &[u8], owed: &mut Vec<u8>) -> io::Result<()> {
+    fn answer(&mut self, line: &[u8], owed: &mut Vec<u8>) -> io::Result<LineAnswer> {
+        let told = self.console.told();
+        if let (Some(reloads), true) = (told.reloads, is_reload(self.alloc, line)) {
+            return put_off(self.rt, reloads, told.neighbours.journal, owed);
+        }
         let mut reader = line;
         answer_lines(
             self.rt,
@@ -62,7 +70,41 @@ impl<R: Wait + Clock, N: Named, S: Steering + Drop> Answer for Counter<'_, R, N,
         let out = self.console.out_mut();
         owed.extend_from_slice(out.as_slice())?;
         out.clear();
-        Ok(())
+        Ok(LineAnswer::Done)
+    }
+
+    fn take_answer(&mut self, number: u64, owed: &mut Vec<u8>) -> io::Result<bool> {
+        let Some(reloads) = self.console.told().reloads else {
+            return Ok(false);
+        };
+        let Some(answer) = reloads.take_answer(self.rt, number) else {
+            return Ok(false);
+        };
+        owed.extend_from_slice(answer.as_slice())?;
+        Ok(true)
+    }
+
+    fn drop_answer(&mut self, number: u64) {
+        if let Some(reloads) = self.console.told().reloads {
+            reloads.drop_answer(self.rt, number);
+        }
+    }
+}
+
+/// Asks for a reload, whose answer comes later. Where it can't wait, that is answered.
+fn put_off<R: Wait>(
+    rt: &R,
+    reloads: &Reloads,
+    journal: &Journal,
+    owed: &mut Vec<u8>,
+) -> io::Result<LineAnswer> {
+    match reloads.ask(rt, journal) {
+        Ok(number) => Ok(LineAnswer::Later(number)),
+        Err(refusal) => {
+            let (number, name) = (refusal.number(), refusal.name());
+            writeln!(owed, "refused {number} {name}")?;
+            Ok(LineAnswer::Done)
+        }
     }
 }
 

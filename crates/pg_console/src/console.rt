@@ -9,9 +9,10 @@ use crate::seeing::seen_by;
 use crate::told::Told;
 use pg_gateway::{Edit, Gate, Reply};
 use pg_lines::{Steer, parse_steer};
+use pg_log::{Asked, Detail, Entry, Notice, Whom};
 use pg_replay::{Fault, Line, NotPrinted, print_refusal, print_reply, read_line, without_end};
 use pg_serve::Input as Handed;
-use pg_service::{Asked, Change, Detail, Entry, Notice, Watched, Whom};
+use pg_service::{Change, Watched};
 use pg_shared::event_of;
 use pg_status::print_status;
 use pg_wire::{PmuId, Refusal};
@@ -139,7 +140,7 @@ impl<'a, W: Write> Console<'a, W> {
     }
 
     /// Answers a line that asks for an edit or for nothing.
-    fn edit<R: Wait, G: Gate>(
+    fn edit<R: Wait + Clock, G: Gate>(
         &mut self,
         rt: &R,
         gate: &mut Watched<G>,
@@ -184,7 +185,7 @@ impl<'a, W: Write> Console<'a, W> {
     }
 
     /// Posts an edit, tells workers what it asks of them, and leaves what came of it for the log.
-    pub fn post_edit<R: Wait, G: Gate>(
+    pub fn post_edit<R: Wait + Clock, G: Gate>(
         &mut self,
         rt: &R,
         gate: &mut Watched<G>,
@@ -204,7 +205,7 @@ impl<'a, W: Write> Console<'a, W> {
     }
 
     /// Leaves for the log what came of an edit that asks for this, if it asks for something.
-    fn log_edit<R: Wait>(&self, rt: &R, asked: Option<(Whom, Asked)>, reply: &Reply) {
+    fn log_edit<R: Wait + Clock>(&self, rt: &R, asked: Option<(Whom, Asked)>, reply: &Reply) {
         if let Some((whom, asked)) = asked {
             let entry = entry_of(whom, asked, refusal_in(reply));
             self.told.neighbours.journal.tell(rt, entry);
@@ -258,7 +259,7 @@ impl<'a, W: Write> Console<'a, W> {
             Ok(0) => return Ok(true),
             Ok(_) => {
                 if self.answer(rt, gate, without_end(line.as_slice()), steering)? {
-                    self.told.end();
+                    self.told.end(rt);
                     return Ok(true);
                 }
             }
@@ -326,6 +327,11 @@ fn edit_in(alloc: Global, line: &[u8]) -> Result<Option<Edit>, Refusal>
         },
         _other => Err(Refusal::BadLine),
     }
+}
+
+/// Whether a line is `reload`.
+pub(crate) fn is_reload(alloc: Global, line: &[u8]) -> bool {
+    matches!(asked_by(alloc, line), Ok(Request::Reload))
 }
 
 /// What a line asks for.

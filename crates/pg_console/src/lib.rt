@@ -3,11 +3,13 @@
 
 mod clerk;
 mod console;
+mod reloads;
 mod seeing;
 mod sharing;
 mod told;
 
 pub use clerk::Counter;
 pub use console::{Console, EditsAlone, Steering, answer_lines};
+pub use reloads::Reloads;
 pub use sharing::{Seated, SetUp, serve_by, set_up};
 pub use told::Told;

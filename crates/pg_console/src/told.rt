@@ -1,9 +1,10 @@
 //! Whom an operator's lines concern besides the gateway.
 
+use crate::reloads::Reloads;
 use mio::net::TcpListener as PortListener;
+use pg_log::{Detail, Entry, Notice, Whom};
 use pg_service::{
-    After, Dial, DoorRules, Mailbox, Neighbours, Notice, PortOrder, Registered, Reports,
-    SourceOrder,
+    After, Dial, DoorRules, Mailbox, Neighbours, PortOrder, Registered, Reports, SourceOrder,
 };
 use pg_wire::{PmuId, Refusal, StreamId, SubId};
 use std::alloc::Global;
@@ -23,6 +24,8 @@ pub struct Told<'a> {
     pub registered: &'a Mutex<Registered>,
     /// The mailbox of the worker that serves the control socket and the page, if there is one.
     pub window: Option<&'a Mailbox<()>>,
+    /// The reloads that clients of the control socket ask for, where that is open.
+    pub reloads: Option<&'a Reloads>,
     /// Set where all workers are to end.
     pub stop: &'a AtomicBool,
 }
@@ -33,17 +36,31 @@ impl Told<'_> {
         self.neighbours.journal.note(notice);
     }
 
-    /// Ends all workers.
-    pub(crate) fn end(&self) {
-        self.stop.store(true, Ordering::SeqCst);
+    /// Whether all workers are to end.
+    pub fn is_over(&self) -> bool {
+        self.stop.load(Ordering::SeqCst)
+    }
+
+    /// Ends all workers, and logs that.
+    pub(crate) fn end<R: Wait + Clock>(&self, rt: &R) {
         let journal = self.neighbours.journal;
+        journal.tell(rt, Entry::new(Notice::Quit, Whom::Nobody, Detail::Nothing));
+        self.stop.store(true, Ordering::SeqCst);
         for mailbox in self.sources {
             mailbox.wake(journal);
         }
         self.neighbours.wake_ports();
         self.neighbours.resolver.wake(journal);
+        self.wake_window();
+        if let Some(reloads) = self.reloads {
+            reloads.wake(journal);
+        }
+    }
+
+    /// Wakes the worker that serves the control socket and the page, if there is one.
+    pub fn wake_window(&self) {
         if let Some(mailbox) = self.window {
-            mailbox.wake(journal);
+            mailbox.wake(self.neighbours.journal);
         }
     }
 
@@ -87,7 +104,7 @@ impl Told<'_> {
             board,
             ..
         } = self.neighbours;
-        if self.stop.load(Ordering::SeqCst) {
+        if self.is_over() {
             return board.ask(rt, alloc, &[], &[], journal);
         }
         board.ask(rt, alloc, self.sources, ports, journal)

@@ -3,9 +3,9 @@ use crate::asserts::same;
 use pg_console::{Console, EditsAlone, Told, answer_lines};
 use pg_fakes::FakeWriter;
 use pg_gateway::{Event, Gate, Gateway, Reply};
+use pg_log::{Journal, Notice};
 use pg_service::{
-    Board, Journal, Mailbox, Neighbours, Notice, PortOrder, Registered, Resolver, SourceOrder,
-    Waiting, Watched,
+    Board, Mailbox, Neighbours, PortOrder, Registered, Resolver, SourceOrder, Waiting, Watched,
 };
 use pg_wire::{PmuId, PmuKey, Refusal};
 use std::alloc::Global;
@@ -41,7 +41,7 @@ fn make_boxes<R: Net + Abort>(rt: &R, alloc: Global) -> Boxes {
     Boxes {
         sources,
         ports,
-        resolver: Resolver::new(alloc, Vec::new(alloc)),
+        resolver: Resolver::new(alloc, None).expect(rt, "memory"),
         journal: Journal::new(alloc).expect(rt, "memory"),
         board: Board::new(alloc),
         registered: Mutex::new(Registered::new(alloc).expect(rt, "memory")),
@@ -64,6 +64,7 @@ fn unanswered<R: Net + Abort + Wait + Clock>(rt: &R, alloc: Global, is_over: boo
         },
         registered: &boxes.registered,
         window: None,
+        reloads: None,
         stop: &stop,
     };
     let mut gate = Watched::new(Gateway::new(alloc).expect(rt, "memory"));
@@ -94,6 +95,7 @@ fn answered<R: Net + Abort + Wait + Clock>(
         },
         registered: &boxes.registered,
         window: None,
+        reloads: None,
         stop: &stop,
     };
     let mut out = FakeWriter {

@@ -209,6 +209,7 @@ pub fn make_workers<
         neighbours,
         registered: &boxes.registered,
         window: Some(&boxes.window),
+        reloads: None,
         stop: stage.stop,
     };
     let makings = Makings {

@@ -8,7 +8,8 @@ use crate::setting::edits;
 use crate::stage::{Boxes, Stage};
 use pg_console::{SetUp, set_up};
 use pg_demo_core::{Accounts, Verdict};
-use pg_service::{Board, Journal, Mailbox, Registered, Resolver, Waiting};
+use pg_log::Journal;
+use pg_service::{Board, Mailbox, Registered, Resolver, Waiting};
 use pg_shared::{Named, Seat, Shared, run_workers};
 use pg_tools::Style;
 use std::alloc::Global;
@@ -106,7 +107,7 @@ fn boxes(alloc: Global, waits: &Waits, registered: Registered) -> Result<Boxes, 
     Ok(Boxes {
         sources,
         ports,
-        resolver: Resolver::new(alloc, Vec::new(alloc)),
+        resolver: Resolver::new(alloc, None)?,
         window: Mailbox::new(alloc, waits.page.poll())?,
         journal: Journal::new(alloc)?,
         board: Board::new(alloc),

@@ -2,7 +2,8 @@
 
 use crate::fault::Fault;
 use pg_demo_core::{Accounts, Verdict};
-use pg_service::{Board, Journal, Mailbox, PortOrder, Registered, Resolver, SourceOrder};
+use pg_log::Journal;
+use pg_service::{Board, Mailbox, PortOrder, Registered, Resolver, SourceOrder};
 use std::sync::atomic::{AtomicBool, Ordering};
 use std::sync::{Mutex, Wait};
 

@@ -1,4 +1,4 @@
--- How far one who makes frames may be ahead of those who hand them out.
+-- How many frames may be made before those that were made are handed out.
 use Rattle.std.specs.Prelude.{ℕ, ◌+◌, ◌-◌, ◌*◌, ◌^◌, min, max, Bool, nat_le}
 
 -- how many events may make frames before those that were made are known to be handed out, those of them before the mark that are not, and

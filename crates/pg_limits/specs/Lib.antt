@@ -3,6 +3,10 @@ pub mod Calling
 pub mod Hosts
 pub mod Clocks
 pub mod Credits
+pub mod Sources
 pub mod Layouts
 pub mod Tcp
+pub mod Moved
 pub mod Acknowledged
+pub mod Plans
+pub mod Patience

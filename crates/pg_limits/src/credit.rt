@@ -1,4 +1,4 @@
-//! How far one who makes frames may be ahead of those who hand them out.
+//! How many frames may be made before those that were made are handed out.
 ghost use Rattle.std.specs.Prelude.{◌≡◌, ◌+◌, ◌≤◌, ◌<◌, max, true, nat_lt};
 ghost use Rattle.pg_limits.specs.Credits.{confirmed, is_half_free, left_of, marked, spent, untouched};
 

@@ -14,4 +14,5 @@ Gives (worker.Connections it) seat = seat ≡ None
 Gives (worker.Ticks it) seat = seat ≡ Some it
 Gives (worker.Lines it) seat = seat ≡ Some it
 Gives (worker.Window it) seat = is_some seat ≡ true
+Gives (worker.Reloads it) seat = seat ≡ Some it
 Gives (worker.Log it) seat = seat ≡ None

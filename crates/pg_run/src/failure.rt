@@ -1,5 +1,6 @@
 //! Why the service does not run.
 
+use pg_check::Trouble;
 use pg_operator::BoundBy;
 use pg_wire::Refusal;
 use std::io;
@@ -8,11 +9,14 @@ use std::net::SocketAddr;
 use thiserror::Error;
 
 /// Why the service does not run, or has ended.
-#[derive(Clone, Copy, Debug, PartialEq, Eq, Error)]
+#[derive(Debug, Drop, Error)]
 pub enum Failure {
     /// It is refused.
     #[error("{} {}", .0.number(), .0.name())]
     Refused(#[from] Refusal),
+    /// Nothing runs by the setup, for these mistakes.
+    #[error("{0}")]
+    Unfit(Trouble),
     /// What a key of the setup names can't be bound.
     #[error("what a key of the setup names can't be bound")]
     NotBound {
@@ -30,6 +34,7 @@ impl Failure {
     pub fn refusal(&self) -> Refusal {
         match self {
             Failure::Refused(refusal) => *refusal,
+            Failure::Unfit(trouble) => trouble.refusal,
             Failure::NotBound { kind, .. } => match kind {
                 ErrorKind::OutOfMemory => Refusal::NoMemory,
                 _ => Refusal::ReadFault,

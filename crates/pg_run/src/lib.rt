@@ -7,11 +7,15 @@ mod opening;
 mod operator;
 mod patient;
 mod redefined;
+mod reload_worker;
 mod reloading;
 mod running;
+mod runtime;
+mod served;
 mod serving;
 mod steering;
 mod workers;
 
 pub use failure::Failure;
-pub use running::{run, run_for};
+pub use running::{Start, run};
+pub use runtime::Runtime;

@@ -3,22 +3,25 @@
 ghost use Rattle.std.specs.Prelude.{◌≡◌, IfOk};
 
 use crate::opening::{Openings, opened};
-use crate::operator::{Desk, Operator};
+use crate::operator::{Operator, StandardIo};
+use crate::reload_worker::ReloadWorker;
 use crate::reloading::InForce;
-use crate::serving::{Plan, Waits};
+use crate::running::logger_of;
+use crate::runtime::Runtime;
+use crate::serving::{Known, Plan, Waits};
 use crate::workers::{Worker, share_ports, share_sources, told_as};
 use pg_console::{Counter, Told};
+use pg_log::{Detail, Entry, Journal, Notice, Whom};
 use pg_operator::Setup;
 use pg_service::{
-    ConnectionsWorker, Detail, Dial, Entry, Journal, Logger, Neighbours, Notice, Port, PortWorker,
-    ResolverWorker, SourceWorker, Ticker, Waiting, Whom,
+    ConnectionsWorker, Dial, Logger, Neighbours, Port, PortWorker, ResolverWorker, SourceWorker,
+    Ticker, Waiting,
 };
 use pg_shared::{Named, Seat, Shared, SharedGate};
 use pg_window::Window;
 use pg_wire::Refusal;
 use std::alloc::Global;
-use std::io::StdinLock;
-use std::net::{Net, TcpListener, TcpStream};
+use std::net::Net;
 use std::rt::Clock;
 use std::sync::{Mutex, Wait};
 use std::time::{Duration, Instant};
@@ -29,12 +32,14 @@ pub(crate) struct Place<'a> {
     pub(crate) files: &'a HostRuntime,
     pub(crate) file: &'a str,
     pub(crate) setup: &'a Mutex<Setup>,
+    // It is held while a reload does what changed.
+    pub(crate) turn: &'a Mutex<()>,
 }
 
 impl<'a> Place<'a> {
     /// For who answers lines.
     pub(crate) fn in_force<R: Net + Clock>(self, rt: &'a R) -> InForce<'a, R> {
-        InForce::new(rt, self.files, self.file, self.setup)
+        InForce::new(rt, self.files, self.file, self.setup, self.turn)
     }
 }
 
@@ -46,6 +51,7 @@ pub(crate) struct Makings<'a, R> {
     pub(crate) shared: &'a Shared,
     pub(crate) told: Told<'a>,
     pub(crate) place: Place<'a>,
+    pub(crate) known: &'a Known,
     pub(crate) now: Instant,
 }
 
@@ -62,21 +68,12 @@ impl<'a, R: Wait> Makings<'a, R> {
 }
 
 /// All workers. The one that waits for lines is the last, so that where a thread can't be started it is not there to wait for.
-pub(crate) fn make_workers<
-    'a,
-    R: Input<Reader = StdinLock<'static>>
-        + Print
-        + Eprint
-        + Clock
-        + Net<Listener = TcpListener, Stream = TcpStream>
-        + Wait,
-    N: Named,
->(
+pub(crate) fn make_workers<'a, R: Runtime, N: Named>(
     makings: &Makings<'a, R>,
     seat: Seat,
     plan: Plan,
     waits: Waits,
-    desk: Desk<'a, R>,
+    lines: StandardIo<'a, R>,
 ) -> Result<(Seat, Vec<Worker<'a, R, N>>), Refusal>
     requires shared { makings.now.shared.now ≡ N.table }
     requires seat { seat.table ≡ N.table }
@@ -87,6 +84,7 @@ pub(crate) fn make_workers<
         ports,
         names,
         window,
+        reloads,
     } = waits;
     let mut workers = Vec::new(makings.alloc);
     makings.told.tell_room(makings.rt);
@@ -101,24 +99,16 @@ pub(crate) fn make_workers<
         plan.tick,
         &mut workers,
     )?;
-    let seat = add_operator(makings, seat, desk, &mut workers)?;
+    let seat = add_reload_worker(makings, seat, reloads, &mut workers)?;
+    let seat = add_operator(makings, seat, lines, &mut workers)?;
     Ok((seat, workers))
 }
 
 /// Adds the workers that look up names, read the table of connections, serve the control socket and the page, post ticks and write the log.
-fn add_watchers<
-    'a,
-    R: Input<Reader = StdinLock<'static>>
-        + Print
-        + Eprint
-        + Clock
-        + Net<Listener = TcpListener, Stream = TcpStream>
-        + Wait,
-    N: Named,
->(
+fn add_watchers<'a, R: Runtime, N: Named>(
     makings: &Makings<'a, R>,
     seat: Seat,
-    names: Vec<Waiting>,
+    names: Waiting,
     window: Option<Waiting>,
     openings: Openings,
     tick: Duration,
@@ -137,16 +127,7 @@ fn add_watchers<
 }
 
 /// Adds the workers that call sources, one for each of these waits. Each source is given to one of them, in turn.
-fn add_callers<
-    'a,
-    R: Input<Reader = StdinLock<'static>>
-        + Print
-        + Eprint
-        + Clock
-        + Net<Listener = TcpListener, Stream = TcpStream>
-        + Wait,
-    N: Named,
->(
+fn add_callers<'a, R: Runtime, N: Named>(
     makings: &Makings<'a, R>,
     seat: Seat,
     waits: Vec<Waiting>,
@@ -204,16 +185,7 @@ fn callers<'a, R: Wait + Net + Clock, N: Named>(
 }
 
 /// Adds the workers that serve subscribers, one for each of these waits. Each port is given to one of them, in turn, and told to the log.
-fn add_servers<
-    'a,
-    R: Input<Reader = StdinLock<'static>>
-        + Print
-        + Eprint
-        + Clock
-        + Net<Listener = TcpListener, Stream = TcpStream>
-        + Wait,
-    N: Named,
->(
+fn add_servers<'a, R: Runtime, N: Named>(
     makings: &Makings<'a, R>,
     seat: Seat,
     waits: Vec<Waiting>,
@@ -278,7 +250,7 @@ fn servers<'a, R: Wait + Net + Clock, N: Named>(
 }
 
 /// Tells the log where each subscriber may connect.
-fn tell_ports<R: Wait>(rt: &R, journal: &Journal, ports: &[Port]) {
+fn tell_ports<R: Wait + Clock>(rt: &R, journal: &Journal, ports: &[Port]) {
     for port in ports {
         if let Ok(address) = port.address() {
             let whom = Whom::Subscriber(port.sub());
@@ -287,19 +259,10 @@ fn tell_ports<R: Wait>(rt: &R, journal: &Journal, ports: &[Port]) {
     }
 }
 
-/// Adds the workers that look up names, one for each of these waits.
-fn add_resolver<
-    'a,
-    R: Input<Reader = StdinLock<'static>>
-        + Print
-        + Eprint
-        + Clock
-        + Net<Listener = TcpListener, Stream = TcpStream>
-        + Wait,
-    N: Named,
->(
+/// Adds the worker that has names looked up.
+fn add_resolver<'a, R: Runtime, N: Named>(
     makings: &Makings<'a, R>,
-    waits: Vec<Waiting>,
+    waiting: Waiting,
     workers: &mut Vec<Worker<'a, R, N>>,
 ) -> Result<(), Refusal> {
     let Told {
@@ -313,24 +276,16 @@ fn add_resolver<
         ..
     } = neighbours;
     let Makings { rt, alloc, .. } = makings;
-    for (number, waiting) in waits.into_iter().enumerate() {
-        let worker = ResolverWorker::new(*rt, *alloc, waiting, number, resolver, sources, journal);
-        workers.push(Worker::Names(worker))?;
-    }
+    let worker = ResolverWorker::new(*rt, *alloc, waiting, resolver, sources, journal);
+    workers.push(Worker::Names(worker))?;
     Ok(())
 }
 
 /// Adds the worker that reads the system's table of TCP connections.
-fn add_connections<
-    'a,
-    R: Input<Reader = StdinLock<'static>>
-        + Print
-        + Eprint
-        + Clock
-        + Net<Listener = TcpListener, Stream = TcpStream>
-        + Wait,
-    N: Named,
->(makings: &Makings<'a, R>, workers: &mut Vec<Worker<'a, R, N>>) -> Result<(), Refusal> {
+fn add_connections<'a, R: Runtime, N: Named>(
+    makings: &Makings<'a, R>,
+    workers: &mut Vec<Worker<'a, R, N>>,
+) -> Result<(), Refusal> {
     let Neighbours {
         ports,
         journal,
@@ -350,16 +305,7 @@ fn add_connections<
 }
 
 /// Adds the worker that serves the control socket and the page, if there is one of them.
-fn add_window<
-    'a,
-    R: Input<Reader = StdinLock<'static>>
-        + Print
-        + Eprint
-        + Clock
-        + Net<Listener = TcpListener, Stream = TcpStream>
-        + Wait,
-    N: Named,
->(
+fn add_window<'a, R: Runtime, N: Named>(
     makings: &Makings<'a, R>,
     seat: Seat,
     waiting: Option<Waiting>,
@@ -387,16 +333,7 @@ fn add_window<
 }
 
 /// Adds the worker that posts ticks.
-fn add_ticker<
-    'a,
-    R: Input<Reader = StdinLock<'static>>
-        + Print
-        + Eprint
-        + Clock
-        + Net<Listener = TcpListener, Stream = TcpStream>
-        + Wait,
-    N: Named,
->(
+fn add_ticker<'a, R: Runtime, N: Named>(
     makings: &Makings<'a, R>,
     seat: Seat,
     tick: Duration,
@@ -413,38 +350,42 @@ fn add_ticker<
 }
 
 /// Adds the worker that writes the log.
-fn add_logger<
-    'a,
-    R: Input<Reader = StdinLock<'static>>
-        + Print
-        + Eprint
-        + Clock
-        + Net<Listener = TcpListener, Stream = TcpStream>
-        + Wait,
-    N: Named,
->(makings: &Makings<'a, R>, workers: &mut Vec<Worker<'a, R, N>>) -> Result<(), Refusal> {
-    let journal = makings.told.neighbours.journal;
-    match Logger::new(makings.rt, makings.alloc, journal, makings.now) {
-        Ok(log) => workers.push(Worker::Log(log))?,
-        Err(error) => return Err(told_as(error)),
-    }
+fn add_logger<'a, R: Runtime, N: Named>(
+    makings: &Makings<'a, R>,
+    workers: &mut Vec<Worker<'a, R, N>>,
+) -> Result<(), Refusal> {
+    let log = logger_of(makings.rt, makings.alloc, makings.known, makings.now)?;
+    workers.push(Worker::Log(log))?;
     Ok(())
 }
 
-/// Adds the worker that answers an operator's lines.
-fn add_operator<
-    'a,
-    R: Input<Reader = StdinLock<'static>>
-        + Print
-        + Eprint
-        + Clock
-        + Net<Listener = TcpListener, Stream = TcpStream>
-        + Wait,
-    N: Named,
->(
+/// Adds the worker that does the reloads that clients of the control socket ask for, if that is open.
+fn add_reload_worker<'a, R: Runtime, N: Named>(
     makings: &Makings<'a, R>,
     seat: Seat,
-    desk: Desk<'a, R>,
+    waiting: Option<Waiting>,
+    workers: &mut Vec<Worker<'a, R, N>>,
+) -> Result<Seat, Refusal>
+    requires shared { makings.now.shared.now ≡ N.table }
+    requires seat { seat.table ≡ N.table }
+    ensures seat { IfOk result (λ rest. rest ≡ seat) }
+{
+    let Makings { rt, told, .. } = makings;
+    let (Some(waiting), Some(reloads)) = (waiting, told.reloads) else {
+        return Ok(seat);
+    };
+    let (seat, gate) = makings.gate::<N>(seat);
+    let in_force = makings.place.in_force(*rt);
+    let worker = ReloadWorker::new(*rt, makings.alloc, gate, waiting, reloads, *told, in_force);
+    workers.push(Worker::Reloads(worker))?;
+    Ok(seat)
+}
+
+/// Adds the worker that answers an operator's lines.
+fn add_operator<'a, R: Runtime, N: Named>(
+    makings: &Makings<'a, R>,
+    seat: Seat,
+    lines: StandardIo<'a, R>,
     workers: &mut Vec<Worker<'a, R, N>>,
 ) -> Result<Seat, Refusal>
     requires shared { makings.now.shared.now ≡ N.table }
@@ -454,7 +395,7 @@ fn add_operator<
     let (seat, gate) = makings.gate::<N>(seat);
     let Makings { rt, told, .. } = makings;
     let in_force = makings.place.in_force(*rt);
-    let operator = Operator::new(*rt, makings.alloc, gate, desk, *told, in_force);
+    let operator = Operator::new(*rt, makings.alloc, gate, lines, *told, in_force);
     workers.push(Worker::Lines(operator))?;
     Ok(seat)
 }

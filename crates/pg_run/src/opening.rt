@@ -2,8 +2,8 @@
 
 use crate::failure::{Failure, not_bound};
 use mio::net::{TcpListener as PortListener, UnixListener};
+use pg_log::{Detail, Entry, Journal, Notice, Whom};
 use pg_operator::BoundBy;
-use pg_service::{Detail, Entry, Journal, Notice, Whom};
 use pg_window::{Clerk, Window, listen_at};
 use std::io;
 use std::net::{Net, SocketAddr, SocketAddrV4, TcpListener, TcpStream};
@@ -43,6 +43,11 @@ impl Openings {
             None => None,
         };
         Ok(Openings { lines, page })
+    }
+
+    /// Whether the control socket is open.
+    pub(crate) fn takes_lines(&self) -> bool {
+        self.lines.is_some()
     }
 
     /// Whether there is one.

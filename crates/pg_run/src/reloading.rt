@@ -1,6 +1,6 @@
 //! The line `reload`: the setup file is read again, and what changed is done.
 
-use crate::redefined::started_streams;
+use crate::redefined::{Started, started_streams};
 use crate::running::{dial_by, door_rules, rules_of};
 use crate::workers::told_as;
 use log::LevelFilter;
@@ -8,10 +8,11 @@ use mio::net::TcpListener as PortListener;
 use pg_check::check_setup;
 use pg_console::{Console, Told};
 use pg_gateway::{Gate, Reply};
+use pg_log::{Asked, Detail, Entry, Journal, Notice, Whom, system_words};
 use pg_operator::{LogLevel, Setup, SourceRules, read_setup};
 use pg_reload::{Call, Changes, Order, Port, Restart, changes_between};
 use pg_replay::{Fault, print_refusal};
-use pg_service::{Asked, Detail, Entry, Journal, Notice, Watched, Whom, system_words};
+use pg_service::Watched;
 use pg_wire::{PmuId, Refusal, SubId};
 use std::alloc::Global;
 use std::io::{ErrorKind, Read, Write};
@@ -38,22 +39,27 @@ pub struct InForce<'a, R: Net + Clock> {
     rt: &'a R,
     files: &'a HostRuntime,
     file: &'a str,
+    // It is held while it is read or replaced, and not while a reload waits for a port.
     pub(crate) setup: &'a Mutex<Setup>,
+    // It is held while a reload does what changed.
+    turn: &'a Mutex<()>,
 }
 
 impl<'a, R: Net + Clock> InForce<'a, R> {
-    /// The gateway runs by this setup of this file. Whoever changes it holds it while he does.
+    /// The gateway runs by this setup of this file. A reload that changes it holds `turn`, so that one is done after another.
     pub fn new(
         rt: &'a R,
         files: &'a HostRuntime,
         file: &'a str,
         setup: &'a Mutex<Setup>,
+        turn: &'a Mutex<()>,
     ) -> InForce<'a, R> {
         InForce {
             rt,
             files,
             file,
             setup,
+            turn,
         }
     }
 }
@@ -97,14 +103,32 @@ impl<R: Net + Clock> InForce<'_, R> {
         }
     }
 
-    /// Does what changes, and tells what was done.
-    fn change<W: Write, Q: Wait, G: Gate>(
+    /// What changes where this setup takes the place of the one in force, and the streams that are on and are removed by that.
+    ///
+    /// # Errors
+    ///
+    /// `NoMemory`.
+    fn compare<Q: Wait + Clock, G: Gate>(
+        &self,
+        rt: &Q,
+        alloc: Global,
+        gate: &mut Watched<G>,
+        new: &Setup,
+    ) -> Result<(Changes, Vec<Started>), Refusal> {
+        let setup = self.setup.lock(rt);
+        let changes = changes_between(alloc, &setup, new)?;
+        let started = started_streams(alloc, gate, &setup, &changes.edits)?;
+        Ok((changes, started))
+    }
+
+    /// Does what changes, and reports what was done. Once all workers are to end, the orders that are left are not done: none would obey them.
+    fn change<W: Write, Q: Wait + Clock, G: Gate>(
         &self,
         rt: &Q,
         console: &mut Console<'_, W>,
         gate: &mut Watched<G>,
-        old: &Setup,
         changes: Changes,
+        started: Vec<Started>,
     ) -> Report {
         let Changes {
             edits,
@@ -114,22 +138,19 @@ impl<R: Net + Clock> InForce<'_, R> {
         let told = console.told();
         let alloc = console.alloc();
         let mut report = Report::new(alloc);
-        let started = started_streams(alloc, gate, old, &edits);
         for edit in edits {
             let asked = Asked::of(&edit);
             let reply = console.post_edit(rt, gate, edit);
             report.edited(asked, &reply);
         }
-        match started {
-            Ok(started) => {
-                for stream in started {
-                    stream.follow(rt, told);
-                }
-            }
-            Err(_) => told.neighbours.journal.note(Notice::MailFault),
+        for stream in started {
+            stream.follow(rt, told);
         }
         told.bind_again(rt);
         for order in orders {
+            if told.is_over() {
+                break;
+            }
             self.obey(rt, told, order, &mut report);
         }
         for restart in restarts {
@@ -178,7 +199,7 @@ impl Report {
     }
 
     /// A port can't be bound: that is reported, here and in the log.
-    fn not_bound<Q: Wait>(
+    fn not_bound<Q: Wait + Clock>(
         &mut self,
         rt: &Q,
         journal: &Journal,
@@ -216,7 +237,7 @@ impl Report {
 
 impl<R: Net + Clock> InForce<'_, R> {
     /// Has workers do what is to be done about a source or a port.
-    fn obey<Q: Wait>(&self, rt: &Q, told: Told<'_>, order: Order, report: &mut Report) {
+    fn obey<Q: Wait + Clock>(&self, rt: &Q, told: Told<'_>, order: Order, report: &mut Report) {
         match order {
             Order::Undial(source) => told.undial(rt, source),
             Order::Dial(call) => {
@@ -267,7 +288,7 @@ impl<R: Net + Clock> InForce<'_, R> {
     /// # Errors
     ///
     /// `Fault::Write` where an answer can't be written.
-    pub(crate) fn renew<W: Write, Q: Wait, G: Gate>(
+    pub(crate) fn renew<W: Write, Q: Wait + Clock, G: Gate>(
         &self,
         rt: &Q,
         console: &mut Console<'_, W>,
@@ -282,14 +303,13 @@ impl<R: Net + Clock> InForce<'_, R> {
             );
             return Ok(());
         };
-        let mut setup = self.setup.lock(rt);
-        let changes = changes_between(alloc, &setup, &new);
-        match changes {
-            Ok(changes) => {
-                let report = self.change(rt, console, gate, &setup, changes);
+        let turn = self.turn.lock(rt);
+        match self.compare(rt, alloc, gate, &new) {
+            Ok((changes, started)) => {
+                let report = self.change(rt, console, gate, changes, started);
                 journal.set_filter(rt, filter_of(new.log));
-                *setup = new;
-                drop(setup);
+                *self.setup.lock(rt) = new;
+                drop(turn);
                 journal.tell(
                     rt,
                     Entry::new(Notice::Reloaded, Whom::Nobody, Detail::Nothing),

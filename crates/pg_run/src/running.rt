@@ -8,51 +8,59 @@ ghost use Rattle.pg_run.specs.Limits.{guards_by, limit_of};
 use crate::failure::{Failure, not_bound};
 use crate::making::Place;
 use crate::opening::Openings;
-use crate::operator::Desk;
+use crate::operator::StandardIo;
 use crate::patient::Patient;
 use crate::reloading::filter_of;
+use crate::runtime::Runtime;
+use crate::served::Served;
 use crate::serving::{Known, Plan, serve_all};
 use crate::workers::told_as;
+use log::Level;
 use mio::net::TcpListener as PortListener;
+use pg_check::check_setup;
 use pg_console::{SetUp, set_up};
 use pg_limits::{AheadGuard, ClockGuard};
-use pg_operator::{BoundBy, LogLevel, PortRules, Setup, SourceRules, read_setup};
-use pg_service::{Address, Board, Dial, DoorRules, Guards, Journal, Port, Registered};
+use pg_log::Journal;
+use pg_operator::{BoundBy, PortRules, Setup, SourceRules, read_setup};
+use pg_service::{Address, Board, Dial, DoorRules, Guards, Logger, Port, Registered};
 use pg_wire::{PmuId, Refusal, SubId};
 use std::alloc::Global;
-use std::io::{BufReader, BufWriter, StdinLock};
+use std::io::{BufReader, BufWriter};
 use std::marker::Brand;
-use std::net::{Net, SocketAddr, SocketAddrV4, TcpListener, TcpStream};
+use std::net::{Net, SocketAddr, SocketAddrV4};
 use std::rt::Clock;
 use std::sync::atomic::AtomicBool;
 use std::sync::{Mutex, Wait};
-use std::thread::Threads;
 use std::time::{Duration, Instant};
 use std::{fs, io, mem};
 
+/// What the service is started with.
+#[derive(Clone, Copy)]
+pub struct Start<'a> {
+    /// The setup file.
+    pub file: &'a str,
+    /// The program's version, for the log.
+    pub version: &'static str,
+    /// Whether the system's journal reads standard error, so that each line of the log begins with its priority.
+    pub has_priority: bool,
+}
+
 /// The work of `pdcgw run`, with the lines of standard input, answered on standard output: reads the setup, posts its edits, listens
 /// on the subscribers' ports and where an operator is served, and then serves until the line `quit` comes (own rule). The end of the
-/// lines ends nothing.
+/// lines ends nothing. The log begins with what is served, and ends with the end.
 ///
 /// # Errors
 ///
-/// `ReadFault` where the file can't be read; `BadSetup` where it is no setup; that of the first edit that is refused;
+/// `ReadFault` where the file can't be read; `Unfit` where it is no setup, or an edit of it is refused, with its mistakes in words;
 /// `NotBound` where a port, the control socket or the page can't be bound; `NoMemory` before the workers have started.
-pub fn run<'a, R>(rt: &'a R, files: &'a HostRuntime, file: &'a str) -> Result<(), Failure>
-where
-    R: Input<Reader = StdinLock<'static>>
-        + Print
-        + Eprint
-        + Clock
-        + Net<Listener = TcpListener, Stream = TcpStream>
-        + Threads
-        + Wait
-        + Sync
-        + Alloc<A = Global>,
-{
+pub fn run<'a, R: Runtime + Alloc<A = Global>>(
+    rt: &'a R,
+    files: &'a HostRuntime,
+    start: Start<'a>,
+) -> Result<(), Failure> {
     let alloc = rt.alloc();
     let stop = AtomicBool::new(false);
-    let Ok(out) = BufWriter::new(alloc, io::writer(rt)) else {
+    let Ok(output) = BufWriter::new(alloc, io::writer(rt)) else {
         return Err(Failure::Refused(Refusal::NoMemory));
     };
     let lines = match Patient::new(rt, alloc, &stop) {
@@ -60,103 +68,55 @@ where
         Err(error) => return Err(Failure::Refused(told_as(error))),
     };
     match BufReader::new(alloc, lines) {
-        Ok(reader) => run_at(rt, files, file, Desk::Standard(reader, out), &stop),
+        Ok(input) => run_at(rt, files, start, StandardIo { input, output }, &stop),
         Err(error) => Err(Failure::Refused(told_as(error))),
     }
 }
 
-/// The same, with the lines of this connection, which are answered there.
-///
-/// # Errors
-///
-/// Those of `run`, and `ReadFault` where the connection can't be read and written at once.
-pub fn run_for<'a, R>(
+/// Serves by the setup of this file, with these lines, until it is to stop.
+fn run_at<'a, R: Runtime + Alloc<A = Global>>(
     rt: &'a R,
     files: &'a HostRuntime,
-    file: &'a str,
-    peer: TcpStream,
-) -> Result<(), Failure>
-where
-    R: Input<Reader = StdinLock<'static>>
-        + Print
-        + Eprint
-        + Clock
-        + Net<Listener = TcpListener, Stream = TcpStream>
-        + Threads
-        + Wait
-        + Sync
-        + Alloc<A = Global>,
-{
-    let out = match peer.try_clone() {
-        Ok(out) => out,
-        Err(error) => return Err(Failure::Refused(told_as(error))),
-    };
-    let stop = AtomicBool::new(false);
-    match BufReader::new(rt.alloc(), peer) {
-        Ok(reader) => run_at(rt, files, file, Desk::Peer(reader, out), &stop),
-        Err(error) => Err(Failure::Refused(told_as(error))),
-    }
-}
-
-/// Serves by the setup of this file, with the lines of this desk, until it is to stop.
-fn run_at<'a, R>(
-    rt: &'a R,
-    files: &'a HostRuntime,
-    file: &'a str,
-    desk: Desk<'a, R>,
+    start: Start<'a>,
+    lines: StandardIo<'a, R>,
     stop: &'a AtomicBool,
-) -> Result<(), Failure>
-where
-    R: Input<Reader = StdinLock<'static>>
-        + Print
-        + Eprint
-        + Clock
-        + Net<Listener = TcpListener, Stream = TcpStream>
-        + Threads
-        + Wait
-        + Sync
-        + Alloc<A = Global>,
-{
-    let alloc = rt.alloc();
-    let setup = setup_in(files, alloc, file)?;
-    let in_force = Mutex::new(setup_in(files, alloc, file)?);
+) -> Result<(), Failure> {
+    let (setup, in_force) = setups_in(files, rt.alloc(), start.file)?;
+    let in_force = Mutex::new(in_force);
+    let turn = Mutex::new(());
     let place = Place {
         files,
-        file,
+        file: start.file,
         setup: &in_force,
+        turn: &turn,
     };
-    run_by(rt, place, setup, desk, stop)
+    run_by(rt, place, start, setup, lines, stop)
 }
 
 /// Serves by this setup, whose edits are posted before anything is listened to.
-fn run_by<'a, R>(
+fn run_by<'a, R: Runtime + Alloc<A = Global>>(
     rt: &'a R,
     place: Place<'a>,
+    start: Start<'a>,
     mut setup: Setup,
-    desk: Desk<'a, R>,
+    lines: StandardIo<'a, R>,
     stop: &'a AtomicBool,
-) -> Result<(), Failure>
-where
-    R: Input<Reader = StdinLock<'static>>
-        + Print
-        + Eprint
-        + Clock
-        + Net<Listener = TcpListener, Stream = TcpStream>
-        + Threads
-        + Wait
-        + Sync
-        + Alloc<A = Global>,
-{
+) -> Result<(), Failure> {
     let alloc = rt.alloc();
+    let served = Served::of(start, &setup);
     let edits = mem::replace(&mut setup.edits, Vec::new(alloc));
     let SetUp {
         shared,
         seat,
         registered,
     } = set_up(rt, alloc, edits)?;
-    let known = known_by(rt, alloc, setup.log, registered)?;
+    let known = known_by(rt, alloc, &setup, start, registered)?;
     let (plan, control) = plan_of(rt, place.files, alloc, setup)?;
-    let ended = serve_all::<R, Brand>(rt, alloc, &shared, seat, plan, desk, &known, place, stop);
+    let mut log = logger_of(rt, alloc, &known, plan.now)?;
+    log.write(Level::Info, None, &served);
+    let ended = serve_all::<R, Brand>(rt, alloc, &shared, seat, plan, lines, &known, place, stop);
+    log.write_rest();
+    log.write(Level::Info, None, &"the service has ended");
     if let Some(path) = control {
         // Where it can't be removed, the next start replaces it.
         let _ = fs::remove_file(place.files, path.as_str());
@@ -165,17 +125,32 @@ where
     Ok(())
 }
 
-/// What all workers know at first: a log of this level, an empty board, and what the edits registered.
+/// A log of what these workers meet.
+pub(crate) fn logger_of<'a, R: Wait + Clock + Eprint + Net>(
+    rt: &'a R,
+    alloc: Global,
+    known: &'a Known,
+    now: Instant,
+) -> Result<Logger<'a, R>, Refusal> {
+    match Logger::new(rt, alloc, &known.journal, known.has_priority, now) {
+        Ok(log) => Ok(log),
+        Err(error) => Err(told_as(error)),
+    }
+}
+
+/// What all workers know at first: a log of the setup's level, an empty board, and what the edits registered.
 fn known_by<R: Wait>(
     rt: &R,
     alloc: Global,
-    log: LogLevel,
+    setup: &Setup,
+    start: Start<'_>,
     registered: Registered,
 ) -> Result<Known, Refusal> {
     let journal = Journal::new(alloc)?;
-    journal.set_filter(rt, filter_of(log));
+    journal.set_filter(rt, filter_of(setup.log));
     Ok(Known {
         journal,
+        has_priority: start.has_priority,
         board: Board::new(alloc),
         registered: Mutex::new(registered),
     })
@@ -216,15 +191,18 @@ fn plan_of<R: Net + Clock>(
     Ok((plan, control))
 }
 
-/// The setup that a file has.
-fn setup_in(files: &HostRuntime, alloc: Global, file: &str) -> Result<Setup, Refusal> {
+/// The setup that a file has, twice: to serve by it, and to compare a later one with it.
+fn setups_in(files: &HostRuntime, alloc: Global, file: &str) -> Result<(Setup, Setup), Failure> {
     let bytes = match fs::read(files, file) {
         Ok(bytes) => bytes,
-        Err(error) => return Err(told_as(error)),
+        Err(error) => return Err(Failure::Refused(told_as(error))),
     };
-    match str::from_utf8(bytes.as_slice()) {
-        Ok(text) => read_setup(alloc, text),
-        Err(_) => Err(Refusal::BadSetup),
+    let Ok(text) = str::from_utf8(bytes.as_slice()) else {
+        return Err(Failure::Refused(Refusal::BadSetup));
+    };
+    match check_setup(alloc, file, text) {
+        Ok(_) => Ok((read_setup(alloc, text)?, read_setup(alloc, text)?)),
+        Err(trouble) => Err(Failure::Unfit(trouble)),
     }
 }
 

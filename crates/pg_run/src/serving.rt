@@ -5,26 +5,21 @@ ghost use Rattle.pg_console.specs.Joining.{Begins};
 
 use crate::making::{Makings, Place, make_workers};
 use crate::opening::Openings;
-use crate::operator::Desk;
+use crate::operator::StandardIo;
+use crate::runtime::Runtime;
 use crate::workers::{Worker, mailbox, mailboxes};
-use pg_console::{Told, serve_by};
+use pg_console::{Reloads, Told, serve_by};
+use pg_log::Journal;
 use pg_service::{
-    Board, Dial, Journal, Mailbox, Neighbours, Port, PortOrder, Registered, Resolver, SourceOrder,
-    Waiting,
+    Board, Dial, Mailbox, Neighbours, Port, PortOrder, Registered, Resolver, SourceOrder, Waiting,
 };
 use pg_shared::{Named, Seat, Shared};
 use pg_wire::Refusal;
 use std::alloc::Global;
-use std::io::StdinLock;
-use std::net::{Net, TcpListener, TcpStream};
-use std::rt::Clock;
+use std::net::Net;
+use std::sync::Mutex;
 use std::sync::atomic::AtomicBool;
-use std::sync::{Mutex, Wait};
-use std::thread::Threads;
 use std::time::{Duration, Instant};
-
-/// How many names are looked up at a time (own rule).
-const LOOKUPS: usize = 4;
 
 /// What is served, and by how many.
 #[derive(Drop)]
@@ -42,6 +37,8 @@ pub(crate) struct Plan {
 #[derive(Drop)]
 pub(crate) struct Known {
     pub(crate) journal: Journal,
+    // Whether each line of the log begins with its priority.
+    pub(crate) has_priority: bool,
     pub(crate) board: Board,
     pub(crate) registered: Mutex<Registered>,
 }
@@ -53,6 +50,7 @@ struct Boxes {
     ports: Vec<Mailbox<PortOrder>>,
     resolver: Resolver,
     window: Option<Mailbox<()>>,
+    reloads: Option<Reloads>,
 }
 
 /// The waits of the workers of each kind.
@@ -60,28 +58,19 @@ struct Boxes {
 pub(crate) struct Waits {
     pub(crate) sources: Vec<Waiting>,
     pub(crate) ports: Vec<Waiting>,
-    pub(crate) names: Vec<Waiting>,
+    pub(crate) names: Waiting,
     pub(crate) window: Option<Waiting>,
+    pub(crate) reloads: Option<Waiting>,
 }
 
 /// Serves by workers until they are stopped. Their seats are split from this one, and joined to it at the end.
-pub(crate) fn serve_all<
-    R: Input<Reader = StdinLock<'static>>
-        + Print
-        + Eprint
-        + Clock
-        + Net<Listener = TcpListener, Stream = TcpStream>
-        + Threads
-        + Wait
-        + Sync,
-    N: Named + Send,
->(
+pub(crate) fn serve_all<R: Runtime, N: Named + Send>(
     rt: &R,
     alloc: Global,
     shared: &Shared,
     seat: Seat,
     plan: Plan,
-    desk: Desk<'_, R>,
+    lines: StandardIo<'_, R>,
     known: &Known,
     place: Place<'_>,
     stop: &AtomicBool,
@@ -91,23 +80,15 @@ pub(crate) fn serve_all<
     ensures begins { IfOk result (λ joined. Begins seat joined) }
 {
     let (waits, boxes) = waits_of(rt, alloc, &plan)?;
+    boxes.resolver.start(rt)?;
     let (seat, workers) = workers_of::<R, N>(
-        rt, alloc, shared, seat, plan, waits, &boxes, desk, known, place, stop,
+        rt, alloc, shared, seat, plan, waits, &boxes, lines, known, place, stop,
     )?;
     serve_by(rt, alloc, shared, seat, workers, stop)
 }
 
 /// All workers, with seats that are split from this one.
-fn workers_of<
-    'a,
-    R: Input<Reader = StdinLock<'static>>
-        + Print
-        + Eprint
-        + Clock
-        + Net<Listener = TcpListener, Stream = TcpStream>
-        + Wait,
-    N: Named,
->(
+fn workers_of<'a, R: Runtime, N: Named>(
     rt: &'a R,
     alloc: Global,
     shared: &'a Shared,
@@ -115,7 +96,7 @@ fn workers_of<
     plan: Plan,
     waits: Waits,
     boxes: &'a Boxes,
-    desk: Desk<'a, R>,
+    lines: StandardIo<'a, R>,
     known: &'a Known,
     place: Place<'a>,
     stop: &'a AtomicBool,
@@ -139,22 +120,30 @@ fn workers_of<
             neighbours,
             registered: &known.registered,
             window: boxes.window.as_ref(),
+            reloads: boxes.reloads.as_ref(),
             stop,
         },
         place,
+        known,
         now: plan.now,
     };
-    make_workers(&makings, seat, plan, waits, desk)
+    make_workers(&makings, seat, plan, waits, lines)
 }
 
 /// What the workers of this plan wait with, and the mailboxes by which they are told.
 fn waits_of<R: Net>(rt: &R, alloc: Global, plan: &Plan) -> Result<(Waits, Boxes), Refusal> {
     let (source_waits, sources) = mailboxes(rt, alloc, plan.ingest)?;
     let (port_waits, ports) = mailboxes(rt, alloc, plan.serve)?;
-    let (names, workers) = mailboxes(rt, alloc, LOOKUPS)?;
+    let (names, resolver) = mailbox(rt, alloc)?;
     let (window_wait, window) = if plan.openings.is_any() {
         let (wait, mailbox) = mailbox(rt, alloc)?;
         (Some(wait), Some(mailbox))
+    } else {
+        (None, None)
+    };
+    let (reload_wait, reloads) = if plan.openings.takes_lines() {
+        let (wait, mailbox) = mailbox(rt, alloc)?;
+        (Some(wait), Some(Reloads::new(alloc, mailbox)))
     } else {
         (None, None)
     };
@@ -163,12 +152,14 @@ fn waits_of<R: Net>(rt: &R, alloc: Global, plan: &Plan) -> Result<(Waits, Boxes)
         ports: port_waits,
         names,
         window: window_wait,
+        reloads: reload_wait,
     };
     let boxes = Boxes {
         sources,
         ports,
-        resolver: Resolver::new(alloc, workers),
+        resolver: Resolver::new(alloc, Some(resolver))?,
         window,
+        reloads,
     };
     Ok((waits, boxes))
 }

@@ -5,7 +5,9 @@ ghost use Rattle.std.specs.IoError.{error_kind};
 ghost use Rattle.pg_run.specs.Kinds.{Gives};
 
 use crate::operator::Operator;
+use crate::reload_worker::ReloadWorker;
 use crate::reloading::InForce;
+use crate::runtime::Runtime;
 use pg_console::{Counter, Seated};
 use pg_service::{
     ConnectionsWorker, Dial, Logger, Mailbox, Port, PortWorker, ResolverWorker, Rota, SourceWorker,
@@ -16,23 +18,14 @@ use pg_window::Window;
 use pg_wire::Refusal;
 use std::alloc::Global;
 use std::io;
-use std::io::{ErrorKind, StdinLock};
-use std::net::{Net, TcpListener, TcpStream};
+use std::io::ErrorKind;
+use std::net::Net;
 use std::rt::Clock;
 use std::sync::Wait;
 
 /// A worker of any kind, so that one list has them all.
 #[derive(Drop)]
-pub enum Worker<
-    'a,
-    R: Wait
-        + Net<Listener = TcpListener, Stream = TcpStream>
-        + Clock
-        + Input<Reader = StdinLock<'static>>
-        + Print
-        + Eprint,
-    N: Named,
-> {
+pub enum Worker<'a, R: Runtime, N: Named> {
     Sources(SourceWorker<'a, R, N>),
     Subscribers(PortWorker<'a, R, N>),
     Names(ResolverWorker<'a, R>),
@@ -40,18 +33,11 @@ pub enum Worker<
     Ticks(Ticker<'a, R, N>),
     Lines(Operator<'a, R, N>),
     Window(Window<'a, R, Counter<'a, R, N, InForce<'a, R>>>),
+    Reloads(ReloadWorker<'a, R, N>),
     Log(Logger<'a, R>),
 }
 
-impl<
-    R: Wait
-        + Net<Listener = TcpListener, Stream = TcpStream>
-        + Clock
-        + Input<Reader = StdinLock<'static>>
-        + Print
-        + Eprint,
-    N: Named,
-> Work for Worker<'_, R, N> {
+impl<R: Runtime, N: Named> Work for Worker<'_, R, N> {
     fn turn(&mut self) -> bool {
         match self {
             Worker::Sources(worker) => worker.turn(),
@@ -61,20 +47,13 @@ impl<
             Worker::Ticks(worker) => worker.turn(),
             Worker::Lines(worker) => worker.turn(),
             Worker::Window(worker) => worker.turn(),
+            Worker::Reloads(worker) => worker.turn(),
             Worker::Log(worker) => worker.turn(),
         }
     }
 }
 
-impl<
-    R: Wait
-        + Net<Listener = TcpListener, Stream = TcpStream>
-        + Clock
-        + Input<Reader = StdinLock<'static>>
-        + Print
-        + Eprint,
-    N: Named,
-> Seated for Worker<'_, R, N> {
+impl<R: Runtime, N: Named> Seated for Worker<'_, R, N> {
     ghost table = { N.table };
 
     // Its own, or none.
@@ -89,6 +68,7 @@ impl<
             Worker::Ticks(worker) => Some(worker.into_gate().into_seat()),
             Worker::Lines(worker) => Some(worker.into_gate().into_seat()),
             Worker::Window(worker) => Some(worker.into_clerk().into_gate().into_seat()),
+            Worker::Reloads(worker) => Some(worker.into_gate().into_seat()),
             Worker::Log(_) => None,
         }
     }

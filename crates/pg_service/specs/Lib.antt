@@ -1,6 +1,4 @@
 -- Definitions that the contracts of the running service cite, in the order in which to read them.
-pub mod Plans
-pub mod Patience
 pub mod Lines
 pub mod Posts
 pub mod Visits

@@ -10,7 +10,7 @@ use Rattle.pg_service.specs.declared.watched.Guarding.{Guarding}
 use Rattle.pg_service.specs.declared.source.Turn.{Turn}
 use Rattle.pg_service.specs.declared.source.Turn.TheVariants.{Waits, More, Ended}
 use Rattle.pg_service.specs.declared.watched.Seen.{Seen}
-use Rattle.pg_service.specs.Plans.{Plan, announced, ended, measured}
+use Rattle.pg_limits.specs.Plans.{Plan, announced, ended, measured}
 
 -- its link, when it is called, and the guards of its measurements
 pub record Line : Type 0 where

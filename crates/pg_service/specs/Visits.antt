@@ -12,7 +12,7 @@ use Rattle.pg_limits.specs.Hosts.{Net}
 use Rattle.pg_limits.specs.declared.layouts.OnChange.{OnChange}
 use Rattle.pg_service.specs.declared.door.Knock.{Knock}
 use Rattle.pg_service.specs.declared.door.Knock.TheVariants.{Welcome, Refused}
-use Rattle.pg_service.specs.Patience.{Waited, connected, is_settled}
+use Rattle.pg_limits.specs.Patience.{Waited, connected, is_settled}
 use Rattle.pg_service.specs.Posts.{Asks}
 
 -- its session, and how long it is waited for

@@ -1,7 +1,7 @@
 //! Whom a worker serves in a turn, and how long it waits before.
 
-use crate::journal::{Journal, Notice};
 use crate::waiting::{PATIENCE_MS, Waiting, sooner};
+use pg_log::{Journal, Notice};
 use std::alloc::{AllocError, Global};
 use std::mem;
 use std::rt::Clock;

@@ -1,11 +1,10 @@
 //! What workers tell of their sources and ports, to whoever asks.
 
-use crate::clocks::Clocks;
 use crate::connections::Connections;
-use crate::journal::{Journal, Notice};
-use crate::layout_changes::LayoutChanges;
 use crate::mail::{Mailbox, PortOrder, SourceOrder};
 use pg_audit::PmuStats;
+use pg_limits::{Clocks, LayoutChanges};
+use pg_log::{Journal, Notice};
 use pg_status::Histogram;
 use pg_wire::{PmuId, SubId};
 use std::alloc::Global;

@@ -1,8 +1,8 @@
 //! What the system's table tells of TCP connections.
 
-use crate::journal::{Detail, Entry, Journal, Notice, Whom};
 use crate::mail::{Mailbox, PortOrder};
 use pg_limits::TcpRow;
+use pg_log::{Detail, Entry, Journal, Notice, Whom};
 use pg_shared::Work;
 use std::alloc::Global;
 use std::net::{IpAddr, SocketAddr};

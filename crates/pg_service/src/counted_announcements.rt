@@ -2,8 +2,8 @@
 
 ghost use Rattle.std.specs.Prelude.{◌≡◌};
 
-use crate::layout_changes::LayoutChanges;
 use pg_gateway::{Event, Gate, Reply};
+use pg_limits::LayoutChanges;
 
 /// A gate that counts each announcement as a change of layouts that is begun before it is posted, and done behind that (own rule). All is
 /// answered as by the gate inside.

@@ -8,16 +8,14 @@ ghost use Rattle.pg_limits.specs.Hosts.{is_allowed};
 ghost use Rattle.pg_session.specs.Events.{connect};
 ghost use Rattle.pg_gateway.specs.Occurrences.{asks, told};
 ghost use Rattle.pg_gateway.specs.Posting.{Notes};
-ghost use Rattle.pg_service.specs.Patience.{acknowledging, left_by, overdue_by};
+ghost use Rattle.pg_limits.specs.Patience.{acknowledging, left_by, overdue_by};
 ghost use Rattle.pg_service.specs.Posts.{OwnOnly};
 ghost use Rattle.pg_service.specs.Visits.{Admits, HungUp, Visit, makes_room, refusal_of, with_room};
 
-use crate::counted::Counted;
 use crate::guest::{Guest, Stay};
-use crate::patience::{Overdue, Patience};
 use crate::watched::Watched;
 use pg_gateway::{Event, Gate, Reply};
-use pg_limits::{Allow, Budget, OnChange};
+use pg_limits::{Allow, Budget, Counted, OnChange, Overdue, Patience};
 use pg_wire::{Refusal, SubId};
 use std::alloc::Global;
 use std::io::{Read, Write};

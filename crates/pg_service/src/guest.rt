@@ -4,16 +4,14 @@ ghost use Rattle.std.specs.Prelude.{◌≡◌, IfOk, IfErr, length, option_map};
 ghost use Rattle.std.specs.Time.{instant_nanos};
 ghost use Rattle.pg_session.specs.Commands.{unheard};
 ghost use Rattle.pg_session.specs.Events.{hangup};
-ghost use Rattle.pg_service.specs.Patience.{acknowledging};
+ghost use Rattle.pg_limits.specs.Patience.{acknowledging};
 ghost use Rattle.pg_service.specs.Posts.{Asks, OwnOnly};
 ghost use Rattle.pg_service.specs.Visits.{HasHeard};
 
-use crate::counted::{Counted, Never};
-use crate::patience::{Overdue, Patience};
 use crate::watched::Watched;
 use pg_gateway::{Event, Gate};
 use pg_ingest::End;
-use pg_limits::Budget;
+use pg_limits::{Budget, Counted, Never, Overdue, Patience};
 use pg_session::Session;
 use pg_shared::serve_session;
 use pg_wire::{Refusal, SubId};

@@ -1,31 +1,34 @@
 //! The log.
 
-use crate::digest::Digest;
-use crate::journal::{Detail, Entry, Journal, Notice, Whom};
 use crate::outlet::Outlet;
 use jiff_core::Timestamp;
 use jiff_fmt::temporal::DateTimePrinter;
+use log::Level;
+use pg_log::{Detail, Digest, Entry, Journal, Notice, Whom};
 use pg_shared::Work;
 use std::alloc::Global;
 use std::net::Net;
 use std::rt::Clock;
 use std::sync::Wait;
 use std::time::{Duration, Instant, SystemTime};
-use std::{io, thread};
+use std::{fmt, io, thread};
 
 /// How long a turn waits for what is met, in milliseconds.
 const PAUSE_MS: u64 = 100;
 
-/// The lines of what was held back that one turn tells at most.
+/// The lines of what was held back that one turn writes at most.
 const HELD: u32 = 1_024;
 
 /// A worker that writes the log to standard error (own rule): `TIME LEVEL WHAT`, times in UTC. No worker that serves waits for it,
-/// and it waits for nobody: where standard error takes no line, that line is counted and not told.
+/// and it waits for nobody: where standard error takes no line, that line is counted and not written. The program also writes its first and
+/// its last lines by one.
 #[derive(Drop)]
 pub struct Logger<'a, R: Wait + Clock + Eprint + Net> {
     rt: &'a R,
     alloc: Global,
     journal: &'a Journal,
+    // Whether each line begins with its priority, as the system's journal reads it.
+    has_priority: bool,
     digest: Digest,
     outlet: Outlet,
     started: Instant,
@@ -34,7 +37,8 @@ pub struct Logger<'a, R: Wait + Clock + Eprint + Net> {
 }
 
 impl<'a, R: Wait + Clock + Eprint + Net> Logger<'a, R> {
-    /// A log of what this journal keeps, as far as its filter allows it.
+    /// A log of what this journal keeps, as far as its filter allows it. With `has_priority` each line begins with its priority for the
+    /// system's journal, `<3>` for an error to `<7>` for what is of the level debug (sd-daemon(3)).
     ///
     /// # Errors
     ///
@@ -43,12 +47,14 @@ impl<'a, R: Wait + Clock + Eprint + Net> Logger<'a, R> {
         rt: &'a R,
         alloc: Global,
         journal: &'a Journal,
+        has_priority: bool,
         now: Instant,
     ) -> io::Result<Logger<'a, R>> {
         Ok(Logger {
             rt,
             alloc,
             journal,
+            has_priority,
             digest: Digest::new(alloc),
             outlet: Outlet::new(rt, alloc)?,
             started: now,
@@ -56,42 +62,60 @@ impl<'a, R: Wait + Clock + Eprint + Net> Logger<'a, R> {
         })
     }
 
-    /// Writes a line, if standard error takes it now, and tells whether nothing was left out.
-    fn write(&mut self, entry: &Entry) -> bool {
-        let level = entry.notice.level();
+    /// Writes a line of this time, or where it has none of the time by now, if standard error takes it now, and reports whether nothing was
+    /// left out.
+    pub fn write<T: fmt::Display>(
+        &mut self,
+        level: Level,
+        time: Option<SystemTime>,
+        what: &T,
+    ) -> bool {
         if !self.journal.filter(self.rt).allows(level) {
             return true;
         }
         if !self.outlet.takes_a_line() {
             return false;
         }
+        let priority = if self.has_priority {
+            priority_of(level)
+        } else {
+            ""
+        };
+        let time = match time {
+            Some(time) => Some(time),
+            None => SystemTime::now(self.rt).ok(),
+        };
         let name = level.as_str();
-        let written = match self.time() {
-            Some(now) => {
-                let now = DateTimePrinter::new()
+        let written = match time.and_then(timestamp_of) {
+            Some(time) => {
+                let time = DateTimePrinter::new()
                     .precision(Some(3))
-                    .timestamp_text(now);
-                let now = now.as_str();
-                eprintln!(self.rt; "{now} {name} {entry}")
+                    .timestamp_text(time);
+                let time = time.as_str();
+                eprintln!(self.rt; "{priority}{time} {name} {what}")
             }
-            None => eprintln!(self.rt; "- {name} {entry}"),
+            None => eprintln!(self.rt; "{priority}- {name} {what}"),
         };
         written.is_ok()
     }
 
-    /// This machine's clock, if it tells a time of the calendar.
-    fn time(&self) -> Option<Timestamp> {
-        let now = SystemTime::now(self.rt).ok()?;
-        let since = now.duration_since(SystemTime::UNIX_EPOCH).ok()?;
-        let nanos = i128::try_from(since.as_nanos()).ok()?;
-        Timestamp::from_nanosecond(nanos).ok()
+    /// Writes an entry, and reports whether nothing was left out.
+    fn write_entry(&mut self, entry: &Entry) -> bool {
+        self.write(entry.notice.level(), entry.time, entry)
     }
 
-    /// Tells of this, or holds it back.
+    /// Writes what waits in the journal, once no worker does that any more.
+    pub fn write_rest(&mut self) {
+        for entry in self.journal.take(self.rt, self.alloc) {
+            self.write_entry(&entry);
+        }
+    }
+
+    /// Writes this, or holds it back.
     fn meet(&mut self, entry: Entry, now: u64) {
-        if let Some(told) = self.digest.met(entry, now) {
-            if !self.write(&told) {
-                self.digest.missed(told.times);
+        if let Some(due) = self.digest.met(entry, now) {
+            if !self.write_entry(&due) {
+                self.digest.missed(due.times);
             }
         }
     }
@@ -104,12 +128,8 @@ impl<'a, R: Wait + Clock + Eprint + Net> Logger<'a, R> {
                 let times = count.saturating_sub(*counted);
                 *counted = count;
                 if times > 0 {
-                    let entry = Entry {
-                        notice: *notice,
-                        whom: Whom::Nobody,
-                        detail: Detail::Nothing,
-                        times,
-                    };
+                    let mut entry = Entry::new(*notice, Whom::Nobody, Detail::Nothing);
+                    entry.times = times;
                     self.meet(entry, now);
                 }
             }
@@ -128,6 +148,23 @@ impl<'a, R: Wait + Clock + Eprint + Net> Logger<'a, R> {
     }
 }
 
+/// The priority of a line for the system's journal (sd-daemon(3)).
+fn priority_of(level: Level) -> &'static str {
+    match level {
+        Level::Error => "<3>",
+        Level::Warn => "<4>",
+        Level::Info => "<6>",
+        Level::Debug | Level::Trace => "<7>",
+    }
+}
+
+/// This time of the clock as one of the calendar, if it is one.
+fn timestamp_of(time: SystemTime) -> Option<Timestamp> {
+    let since = time.duration_since(SystemTime::UNIX_EPOCH).ok()?;
+    let nanos = i128::try_from(since.as_nanos()).ok()?;
+    Timestamp::from_nanosecond(nanos).ok()
+}
+
 impl<R: Wait + Clock + Eprint + Net> Work for Logger<'_, R> {
     fn turn(&mut self) -> bool {
         thread::sleep(self.rt, Duration::from_millis(PAUSE_MS));
@@ -137,11 +174,11 @@ impl<R: Wait + Clock + Eprint + Net> Work for Logger<'_, R> {
         }
         self.meet_unnamed(now);
         for _ in 0..HELD {
-            let Some(told) = self.digest.due(now) else {
+            let Some(due) = self.digest.due(now) else {
                 break;
             };
-            if !self.write(&told) {
-                self.digest.missed(told.times);
+            if !self.write_entry(&due) {
+                self.digest.missed(due.times);
                 break;
             }
         }

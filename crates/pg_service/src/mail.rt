@@ -1,10 +1,10 @@
 //! What workers are told while they run.
 
 use crate::door::DoorRules;
-use crate::journal::{Journal, Notice};
 use crate::sources::Dial;
 use mio::net::TcpListener;
 use mio::{Poll, Token, Waker};
+use pg_log::{Journal, Notice};
 use pg_wire::{PmuId, StreamId, SubId};
 use std::alloc::Global;
 use std::net::SocketAddr;

@@ -8,15 +8,10 @@ use crate::agenda::Agenda;
 use crate::board::{Board, PortReport};
 use crate::commands::{Posted, post_config, post_resume};
 use crate::connections::Connections;
-use crate::counted::{Counted, Never};
 use crate::door::{Door, DoorRules, Knock};
 use crate::guest::{FULL, Gone, Stay};
-use crate::held_writer::HeldWriter;
-use crate::journal::{Detail, Entry, Journal, Notice, Whom};
 use crate::known_layouts::{KnownLayouts, ServedOnce};
-use crate::layout_changes::LayoutChanges;
 use crate::mail::{Mailbox, PortOrder, SourceOrder};
-use crate::patience::Overdue;
 use crate::sources::READS;
 use crate::stamps::{Aged, Stamps};
 use crate::standings::{STREAMS, Standings, ask_standings};
@@ -26,7 +21,8 @@ use crate::watched::{Seen, Watched};
 use mio::net::{TcpListener, TcpStream};
 use mio::{Interest, Poll, Token};
 use pg_gateway::{Event, Gate, Reply};
-use pg_limits::{Budget, Unacknowledged};
+use pg_limits::{Budget, Counted, HeldWriter, LayoutChanges, Never, Overdue, Unacknowledged};
+use pg_log::{Detail, Entry, Journal, Notice, Whom};
 use pg_session::StreamStanding;
 use pg_shared::{Named, SharedGate, Work};
 use pg_status::Histogram;
@@ -859,7 +855,7 @@ impl Port {
                 self.door.serve(&mut reader, &mut writer, gate, now)
             }
         };
-        Some((stay, writer.inner.is_holding(), writer.moved))
+        Some((stay, writer.inner.is_holding, writer.moved))
     }
 
     /// Compares the layouts of the streams with those that who has connected knows, behind what was served; `settled` is how many changes were
@@ -911,7 +907,7 @@ impl Port {
 
     /// Disconnects who has connected, since it could misread this stream.
     #[tactic(auto, using(crate::proofs::Own::own_as))]
-    fn disconnect<R: Wait, G: Gate>(
+    fn disconnect<R: Wait + Clock, G: Gate>(
         &mut self,
         rt: &R,
         gate: &mut Watched<G>,
@@ -929,7 +925,7 @@ impl Port {
 
     /// Posts what is due in the subscriber's name, one CFG-2 and one start at most, and tells whether something was posted.
     #[tactic(auto, using(crate::proofs::Own::own_nil, crate::proofs::Own::own_more, crate::proofs::Own::own_as))]
-    fn post_due<R: Wait, G: Gate>(
+    fn post_due<R: Wait + Clock, G: Gate>(
         &mut self,
         rt: &R,
         gate: &mut Watched<G>,
@@ -948,7 +944,12 @@ impl Port {
     }
 
     /// Takes what its gate saw, and reports which streams were started.
-    fn report_posted<R: Wait, G: Gate>(&self, rt: &R, gate: &mut Watched<G>, journal: &Journal)
+    fn report_posted<R: Wait + Clock, G: Gate>(
+        &self,
+        rt: &R,
+        gate: &mut Watched<G>,
+        journal: &Journal,
+    )
         ensures gate { gate.new.gate ≡ gate.old.gate }
     {
         let seen = gate.take_seen();
@@ -957,7 +958,7 @@ impl Port {
 
     /// Has a CFG-2 sent that is owed, and where nothing waits a stream go on; tells whether something was posted.
     #[tactic(auto, using(crate::proofs::Own::own_nil, crate::proofs::Own::own_more, crate::proofs::Own::own_as))]
-    fn send_and_resume<R: Wait, G: Gate>(
+    fn send_and_resume<R: Wait + Clock, G: Gate>(
         &mut self,
         rt: &R,
         gate: &mut Watched<G>,
@@ -977,7 +978,7 @@ impl Port {
 
     /// Has the CFG-2 of a stream put among the replies that is owed one, and tells whether it was.
     #[tactic(auto, using(crate::proofs::Own::own_nil))]
-    fn send_config<R: Wait, G: Gate>(
+    fn send_config<R: Wait + Clock, G: Gate>(
         &mut self,
         rt: &R,
         gate: &mut Watched<G>,
@@ -1029,7 +1030,7 @@ impl Port {
     }
 
     /// Tells what was met while who has connected was served.
-    fn tell_seen<R: Wait>(&mut self, rt: &R, seen: &Seen, journal: &Journal)
+    fn tell_seen<R: Wait + Clock>(&mut self, rt: &R, seen: &Seen, journal: &Journal)
         ensures same { self.new ≡ self.old }
     {
         if seen.gap > 0 {
@@ -1044,7 +1045,7 @@ impl Port {
     }
 
     /// Tells which streams were started and stopped.
-    fn tell_switched<R: Wait>(&self, rt: &R, switched: &Switches, journal: &Journal) {
+    fn tell_switched<R: Wait + Clock>(&self, rt: &R, switched: &Switches, journal: &Journal) {
         for place in 0..STREAMS {
             let Some((stream, is_on)) = switched.at(place) else {
                 return;
@@ -1059,7 +1060,13 @@ impl Port {
     }
 
     /// Closes the connection where it ended, and tells whether more is to be done.
-    fn leave<R: Wait>(&mut self, rt: &R, stay: Stay, journal: &Journal, now: Instant) -> bool
+    fn leave<R: Wait + Clock>(
+        &mut self,
+        rt: &R,
+        stay: Stay,
+        journal: &Journal,
+        now: Instant,
+    ) -> bool
         ensures same { self.new ≡ self.old }
     {
         match stay {
@@ -1078,7 +1085,7 @@ impl Port {
     }
 
     /// Closes the connection that stood, since another takes its place.
-    fn give_way<R: Wait>(&mut self, rt: &R, journal: &Journal, now: Instant)
+    fn give_way<R: Wait + Clock>(&mut self, rt: &R, journal: &Journal, now: Instant)
         ensures same { self.new ≡ self.old }
     {
         let detail = match self.peer {
@@ -1090,7 +1097,7 @@ impl Port {
     }
 
     /// Accepts who wants to connect, and tells whether more may want to.
-    fn accept<R: Wait, G: Gate>(
+    fn accept<R: Wait + Clock, G: Gate>(
         &mut self,
         rt: &R,
         alloc: Global,
@@ -1124,7 +1131,7 @@ impl Port {
     }
 
     /// Lets a connection in, or closes it.
-    fn admit<R: Wait, G: Gate>(
+    fn admit<R: Wait + Clock, G: Gate>(
         &mut self,
         rt: &R,
         alloc: Global,

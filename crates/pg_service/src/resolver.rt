@@ -1,15 +1,24 @@
-//! Addresses of names, looked up apart from all workers that serve.
+//! Addresses of names, looked up apart from all workers.
 
-use crate::journal::Journal;
 use crate::mail::{Mailbox, SourceOrder};
 use crate::waiting::{PATIENCE_MS, Waiting};
+use pg_log::{Journal, Notice};
 use pg_shared::Work;
 use pg_wire::PmuId;
-use std::alloc::Global;
-use std::net::{Net, SocketAddr, ToSocketAddrs};
+use std::alloc::{AllocError, Global};
+use std::net::{Net, SocketAddr, TcpListener, TcpStream, ToSocketAddrs};
 use std::rt::Clock;
-use std::sync::{Mutex, Wait};
+use std::sync::atomic::{AtomicUsize, Ordering};
+use std::sync::{Arc, Condvar, Mutex, Wait};
+use std::thread::Threads;
 use std::time::Duration;
+use std::{mem, thread};
+
+/// How many names are looked up at a time (own rule).
+const LOOKUPS: usize = 4;
+
+/// How often it is looked for addresses while names are looked up, in milliseconds.
+const LOOK_MS: u64 = 20;
 
 /// A name to look up for a source's call.
 #[derive(Drop)]
@@ -24,67 +33,174 @@ pub struct Lookup {
     pub name: String,
 }
 
-/// The names that wait to be looked up, for all workers that do that (own rule): each takes the next one. So a name that no server answers
-/// keeps one of them, and the others go on.
+/// A name that was looked up.
 #[derive(Drop)]
-pub struct Resolver {
-    lookups: Mutex<Vec<Lookup>>,
-    workers: Vec<Mailbox<()>>,
+struct Found {
+    worker: usize,
+    source: PmuId,
+    dial: u64,
+    // Its address, if it has one.
+    address: Option<SocketAddr>,
 }
 
-impl Resolver {
-    /// No name waits. Its workers are woken by these.
-    pub fn new(alloc: Global, workers: Vec<Mailbox<()>>) -> Resolver {
-        Resolver {
-            lookups: Mutex::new(Vec::new(alloc)),
-            workers,
-        }
-    }
+/// The names that wait to be looked up, and those that were. The threads that look names up hold this and nothing else of the service: the
+/// system's look-up can't be ended, so that nobody waits for such a thread, and the program ends without it.
+#[derive(Drop)]
+struct Names {
+    waiting: Mutex<Vec<Lookup>>,
+    // A name waits.
+    come: Condvar,
+    found: Mutex<Vec<Found>>,
+    // How many addresses there was no memory for.
+    lost: AtomicUsize,
+}
 
-    /// Has a name looked up, and tells whether there was memory for it.
-    pub(crate) fn ask<R: Wait>(&self, rt: &R, journal: &Journal, lookup: Lookup) -> bool {
-        let is_left = self.lookups.lock(rt).push(lookup).is_ok();
-        self.wake(journal);
-        is_left
-    }
-
-    /// Wakes all workers.
-    pub fn wake(&self, journal: &Journal) {
-        for mailbox in &self.workers {
-            mailbox.wake(journal);
-        }
-    }
-
-    /// The name that waits longest, if one does.
+impl Names {
+    /// The name that waits longest. Where none waits, one is waited for.
     fn next<R: Wait>(&self, rt: &R) -> Option<Lookup> {
-        let mut held = self.lookups.lock(rt);
+        let waiting = self.waiting.lock(rt);
+        let mut held = self
+            .come
+            .wait_while(rt, waiting, |waiting| waiting.is_empty());
         if held.is_empty() {
             None
         } else {
             Some(held.remove(0))
         }
     }
+
+    /// Looks a name up, and leaves its address.
+    fn look_up<R: Wait + Net>(&self, rt: &R, lookup: Lookup) {
+        let Lookup {
+            worker,
+            source,
+            dial,
+            name,
+        } = lookup;
+        let found = Found {
+            worker,
+            source,
+            dial,
+            address: address_of(rt, name.as_str()),
+        };
+        if self.found.lock(rt).push(found).is_err() {
+            self.lost.fetch_add(1, Ordering::SeqCst);
+        }
+    }
 }
 
-/// A worker that looks up names (own rule), one in each turn, and reports each address to the worker that asked.
+/// The names that wait to be looked up, by all sources (own rule). Four are looked up at a time, so that a name that no server answers keeps
+/// no other one waiting.
 #[derive(Drop)]
-pub struct ResolverWorker<'a, R: Wait + Net + Clock> {
+pub struct Resolver {
+    names: Arc<Names>,
+    mailbox: Option<Mailbox<()>>,
+    // How many names were asked for and not reported.
+    under_way: AtomicUsize,
+}
+
+impl Resolver {
+    /// No name waits. Its worker is woken by this mailbox; without a worker no address is reported.
+    ///
+    /// # Errors
+    ///
+    /// There is no memory.
+    pub fn new(alloc: Global, mailbox: Option<Mailbox<()>>) -> Result<Resolver, AllocError> {
+        let names = Names {
+            waiting: Mutex::new(Vec::new(alloc)),
+            come: Condvar::new(),
+            found: Mutex::new(Vec::new(alloc)),
+            lost: AtomicUsize::new(0),
+        };
+        Ok(Resolver {
+            names: Arc::new(alloc, names)?,
+            mailbox,
+            under_way: AtomicUsize::new(0),
+        })
+    }
+
+    /// Starts the threads that look names up. They end with the program.
+    ///
+    /// # Errors
+    ///
+    /// There is no memory, or a thread can't be started.
+    pub fn start<R>(&self, rt: &R) -> Result<(), AllocError>
+    where
+        R: Wait + Net<Listener = TcpListener, Stream = TcpStream> + Threads + Copy + Send + 'static,
+    {
+        for _ in 0..LOOKUPS {
+            start_thread(rt, self.names.clone()?)?;
+        }
+        Ok(())
+    }
+
+    /// Has a name looked up, and reports whether there was memory for it.
+    pub(crate) fn ask<R: Wait>(&self, rt: &R, journal: &Journal, lookup: Lookup) -> bool {
+        let is_left = self.names.waiting.lock(rt).push(lookup).is_ok();
+        if is_left {
+            self.under_way.fetch_add(1, Ordering::SeqCst);
+            self.names.come.notify_one();
+            self.wake(journal);
+        }
+        is_left
+    }
+
+    /// Wakes its worker.
+    pub fn wake(&self, journal: &Journal) {
+        if let Some(mailbox) = &self.mailbox {
+            mailbox.wake(journal);
+        }
+    }
+
+    /// The names that were looked up and not reported. Where there was no memory for one, that is noted.
+    fn take_found<R: Wait>(&self, rt: &R, alloc: Global, journal: &Journal) -> Vec<Found> {
+        let lost = self.names.lost.swap(0, Ordering::SeqCst);
+        for _ in 0..lost {
+            journal.note(Notice::MailFault);
+        }
+        let mut held = self.names.found.lock(rt);
+        let found = mem::replace(&mut *held, Vec::new(alloc));
+        drop(held);
+        self.under_way
+            .fetch_sub(found.len().saturating_add(lost), Ordering::SeqCst);
+        found
+    }
+}
+
+/// Starts a thread that looks these names up, one after another.
+fn start_thread<R>(rt: &R, names: Arc<Names>) -> Result<(), AllocError>
+where
+    R: Wait + Net<Listener = TcpListener, Stream = TcpStream> + Threads + Copy + Send + 'static,
+{
+    let own = *rt;
+    // Its handle is dropped, so that nobody waits for it.
+    let _left = thread::spawn(rt, move || {
+        for _ in 0..u64::MAX {
+            if let Some(lookup) = names.next(&own) {
+                names.look_up(&own, lookup);
+            }
+        }
+    })?;
+    Ok(())
+}
+
+/// A worker that reports the addresses of names that were looked up to the workers that asked (own rule).
+#[derive(Drop)]
+pub struct ResolverWorker<'a, R: Wait + Clock> {
     rt: &'a R,
     alloc: Global,
     waiting: Waiting,
-    number: usize,
     resolver: &'a Resolver,
     sources: &'a [Mailbox<SourceOrder>],
     journal: &'a Journal,
 }
 
-impl<'a, R: Wait + Net + Clock> ResolverWorker<'a, R> {
-    /// The worker of this number among those of the resolver, which reports to these workers.
+impl<'a, R: Wait + Clock> ResolverWorker<'a, R> {
+    /// The worker of this resolver, which waits by this and reports to these workers.
     pub fn new(
         rt: &'a R,
         alloc: Global,
         waiting: Waiting,
-        number: usize,
         resolver: &'a Resolver,
         sources: &'a [Mailbox<SourceOrder>],
         journal: &'a Journal,
@@ -93,25 +209,20 @@ impl<'a, R: Wait + Net + Clock> ResolverWorker<'a, R> {
             rt,
             alloc,
             waiting,
-            number,
             resolver,
             sources,
             journal,
         }
     }
 
-    /// Looks up the name that waits longest, and tells whether one did.
-    fn look_up(&mut self) -> bool {
-        let Some(lookup) = self.resolver.next(self.rt) else {
-            return false;
-        };
-        let Lookup {
+    /// Reports an address to the worker that asked for it.
+    fn report(&self, found: Found) {
+        let Found {
             worker,
             source,
             dial,
-            name,
-        } = lookup;
-        let address = address_of(self.rt, name.as_str());
+            address,
+        } = found;
         if let Some(mailbox) = self.sources.get(worker) {
             let found = SourceOrder::Found {
                 source,
@@ -120,7 +231,16 @@ impl<'a, R: Wait + Net + Clock> ResolverWorker<'a, R> {
             };
             mailbox.send(self.rt, self.journal, found);
         }
-        true
+    }
+
+    /// How long a turn waits at most: a short time while names are looked up.
+    fn patience(&self) -> Duration {
+        let most = if self.resolver.under_way.load(Ordering::SeqCst) == 0 {
+            PATIENCE_MS
+        } else {
+            LOOK_MS
+        };
+        Duration::from_millis(most)
     }
 }
 
@@ -136,19 +256,16 @@ fn address_of<R: Net>(rt: &R, name: &str) -> Option<SocketAddr> {
     first
 }
 
-impl<R: Wait + Net + Clock> Work for ResolverWorker<'_, R> {
+impl<R: Wait + Clock> Work for ResolverWorker<'_, R> {
     fn turn(&mut self) -> bool {
-        self.waiting
-            .wait(self.rt, self.journal, Duration::from_millis(PATIENCE_MS));
-        let own = self.resolver.workers.get(self.number);
-        if let Some(mailbox) = own {
-            mailbox.take(self.rt, self.alloc);
+        let most = self.patience();
+        self.waiting.wait(self.rt, self.journal, most);
+        // A wake reports that a name was asked for, or that all workers are to end.
+        if let Some(mailbox) = &self.resolver.mailbox {
+            drop(mailbox.take(self.rt, self.alloc));
         }
-        if self.look_up() {
-            // The next name is looked up in the next turn, unless all workers are to end.
-            if let Some(mailbox) = own {
-                mailbox.wake(self.journal);
-            }
+        for found in self.resolver.take_found(self.rt, self.alloc, self.journal) {
+            self.report(found);
         }
         true
     }

@@ -8,14 +8,13 @@ ghost use Rattle.pg_ingest.specs.Linking.{unfed};
 ghost use Rattle.pg_ingest.specs.Runs.{wires};
 ghost use Rattle.pg_ingest.specs.Served.{IsCall};
 ghost use Rattle.pg_service.specs.Lines.{Turned, guarding, hearing, settled, turn_after, unlinked, with_plan};
-ghost use Rattle.pg_service.specs.Plans.{asked, begun, called, due_by, ended, made, received, renewed, rested, sought};
+ghost use Rattle.pg_limits.specs.Plans.{asked, begun, called, due_by, ended, made, received, renewed, rested, sought};
 ghost use Rattle.pg_service.specs.Posts.{passes};
 
-use crate::plan::{CallPlan, Due};
 use crate::watched::{Guarding, Guards, Seen, Watched};
 use pg_gateway::Gate;
 use pg_ingest::{End, Link, run_link};
-use pg_limits::Budget;
+use pg_limits::{Budget, CallPlan, Due};
 use pg_wire::{PmuId, Refusal};
 use std::alloc::Global;
 use std::io::{Read, Write};

@@ -4,14 +4,9 @@ ghost use Rattle.std.specs.Prelude.{◌≡◌, IfSome, Some, option_map, slice_g
 
 use crate::agenda::Agenda;
 use crate::board::{Board, Reach, SourceReport};
-use crate::change::ConfigChange;
-use crate::clocks::Clocks;
-use crate::counted::StopsShort;
 use crate::counted_announcements::CountedAnnouncements;
-use crate::journal::{Detail, Entry, Journal, MOST_PMUS, Notice, Whom};
 use crate::mail::{Mailbox, PortOrder, SourceOrder};
 use crate::pace::Pace;
-use crate::plan::{Due, Phase};
 use crate::resolver::{Lookup, Resolver};
 use crate::source::{SourceLine, Turn};
 use crate::waiting::{Waiting, sooner};
@@ -21,7 +16,8 @@ use mio::{Interest, Poll, Token};
 use pg_audit::PmuStats;
 use pg_config::SourceConfig;
 use pg_gateway::Gate;
-use pg_limits::{Budget, Portion, reference};
+use pg_limits::{Budget, Clocks, Due, Phase, Portion, StopsShort, reference};
+use pg_log::{ConfigChange, Detail, Entry, Journal, MOST_PMUS, Notice, Whom};
 use pg_shared::{Named, SharedGate, Work};
 use pg_wire::{PmuId, Refusal};
 use std::alloc::{AllocError, Global};
@@ -701,7 +697,7 @@ impl Source {
     }
 
     /// Tells what was met while it was served.
-    fn tell_seen<R: Wait, G: Gate>(
+    fn tell_seen<R: Wait + Clock, G: Gate>(
         &mut self,
         rt: &R,
         gate: &mut Watched<G>,
@@ -722,7 +718,12 @@ impl Source {
     }
 
     /// Tells of a configuration that was announced, if it is the first one of its connection or another than the last.
-    fn tell_config<R: Wait>(&mut self, rt: &R, config: Arc<SourceConfig>, journal: &Journal) {
+    fn tell_config<R: Wait + Clock>(
+        &mut self,
+        rt: &R,
+        config: Arc<SourceConfig>,
+        journal: &Journal,
+    ) {
         let change = match &self.config {
             Some(last) => Some(ConfigChange::between(last, &config)),
             None => None,
@@ -744,7 +745,7 @@ impl Source {
     }
 
     /// Tells for which reasons its frames were ignored since that was told last.
-    fn tell_ignored<R: Wait>(&mut self, rt: &R, journal: &Journal) {
+    fn tell_ignored<R: Wait + Clock>(&mut self, rt: &R, journal: &Journal) {
         let counted = *self.line.link().stats();
         for reason in REASONS {
             let at = usize::from(reason.number());
@@ -782,7 +783,7 @@ impl Source {
         let (turn, seen) = self
             .line
             .serve(&mut budget, &mut writer, gate, now, clock, reference);
-        if budget.reader.reader.has_read() {
+        if budget.reader.reader.has_read {
             self.line.received(now);
         }
         if seen.size > 0 {
@@ -791,7 +792,7 @@ impl Source {
             self.size = SHORTEST;
         }
         match turn {
-            Turn::More if budget.reader.reader.has_stopped() => Some((Turn::Waits, seen)),
+            Turn::More if budget.reader.reader.has_stopped => Some((Turn::Waits, seen)),
             Turn::Ended(_) => {
                 self.stream = None;
                 Some((turn, seen))

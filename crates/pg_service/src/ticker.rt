@@ -2,10 +2,10 @@
 
 ghost use Rattle.std.specs.Prelude.{◌≡◌};
 
-use crate::journal::Notice;
 use crate::sources::Neighbours;
 use crate::watched::Watched;
 use pg_gateway::{Event, Gate};
+use pg_log::Notice;
 use pg_shared::{Named, SharedGate, Work};
 use std::marker::Model;
 use std::rt::Clock;

@@ -1,8 +1,8 @@
 //! Which sockets are ready.
 
-use crate::journal::{Journal, Notice};
 use crate::mail::WAKE;
 use mio::{Events, Poll, Token};
+use pg_log::{Journal, Notice};
 use std::alloc::Global;
 use std::io::ErrorKind;
 use std::net::Net;

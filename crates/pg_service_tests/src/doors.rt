@@ -1,14 +1,13 @@
-//! Subscribers over memory: who may connect, who is served what, and who is hung up when.
+//! Subscribers over memory, with a clock that the test moves: which connection takes another's place, and which is hung up when.
 use crate::asserts::same;
 use crate::frames::{
-    COMMANDS_101, CONFIG_7, DATA_7, HANDED_101, add_ring, after, data_of, done, gateway, source,
-    subscriber,
+    COMMANDS_101, CONFIG_7, DATA_7, add_ring, after, data_of, gateway, source, subscriber,
 };
 use pg_fakes::{FakeReader, FakeWriter};
-use pg_gateway::{Event, Gate, Gateway};
-use pg_ingest::{End, Link, run_link};
-use pg_limits::{Allow, Budget, Network, OnChange};
-use pg_service::{Counted, Door, DoorRules, Gone, Knock, Overdue, Stay, Watched};
+use pg_gateway::{Gate, Gateway};
+use pg_ingest::{Link, run_link};
+use pg_limits::{Allow, Budget, Counted, OnChange, Overdue};
+use pg_service::{Door, DoorRules, Knock, Stay, Watched};
 use pg_wire::Refusal;
 use std::alloc::Global;
 use std::io::ErrorKind;
@@ -74,116 +73,28 @@ fn enter(
     same(rt, knock, Knock::Welcome { replaced: false });
 }
 
-/// A host that `allow` does not name is turned away before anything is posted: the subscriber can connect after it.
+/// With `takeover` a connection takes the place of one that stands for 5 seconds, and no sooner; then its own 5 seconds begin.
 #[test]
-fn foreign_host(rt: HostRuntime) {
+fn connections_that_replace_others(rt: HostRuntime) {
     let alloc = rt.alloc();
     let now = Instant::now(&rt).expect(&rt, "a clock");
     let mut gate = Watched::new(gateway(&rt, alloc));
-    let mut networks = Vec::new(alloc);
-    let network = Network::new(Ipv4Addr::new(10, 0, 0, 0), 29);
-    networks.push(network).expect(&rt, "memory");
-    let allow = Allow {
-        networks: Some(networks),
-    };
-    let mut door = Door::new(
-        subscriber(&rt, 20),
-        DoorRules {
-            allow,
-            ..rules(true)
-        },
-    );
-    let foreign = door.knock(alloc, &mut gate, Ipv4Addr::new(10, 0, 0, 8), now);
-    same(&rt, foreign, Knock::Foreign);
-    assert!(rt; door.guest().is_none());
+    let mut door = Door::new(subscriber(&rt, 20), rules(true));
     enter(&rt, alloc, &mut door, &mut gate, now);
-    // Nor does it take the place of who has connected.
-    let foreign = door.knock(alloc, &mut gate, Ipv4Addr::new(10, 0, 0, 8), now);
-    same(&rt, foreign, Knock::Foreign);
-    assert!(rt; door.guest().is_some());
-}
-
-/// While one connection stands another is refused (34); with `takeover` it takes its place, once that stands for 5 seconds. A door is its own subscriber's.
-#[test]
-fn one_connection(rt: HostRuntime) {
-    let alloc = rt.alloc();
-    let now = Instant::now(&rt).expect(&rt, "a clock");
-    let mut gate = Watched::new(gateway(&rt, alloc));
-    let mut first = Door::new(subscriber(&rt, 1), rules(false));
-    let mut second = Door::new(subscriber(&rt, 20), rules(true));
-    enter(&rt, alloc, &mut first, &mut gate, now);
-    enter(&rt, alloc, &mut second, &mut gate, now);
     let busy = Knock::Refused {
         refusal: Refusal::Busy,
         replaced: false,
     };
-    same(&rt, first.knock(alloc, &mut gate, host(), now), busy);
-    assert!(rt; first.guest().is_some());
-    // A connection stands for 5 seconds before another takes its place.
-    let early = after(&rt, now, 4_999);
-    same(&rt, second.knock(alloc, &mut gate, host(), early), busy);
-    let again = second.knock(alloc, &mut gate, host(), after(&rt, now, 5_000));
-    same(&rt, again, Knock::Welcome { replaced: true });
-    let early = after(&rt, now, 9_999);
-    same(&rt, second.knock(alloc, &mut gate, host(), early), busy);
-    assert!(rt; first.hang_up(&mut gate));
-    assert!(rt; !first.hang_up(&mut gate));
-    enter(&rt, alloc, &mut first, &mut gate, now);
-}
-
-/// Where the subscriber was dropped its port refuses (26) until it is added again.
-#[test]
-fn dropped_subscriber(rt: HostRuntime) {
-    let alloc = rt.alloc();
-    let now = Instant::now(&rt).expect(&rt, "a clock");
-    let mut gate = Watched::new(gateway(&rt, alloc));
-    let mut door = Door::new(subscriber(&rt, 20), rules(false));
-    enter(&rt, alloc, &mut door, &mut gate, now);
-    done(&rt, &mut gate, Event::DropSub(subscriber(&rt, 20)));
-    assert!(rt; door.hang_up(&mut gate));
-    let refused = Knock::Refused {
-        refusal: Refusal::NoSuchSub,
-        replaced: false,
-    };
-    same(&rt, door.knock(alloc, &mut gate, host(), now), refused);
-    crate::frames::add_sub(&rt, alloc, &mut gate, 20, 2000);
-    enter(&rt, alloc, &mut door, &mut gate, now);
-}
-
-/// Commands are answered, and frames handed out, to the door's own subscriber alone.
-#[test]
-fn own_stream(rt: HostRuntime) {
-    let alloc = rt.alloc();
-    let now = Instant::now(&rt).expect(&rt, "a clock");
-    let mut gate = Watched::new(gateway(&rt, alloc));
-    let mut link = Link::new(alloc, source(&rt, 7)).expect(&rt, "memory");
-    let mut to = writer(alloc, 0);
-    run_link(&mut link, &mut reader(CONFIG_7, 1), &mut to, &mut gate, 10);
-    let mut first = Door::new(subscriber(&rt, 1), rules(false));
-    let mut second = Door::new(subscriber(&rt, 20), rules(false));
-    enter(&rt, alloc, &mut first, &mut gate, now);
-    enter(&rt, alloc, &mut second, &mut gate, now);
-    let mut out = writer(alloc, 0);
-    let mut other = writer(alloc, 0);
-    // Stream 101 is no stream of subscriber 20.
-    let stay = second.serve(&mut reader(COMMANDS_101, 1), &mut other, &mut gate, now);
-    same(&rt, stay, Stay::More);
-    let stay = first.serve(&mut reader(COMMANDS_101, 1), &mut out, &mut gate, now);
-    same(&rt, stay, Stay::More);
-    run_link(&mut link, &mut reader(DATA_7, 1), &mut to, &mut gate, 10);
-    same(&rt, first.hand_out(&mut out, &mut gate, now), Stay::Waits);
-    same(
-        &rt,
-        second.hand_out(&mut other, &mut gate, now),
-        Stay::Waits,
-    );
-    same(&rt, out.inner.taken.as_slice(), HANDED_101);
-    assert!(rt; other.inner.taken.is_empty());
-    // The end of its bytes is the end of its connection, and of no other.
-    let stay = first.serve(&mut reader(b"", 16), &mut out, &mut gate, now);
-    same(&rt, stay, Stay::Gone(Gone::Ended(End::Closed)));
-    assert!(rt; first.guest().is_none() && second.guest().is_some());
-    enter(&rt, alloc, &mut first, &mut gate, now);
+    let replaces = Knock::Welcome { replaced: true };
+    for (millis, wanted) in [
+        (4_999, busy),
+        (5_000, replaces),
+        (9_999, busy),
+        (10_000, replaces),
+    ] {
+        let at = after(&rt, now, millis);
+        same(&rt, door.knock(alloc, &mut gate, host(), at), wanted);
+    }
 }
 
 /// Where bytes wait and its socket takes none for `stall` seconds, it is hung up; each byte that is taken begins them anew.

@@ -19,11 +19,6 @@ pub(crate) const DATA_7: &[u8] =
 pub(crate) const COMMANDS_101: &[u8] = b"\xAA\x42\0\x12\0\x65\0\0\0\x64\0\0\0\0\0\x05\xCB\xF9\
     \xAA\x42\0\x12\0\x65\0\0\0\x64\0\0\0\0\0\x02\xBB\x1E";
 
-/// Stream 101's CFG-2 with count 1, and its data frame.
-pub(crate) const HANDED_101: &[u8] = b"\xAA\x32\0\x4A\0\x65\0\0\0\0\x0F\0\0\0\0\x0F\x42\x40\0\x01\
-    PMU 7           \0\x07\0\0\0\x01\0\0\0\0VA              \0\0\0\x01\0\0\0\x01\0\x1E\x75\xAF\
-    \xAA\x02\0\x1A\0\x65\0\0\0\x64\0\0\x82\x35\0\0\x10\0\x20\0\0\0\0\0\x72\x76";
-
 pub(crate) fn subscriber(rt: &impl Abort, number: u16) -> SubId {
     SubId::new(number).expect(rt, "a number")
 }

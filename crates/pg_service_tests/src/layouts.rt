@@ -4,11 +4,8 @@ use crate::frames::{CONFIG_7, done, gateway, source, subscriber};
 use pg_fakes::{FakeReader, FakeWriter};
 use pg_gateway::Event;
 use pg_ingest::{Link, run_link};
-use pg_limits::OnChange;
-use pg_service::{
-    CountedAnnouncements, HeldWriter, KnownLayouts, LayoutChanges, STREAMS, ServedOnce, Switches,
-    Verdict,
-};
+use pg_limits::{HeldWriter, LayoutChanges, OnChange};
+use pg_service::{CountedAnnouncements, KnownLayouts, STREAMS, ServedOnce, Switches, Verdict};
 use pg_session::{Layouts, StreamStanding};
 use pg_wire::StreamId;
 use std::io::{ErrorKind, Write};
@@ -349,13 +346,13 @@ fn bytes_are_held(rt: HostRuntime) {
     let mut writer = HeldWriter::new(Vec::new(alloc), &changes, settled, 3);
     same(&rt, writer.write(b"abcde").ok(), Some(3));
     same(&rt, writer.write(b"de").ok(), Some(2));
-    same(&rt, writer.is_holding(), false);
+    same(&rt, writer.is_holding, false);
     changes.begin();
     let held = match writer.write(b"f") {
         Ok(_) => false,
         Err(error) => error.kind() == ErrorKind::WouldBlock,
     };
-    same(&rt, (held, writer.is_holding()), (true, true));
+    same(&rt, (held, writer.is_holding), (true, true));
     let mut shut = HeldWriter::new(Vec::new(alloc), &changes, None, 1);
     same(&rt, shut.write(b"fg").ok(), Some(1));
     same(&rt, shut.write(b"g").ok(), None);
@@ -421,7 +418,7 @@ fn held_behind_a_done_change(rt: HostRuntime) {
     changes.begin();
     changes.end();
     same(&rt, writer.write(b"b").ok(), None);
-    same(&rt, writer.is_holding(), true);
+    same(&rt, writer.is_holding, true);
 }
 
 /// An announcement is a change; a measurement, an edit and a command are none here.

@@ -15,8 +15,6 @@ mod logging;
 #[cfg(test)]
 mod patience;
 #[cfg(test)]
-mod plans;
-#[cfg(test)]
 mod registering;
 #[cfg(test)]
 mod setups;

@@ -2,7 +2,7 @@
 use crate::asserts::same;
 use crate::frames::{key, source, subscriber};
 use pg_ingest::End;
-use pg_service::{Asked, ConfigChange, Detail, Digest, Entry, Journal, Notice, Whom};
+use pg_log::{Asked, ConfigChange, Detail, Digest, Entry, Journal, Notice, Whom};
 use pg_wire::Refusal;
 use std::alloc::Global;
 use std::io::ErrorKind;
@@ -124,11 +124,11 @@ fn reasons_are_told_apart(rt: HostRuntime) {
 #[test]
 fn too_many_kinds(rt: HostRuntime) {
     let mut digest = Digest::new(rt.alloc());
-    for number in 1..1_025 {
+    for number in 1..4_097 {
         let entry = of_subscriber(&rt, number, Notice::Connected, Detail::Nothing);
         same(&rt, times(digest.met(entry, 0)), 1);
     }
-    let more = || of_subscriber(&rt, 2_000, Notice::Connected, Detail::Nothing);
+    let more = || of_subscriber(&rt, 5_000, Notice::Connected, Detail::Nothing);
     assert!(rt; digest.met(more(), 0).is_none());
     assert!(rt; digest.met(more(), 500).is_none());
     assert!(rt; is_untold(digest.due(600), 2));
@@ -316,4 +316,36 @@ fn lines_of_clocks_and_changes(rt: HostRuntime) {
         of_subscriber(&rt, 20, Notice::ConfigSent, Detail::OfStream(2000)),
         "subscriber 20: stream 2000: its blocks changed; CFG-2 sent unasked",
     );
+}
+
+/// What is said of connections of the control socket and the page that found no place, or lost theirs.
+#[test]
+fn lines_of_places(rt: HostRuntime) {
+    let alloc = rt.alloc();
+    let rows = [
+        (
+            Notice::SilentClientClosed,
+            "control socket: a client that was silent for 60 seconds was closed for another",
+        ),
+        (
+            Notice::ClientRefused,
+            "control socket: a client was refused (34 Busy), since 8 are connected",
+        ),
+        (
+            Notice::IdlePageClosed,
+            "page: an idle connection was closed for another",
+        ),
+        (
+            Notice::PageBusy,
+            "page: a connection was answered 503, since 16 are open",
+        ),
+    ];
+    for (notice, expected) in rows {
+        let mut entry = Entry::new(notice, Whom::Nobody, Detail::Nothing);
+        same(&rt, line(&rt, alloc, &entry).as_str(), expected);
+        same(&rt, notice.level().as_str(), "WARN");
+        entry.times = 3;
+        let told = line(&rt, alloc, &entry);
+        assert!(rt; told.as_str().ends_with(" (3 times)"));
+    }
 }

@@ -1,8 +1,8 @@
 //! How long a subscriber is waited for that acknowledges nothing.
 use crate::asserts::same;
 use crate::frames::{after, gateway, subscriber};
-use pg_limits::{Allow, OnChange};
-use pg_service::{Door, DoorRules, Knock, Overdue, Patience, Watched};
+use pg_limits::{Allow, OnChange, Overdue, Patience};
+use pg_service::{Door, DoorRules, Knock, Watched};
 use std::net::Ipv4Addr;
 use std::process::Abort;
 use std::test::*;

@@ -1,16 +1,16 @@
-//! Sources over memory: budgets, silence, the clock's guard, and whose bytes are whose.
+//! Sources over memory: budgets of reads, and the guards of the clock.
 use crate::asserts::same;
-use crate::frames::{CONFIG_7, DATA_7, after, data_at, gateway, source};
+use crate::frames::{CONFIG_7, DATA_7, data_at, source};
 use pg_fakes::{FakeGate, FakeReader, FakeWriter};
 use pg_gateway::{Event, Gate, Reply};
 use pg_ingest::{End, Link, LinkEvent};
-use pg_limits::{AheadGuard, Budget, ClockGuard, Stamp};
-use pg_service::{Clocks, Due, Guarding, Guards, Seen, SourceLine, StopsShort, Turn, Watched};
+use pg_limits::{AheadGuard, Budget, ClockGuard, Clocks, Stamp, StopsShort};
+use pg_service::{Guarding, Guards, Seen, SourceLine, Turn, Watched};
 use std::alloc::Global;
 use std::io::{ErrorKind, Read};
 use std::process::Abort;
 use std::test::*;
-use std::time::{Duration, Instant};
+use std::time::Instant;
 
 /// Commands 5 and 2 to source 7.
 const ASKED_7: &[u8] = b"\xAA\x42\0\x12\0\x07\0\0\0\0\x0F\0\0\0\0\x05\x32\x3A\
@@ -90,149 +90,6 @@ fn budget_of_reads(rt: HostRuntime) {
     same(&rt, turn, Turn::Ended(End::Closed));
     same(&rt, out.taken.as_slice(), ASKED_7);
     same(&rt, gate.into_inner().calls.len(), 101);
-}
-
-/// A source that gives no event is given up by its silence, and its link starts anew; an event keeps it.
-#[test]
-fn silent_source(rt: HostRuntime) {
-    let alloc = rt.alloc();
-    let start = Instant::now(&rt).expect(&rt, "a clock");
-    let silence = Some(Duration::from_secs(10));
-    let mut line = SourceLine::new(alloc, source(&rt, 7), silence, Guards::none(), start).expect(
-        &rt, "memory",
-    );
-    let mut gate = Watched::new(fake_gate(alloc));
-    let mut out = writer(alloc);
-    line.called(start);
-    line.made(start);
-    // A CFG-2 with a wrong CHK is no event.
-    let mut wrong = stream_of(&rt, alloc, 0);
-    if let Some(last) = wrong.last_mut() {
-        *last ^= 1;
-    }
-    let mut budget = reader(wrong.as_slice(), 4096, 1);
-    let at = after(&rt, start, 5_000);
-    let (turn, seen) = line.serve(&mut budget, &mut out, &mut gate, at, 0, 0);
-    assert!(rt; turn == Turn::More && seen.events == 0);
-    same(&rt, line.due(after(&rt, start, 10_000)), Due::Silent);
-    let good = stream_of(&rt, alloc, 1);
-    let mut budget = reader(good.as_slice(), 4096, 1);
-    let at = after(&rt, start, 9_000);
-    let (turn, seen) = line.serve(&mut budget, &mut out, &mut gate, at, 0, 0);
-    assert!(rt; turn == Turn::More && seen.events == 2);
-    same(&rt, line.due(after(&rt, start, 10_000)), Due::Nothing);
-    same(&rt, line.due(after(&rt, start, 19_000)), Due::Silent);
-    line.ended(after(&rt, start, 19_000));
-    same(&rt, line.due(after(&rt, start, 20_000)), Due::Call);
-    // The link asks for CFG-2 again, and takes no data before it.
-    line.called(start);
-    line.made(start);
-    out.taken.clear();
-    let mut budget = reader(DATA_7, 4096, 1);
-    let (_, seen) = line.serve(&mut budget, &mut out, &mut gate, start, 0, 0);
-    same(&rt, seen.events, 0);
-    same(&rt, out.taken.as_slice(), &ASKED_7[..18]);
-}
-
-/// A source that sends no data is asked again over its connection: its link owes commands 5 and 2 once more, and forgets half a frame.
-#[test]
-fn source_asked_again(rt: HostRuntime) {
-    let alloc = rt.alloc();
-    let start = Instant::now(&rt).expect(&rt, "a clock");
-    let silence = Some(Duration::from_secs(10));
-    let mut line = SourceLine::new(alloc, source(&rt, 7), silence, Guards::none(), start).expect(
-        &rt, "memory",
-    );
-    let mut gate = Watched::new(fake_gate(alloc));
-    let mut out = writer(alloc);
-    line.called(start);
-    line.made(start);
-    // Command 2 is lost on the way, and a data frame is cut.
-    let mut bytes = stream_of(&rt, alloc, 0);
-    bytes.extend_from_slice(&DATA_7[..10]).expect(&rt, "memory");
-    let mut budget = reader(bytes.as_slice(), 4096, 1);
-    line.serve(&mut budget, &mut out, &mut gate, start, 0, 0);
-    line.received(start);
-    same(&rt, out.taken.as_slice(), ASKED_7);
-    same(&rt, line.due(after(&rt, start, 2_999)), Due::Nothing);
-    same(&rt, line.due(after(&rt, start, 3_000)), Due::Ask);
-    line.ask_again();
-    out.taken.clear();
-    let good = stream_of(&rt, alloc, 1);
-    let mut budget = reader(good.as_slice(), 4096, 1);
-    let (turn, seen) = line.serve(&mut budget, &mut out, &mut gate, start, 0, 0);
-    assert!(rt; turn == Turn::More && seen.events == 2 && seen.measured == 1);
-    same(&rt, out.taken.as_slice(), ASKED_7);
-}
-
-/// A connection that ends is ended for its link too, whatever was held of a frame; the pause grows without an event.
-#[test]
-fn ended_source(rt: HostRuntime) {
-    let alloc = rt.alloc();
-    let start = Instant::now(&rt).expect(&rt, "a clock");
-    let mut line = SourceLine::new(alloc, source(&rt, 7), None, Guards::none(), start).expect(
-        &rt, "memory",
-    );
-    let mut gate = Watched::new(fake_gate(alloc));
-    let mut out = writer(alloc);
-    for pause in [1_000u64, 2_000] {
-        line.called(start);
-        line.made(start);
-        let mut budget = reader(&CONFIG_7[..40], 4096, 16);
-        let (turn, _) = line.serve(&mut budget, &mut out, &mut gate, start, 0, 0);
-        same(&rt, turn, Turn::Ended(End::Closed));
-        same(&rt, line.due(after(&rt, start, pause - 1)), Due::Nothing);
-        same(&rt, line.due(after(&rt, start, pause)), Due::Call);
-    }
-    line.called(start);
-    line.made(start);
-    let mut budget = reader(b"\xAB", 4096, 16);
-    let (turn, _) = line.serve(&mut budget, &mut out, &mut gate, start, 0, 0);
-    same(&rt, turn, Turn::Ended(End::Fault(2)));
-    assert!(rt; gate.into_inner().calls.is_empty());
-}
-
-/// A measurement whose time is further from the clock than `clock_ms` does not reach the gateway; an announcement does.
-#[test]
-fn guarded_source(rt: HostRuntime) {
-    let alloc = rt.alloc();
-    let now = Instant::now(&rt).expect(&rt, "a clock");
-    // The frame's time is 100.033333 s.
-    let rows: [(u64, u64, usize); 5] = [
-        (100_000, 0, 2),
-        (100_100, 0, 2),
-        (100_134, 1, 1),
-        (99_933, 1, 1),
-        (99_934, 0, 2),
-    ];
-    for (clock, far, posted) in rows {
-        let near = guards(100, 0);
-        let mut line = SourceLine::new(alloc, source(&rt, 7), None, near, now).expect(
-            &rt, "memory",
-        );
-        let mut gate = Watched::new(fake_gate(alloc));
-        let mut out = writer(alloc);
-        line.called(now);
-        line.made(now);
-        let bytes = stream_of(&rt, alloc, 1);
-        let mut budget = reader(bytes.as_slice(), 4096, 1);
-        let (_, seen) = line.serve(&mut budget, &mut out, &mut gate, now, clock, 0);
-        same(&rt, seen.far, far);
-        assert!(rt; seen.events == 2 && seen.measured == 1);
-        let off = seen.far_at.map(|stamp| stamp.ahead_of(clock));
-        same(
-            &rt,
-            off,
-            if far == 1 {
-                Some(100_033 - clock.cast_signed())
-            } else {
-                None
-            },
-        );
-        let inner = gate.into_inner();
-        same(&rt, inner.calls.len(), posted);
-        assert!(rt; matches!(inner.calls.first(), Some(Event::Announce(_))));
-    }
 }
 
 /// Serves source 7's CFG-2 and data frames of these microseconds behind second 100, so guarded: what was seen, and the microseconds of the
@@ -376,25 +233,6 @@ fn refused_as_far_clock(rt: HostRuntime) {
     };
     same(&rt, gate.take_seen().far_at, Some(far));
     same(&rt, gate.into_inner().calls.len(), 2);
-}
-
-/// What a source's events made is told, so that those who serve subscribers are woken.
-#[test]
-fn made_is_told(rt: HostRuntime) {
-    let alloc = rt.alloc();
-    let now = Instant::now(&rt).expect(&rt, "a clock");
-    let mut line = SourceLine::new(alloc, source(&rt, 7), None, Guards::none(), now).expect(
-        &rt, "memory",
-    );
-    let mut gate = Watched::new(gateway(&rt, alloc));
-    let mut out = writer(alloc);
-    line.called(now);
-    line.made(now);
-    let bytes = stream_of(&rt, alloc, 1);
-    let mut budget = reader(bytes.as_slice(), 4096, 1);
-    let (_, seen) = line.serve(&mut budget, &mut out, &mut gate, now, 0, 0);
-    // Both streams are off.
-    assert!(rt; seen.events == 2 && seen.made == 0);
 }
 
 /// Behind a read that was filled another one is made, and behind a short one none, unless the peer sends no more.

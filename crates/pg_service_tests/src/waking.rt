@@ -1,6 +1,7 @@
 //! Wakes of a worker.
 use crate::asserts::same;
-use pg_service::{Journal, Mailbox, PortOrder, Waiting};
+use pg_log::Journal;
+use pg_service::{Mailbox, PortOrder, Waiting};
 use std::test::*;
 use std::time::Duration;
 

@@ -89,8 +89,8 @@ WasChecked private.Hangup = Unit {0}
 WasChecked (private.Command asked) = Unit {0}
 WasChecked (private.Drain buf) = Unit {0}
 
--- What layouts tell of a stream, in each state that can be reached.
-pub record LengthsAreTold : Type 0 where
+-- What is known of the layouts of a stream, in each state that can be reached.
+pub record LengthsAreKnown : Type 0 where
   -- the first length is what a data frame of the stream has by the CFG-1 list
   pub head : (p : Model) (number : ℕ) (s : StreamOf (StreamHistory Piece)) → IsReached p → stream_at p.streams number ≡ Some s
       → slice_index s.layouts.lengths 0 ≡ frame_len p.listed s.definition.members

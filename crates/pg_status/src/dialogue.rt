@@ -20,14 +20,34 @@ const LINES: u32 = 16;
 /// The bytes of one read.
 const PIECE: usize = 1024;
 
-/// Who answers lines.
+/// When a line is answered.
+#[derive(Clone, Copy, Debug, PartialEq, Eq)]
+pub enum LineAnswer {
+    /// Now: its answer stands behind what is owed.
+    Done,
+    /// Later: its answer is asked for by this number.
+    Later(u64),
+}
+
+/// What answers lines.
 pub trait Answer {
-    /// Writes the answer to a line, which stands there without its end, behind what is owed already.
+    /// Writes the answer to a line, which stands there without its end, behind what is owed already; or puts it off.
     ///
     /// # Errors
     ///
     /// There is no memory: the client is closed.
-    fn answer(&mut self, line: &[u8], owed: &mut Vec<u8>) -> io::Result<()>;
+    fn answer(&mut self, line: &[u8], owed: &mut Vec<u8>) -> io::Result<LineAnswer>;
+
+    /// Writes the answer to the line that was put off by this number behind what is owed, if it is there, and reports whether it was. It is there
+    /// once.
+    ///
+    /// # Errors
+    ///
+    /// There is no memory: the client is closed.
+    fn take_answer(&mut self, number: u64, owed: &mut Vec<u8>) -> io::Result<bool>;
+
+    /// The answer to the line that was put off by this number is not asked for any more. What the line asks for is done all the same.
+    fn drop_answer(&mut self, number: u64);
 }
 
 /// What is to be done with a client that was served.
@@ -48,6 +68,8 @@ enum Flow {
     UsedUp,
     /// The line `quit` has come, and waits until all answers before it are sent.
     Held,
+    /// A line was put off, and its answer is not there yet.
+    Awaits,
     Ended,
     Failed,
 }
@@ -55,7 +77,8 @@ enum Flow {
 /// A client that sends lines and is answered in their order (own rule). A line of more than 4,096 bytes is answered as `BadLine`
 /// where it ends. A last line without an end is answered too. The line `end` is answered `end`. The line `quit` is answered once all
 /// answers before it are sent, and is the last: what comes behind it is passed over, and the client is closed. At most 16 lines are
-/// answered in one call. Where more than 1,048,576 bytes of answers wait, the client is closed. It knows neither sockets nor clocks.
+/// answered in one call. Where more than 1,048,576 bytes of answers wait, the client is closed. While the answer to a line that was put off is
+/// not there, nothing more is read and no line behind it is answered. It knows neither sockets nor clocks.
 #[derive(Drop)]
 pub struct Dialogue {
     line: Lines,
@@ -63,8 +86,10 @@ pub struct Dialogue {
     heard: Vec<u8>,
     taken: usize,
     owed: Outbox,
+    // The number of the line that was put off, while its answer is awaited.
+    awaited: Option<u64>,
     is_ended: bool,
-    // When bytes came last, or the client connected.
+    // When bytes or the answer to a line that was put off came last, or the client connected.
     last: Instant,
 }
 
@@ -79,18 +104,47 @@ impl Dialogue {
                 bytes: Vec::new(alloc),
                 sent: 0,
             },
+            awaited: None,
             is_ended: false,
             last: now,
         }
     }
 
-    /// For how long it has sent nothing: since its last bytes were read, or it connected.
+    /// For how long it has sent nothing: since its last bytes were read, the answer to its last line that was put off came, or it connected. For
+    /// no time while it awaits such an answer.
     pub fn silent(&self, now: Instant) -> Duration {
-        now.saturating_duration_since(self.last)
+        if self.is_awaiting() {
+            Duration::ZERO
+        } else {
+            now.saturating_duration_since(self.last)
+        }
     }
 
-    /// Reads what has come, has its lines answered, and sends what goes.
+    /// Whether it awaits the answer to a line that was put off.
+    pub fn is_awaiting(&self) -> bool {
+        self.awaited.is_some()
+    }
+
+    /// Reads what has come, has its lines answered, and sends what goes. Where it awaits the answer to a line that was put off, it asks for that
+    /// first. Once it is gone, that answer is not asked for any more.
     pub fn serve<R: Read, W: Write, A: Answer>(
+        &mut self,
+        reader: &mut R,
+        writer: &mut W,
+        answers: &mut A,
+        now: Instant,
+    ) -> Turned {
+        let turned = self.turn(reader, writer, answers, now);
+        if turned == Turned::Gone {
+            if let Some(number) = self.awaited.take() {
+                answers.drop_answer(number);
+            }
+        }
+        turned
+    }
+
+    /// The same, without the end.
+    fn turn<R: Read, W: Write, A: Answer>(
         &mut self,
         reader: &mut R,
         writer: &mut W,
@@ -105,7 +159,7 @@ impl Dialogue {
         self.owed.compact();
         match sending {
             Sending::Done => match flow {
-                Flow::Blocked => Turned::Waits,
+                Flow::Blocked | Flow::Awaits => Turned::Waits,
                 Flow::UsedUp | Flow::Held => Turned::More,
                 Flow::Ended | Flow::Failed => Turned::Gone,
             },
@@ -117,10 +171,16 @@ impl Dialogue {
 
     /// Reads and answers, so many times and lines at most.
     fn hear<R: Read, A: Answer>(&mut self, reader: &mut R, answers: &mut A, now: Instant) -> Flow {
+        if self.await_answer(answers, now).is_err() {
+            return Flow::Failed;
+        }
         let mut lines = 0u32;
         for _ in 0..TURNS {
             if let Some(flow) = self.take(answers, &mut lines) {
                 return flow;
+            }
+            if self.is_awaiting() {
+                return Flow::Awaits;
             }
             if self.is_ended {
                 return self.finish(answers);
@@ -130,6 +190,18 @@ impl Dialogue {
             }
         }
         Flow::UsedUp
+    }
+
+    /// Asks for the answer to the line that was put off, if one was.
+    fn await_answer<A: Answer>(&mut self, answers: &mut A, now: Instant) -> io::Result<()> {
+        let Some(number) = self.awaited else {
+            return Ok(());
+        };
+        if answers.take_answer(number, &mut self.owed.bytes)? {
+            self.awaited = None;
+            self.last = now;
+        }
+        self.check_owed()
     }
 
     /// Reads once, where all was taken that was read before. None where there is more to do.
@@ -154,9 +226,12 @@ impl Dialogue {
         None
     }
 
-    /// Takes what was read, and has each line answered that ends in it. None where all was taken.
+    /// Takes what was read, and has each line answered that ends in it, up to one that is put off. None where all was taken.
     fn take<A: Answer>(&mut self, answers: &mut A, lines: &mut u32) -> Option<Flow> {
         for _ in 0..PIECE {
+            if self.is_awaiting() {
+                return Some(Flow::Awaits);
+            }
             let Some(byte) = self.heard.as_slice().get(self.taken).copied() else {
                 return None;
             };
@@ -195,12 +270,13 @@ impl Dialogue {
             return Flow::Held;
         }
         match self.end_line(answers) {
+            Ok(()) if self.is_awaiting() => Flow::Awaits,
             Ok(()) => Flow::Ended,
             Err(_) => Flow::Failed,
         }
     }
 
-    /// Has the line answered, and begins the next one.
+    /// Has the line answered or put off, and begins the next one.
     fn end_line<A: Answer>(&mut self, answers: &mut A) -> io::Result<()> {
         let line = without_return(self.line.bytes());
         if self.line.is_long() {
@@ -209,23 +285,38 @@ impl Dialogue {
             writeln!(self.owed.bytes, "refused {number} {name}")?;
         } else {
             match kind_of(line) {
-                LineKind::Other => answers.answer(line, &mut self.owed.bytes)?,
+                LineKind::Other => {
+                    self.awaited = awaited_by(answers.answer(line, &mut self.owed.bytes)?);
+                }
                 LineKind::End => {
                     self.owed.bytes.extend_from_slice(END)?;
                     self.owed.bytes.push(b'\n')?;
                 }
                 LineKind::Quit => {
-                    answers.answer(line, &mut self.owed.bytes)?;
+                    self.awaited = awaited_by(answers.answer(line, &mut self.owed.bytes)?);
                     self.is_ended = true;
                     self.heard.clear();
                 }
             }
         }
         self.line.clear();
+        self.check_owed()
+    }
+
+    /// An error where more bytes of answers wait than may.
+    fn check_owed(&self) -> io::Result<()> {
         if self.owed.left() > OWED_BYTES {
             return Err(io::Error::from(ErrorKind::BrokenPipe));
         }
         Ok(())
+    }
+}
+
+/// The number by which the answer to a line is asked for, if it was put off.
+fn awaited_by(answer: LineAnswer) -> Option<u64> {
+    match answer {
+        LineAnswer::Done => None,
+        LineAnswer::Later(number) => Some(number),
     }
 }
 

@@ -20,7 +20,7 @@ mod status;
 
 pub use asking::{Answered, BUSY, converse};
 pub use contents::contents_of;
-pub use dialogue::{Answer, Dialogue, OWED_BYTES, Turned};
+pub use dialogue::{Answer, Dialogue, LineAnswer, OWED_BYTES, Turned};
 pub use exchange::{Exchange, Step};
 pub use histogram::{BOUNDS, BUCKETS, Histogram};
 pub use history::{Frames, History, Past, SECONDS, Total};

@@ -1,14 +1,15 @@
 //! Who writes lines at the control socket.
 
 use crate::clerk::Clerk;
-use crate::entrance::{ACCEPTED, Entrance};
+use crate::entrance::{ACCEPTED, Entrance, tell};
 use mio::net::{UnixListener, UnixStream};
 use mio::{Interest, Poll, Token};
-use pg_service::{Detail, Entry, Journal, Notice, Whom};
+use pg_log::{Detail, Entry, Journal, Notice, Whom};
 use pg_status::{BUSY, Dialogue, Turned, place_for};
 use std::alloc::Global;
 use std::io;
 use std::io::{ErrorKind, Write};
+use std::rt::Clock;
 use std::sync::Wait;
 use std::time::{Duration, Instant};
 
@@ -85,6 +86,15 @@ impl Desk {
         }
     }
 
+    /// The worker was woken: answers that clients await may be there.
+    pub(crate) fn call_awaiting(&mut self) {
+        for speaker in self.speakers.iter_mut().flatten() {
+            if speaker.dialogue.is_awaiting() {
+                speaker.is_ready = true;
+            }
+        }
+    }
+
     /// How long until there is something to do though no socket is ready, if there is.
     pub(crate) fn left(&self, now: Instant) -> Option<Duration> {
         if self.speakers.iter().flatten().any(|it| it.is_ready) {
@@ -97,7 +107,7 @@ impl Desk {
     }
 
     /// Serves each client that is ready once, and then accepts those that want to connect: so the place of one that has ended is free.
-    pub(crate) fn turn<R: Wait, C: Clerk>(
+    pub(crate) fn turn<R: Wait + Clock, C: Clerk>(
         &mut self,
         rt: &R,
         poll: &Poll,
@@ -118,7 +128,7 @@ impl Desk {
     }
 
     /// Accepts those that want to connect.
-    fn accept<R: Wait>(&mut self, rt: &R, poll: &Poll, journal: &Journal, now: Instant) {
+    fn accept<R: Wait + Clock>(&mut self, rt: &R, poll: &Poll, journal: &Journal, now: Instant) {
         for _ in 0..ACCEPTED {
             let Some(entrance) = &mut self.entrance else {
                 return;
@@ -143,7 +153,7 @@ impl Desk {
 
     /// Lets a connection in. Where all places are taken, the client that has been silent longest, and for 60 seconds at least, is closed
     /// for it; where no client has been, the connection is answered `Busy` and closed.
-    fn admit<R: Wait>(
+    fn admit<R: Wait + Clock>(
         &mut self,
         rt: &R,
         poll: &Poll,
@@ -153,6 +163,7 @@ impl Desk {
     ) {
         let least = Duration::from_secs(SILENT_SECONDS);
         let Some(place) = place_for(&self.silent(now), least) else {
+            tell(rt, journal, Notice::ClientRefused);
             // A new connection has room for a line; one that has none is closed without it.
             let _ = (&stream).write(BUSY);
             return;
@@ -160,11 +171,13 @@ impl Desk {
         let token = Token(self.first.saturating_add(1).saturating_add(place));
         let both = Interest::READABLE | Interest::WRITABLE;
         if poll.registry().register(&mut stream, token, both).is_err() {
-            let entry = Entry::new(Notice::SocketFault, Whom::Nobody, Detail::Nothing);
-            journal.tell(rt, entry);
+            tell(rt, journal, Notice::SocketFault);
             return;
         }
         if let Some(taken) = self.speakers.get_mut(place) {
+            if taken.is_some() {
+                tell(rt, journal, Notice::SilentClientClosed);
+            }
             *taken = Some(Speaker {
                 stream,
                 dialogue: Dialogue::new(self.alloc, now),

@@ -1,5 +1,8 @@
 //! When a listener is asked who wants to connect.
 
+use pg_log::{Detail, Entry, Journal, Notice, Whom};
+use std::rt::Clock;
+use std::sync::Wait;
 use std::time::{Duration, Instant};
 
 /// The connections that one turn accepts at most. The others wait for the next turn.
@@ -7,6 +10,11 @@ pub(crate) const ACCEPTED: u32 = 16;
 
 /// When it is tried again to accept, where the system could not, in milliseconds: it does not name a listener twice for one who waits.
 const RETRY_MS: u64 = 1_000;
+
+/// Leaves for the log what was met with a connection.
+pub(crate) fn tell<R: Wait + Clock>(rt: &R, journal: &Journal, notice: Notice) {
+    journal.tell(rt, Entry::new(notice, Whom::Nobody, Detail::Nothing));
+}
 
 /// A listener, and whether somebody may wait there (own rule).
 #[derive(Drop)]

@@ -1,15 +1,16 @@
 //! Who looks at the page or reads the metrics.
 
-use crate::entrance::{ACCEPTED, Entrance};
+use crate::entrance::{ACCEPTED, Entrance, tell};
 use crate::sight::Sight;
 use mio::net::{TcpListener, TcpStream};
 use mio::{Interest, Poll, Token};
-use pg_service::{Detail, Entry, Journal, Notice, Whom};
+use pg_log::{Detail, Entry, Journal, Notice, Whom};
 use pg_status::{Exchange, Step, place_for};
 use std::alloc::{AllocError, Global};
 use std::io;
 use std::io::ErrorKind;
 use std::net::Shutdown;
+use std::rt::Clock;
 use std::sync::Wait;
 use std::time::{Duration, Instant};
 
@@ -144,7 +145,7 @@ impl Hall {
 
     /// Serves each connection that is ready or overdue once, and then accepts those that want to connect: so what has come of one is
     /// read before it counts as idle, and the place of one that has ended is free.
-    pub(crate) fn turn<R: Wait>(
+    pub(crate) fn turn<R: Wait + Clock>(
         &mut self,
         rt: &R,
         poll: &Poll,
@@ -165,7 +166,7 @@ impl Hall {
     }
 
     /// Accepts those that want to connect.
-    fn accept<R: Wait>(&mut self, rt: &R, poll: &Poll, journal: &Journal, now: Instant) {
+    fn accept<R: Wait + Clock>(&mut self, rt: &R, poll: &Poll, journal: &Journal, now: Instant) {
         for _ in 0..ACCEPTED {
             let Some(entrance) = &mut self.entrance else {
                 return;
@@ -190,7 +191,7 @@ impl Hall {
 
     /// Lets a connection in. Where all places are taken, the connection that has been idle longest, and for a second at least, is closed
     /// for it; where none has been, it is answered 503.
-    fn admit<R: Wait>(
+    fn admit<R: Wait + Clock>(
         &mut self,
         rt: &R,
         poll: &Poll,
@@ -202,14 +203,19 @@ impl Hall {
             // Without memory it is closed.
             return;
         };
+        if place >= SERVED {
+            tell(rt, journal, Notice::PageBusy);
+        }
         let token = Token(self.first.saturating_add(1).saturating_add(place));
         let both = Interest::READABLE | Interest::WRITABLE;
         if poll.registry().register(&mut stream, token, both).is_err() {
-            let entry = Entry::new(Notice::SocketFault, Whom::Nobody, Detail::Nothing);
-            journal.tell(rt, entry);
+            tell(rt, journal, Notice::SocketFault);
             return;
         }
         if let Some(taken) = self.visitors.get_mut(place) {
+            if place < SERVED && taken.is_some() {
+                tell(rt, journal, Notice::IdlePageClosed);
+            }
             *taken = Some(Visitor {
                 stream,
                 exchange,

@@ -5,7 +5,8 @@ use crate::desk::{Desk, SPEAKERS};
 use crate::hall::Hall;
 use crate::sight::Sight;
 use mio::net::{TcpListener, UnixListener};
-use pg_service::{Journal, Mailbox, Notice, Waiting};
+use pg_log::{Journal, Notice};
+use pg_service::{Mailbox, Waiting};
 use pg_shared::Work;
 use std::alloc::Global;
 use std::io;
@@ -136,8 +137,9 @@ impl<R: Wait + Clock + Net, C: Clerk + Drop> Work for Window<'_, R, C> {
         self.waiting.wait(self.rt, self.journal, most);
         self.read_clock();
         if self.waiting.is_woken() {
-            // A wake tells that it may be to stop, which is seen between turns.
+            // It may be to stop, which is seen between turns, or an answer is there that a client awaits.
             drop(self.mailbox.take(self.rt, self.alloc));
+            self.desk.call_awaiting();
         }
         self.call_named();
         let poll = self.waiting.poll();

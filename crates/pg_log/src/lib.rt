@@ -1,0 +1,15 @@
+//! What the service logs: the events with their levels and texts, how many of them wait for the log, and how often alike ones are written. It
+//! knows neither standard error nor clocks. All of it is a rule of this project.
+#![tactic(auto)]
+
+mod asked;
+mod change;
+mod digest;
+mod journal;
+mod words;
+
+pub use asked::Asked;
+pub use change::ConfigChange;
+pub use digest::Digest;
+pub use journal::{Detail, Entry, Journal, MOST_PMUS, Notice, Whom};
+pub use words::system_words;

@@ -1,0 +1,104 @@
+//! The worker that does the reloads that clients of the control socket ask for.
+
+ghost use Rattle.std.specs.Prelude.{◌≡◌};
+
+use crate::reloading::InForce;
+use pg_console::{Console, Reloads, Told};
+use pg_log::Notice;
+use pg_service::{Waiting, Watched};
+use pg_shared::{Named, SharedGate, Work};
+use std::alloc::Global;
+use std::marker::Model;
+use std::mem;
+use std::net::Net;
+use std::rt::Clock;
+use std::sync::Wait;
+use std::time::Duration;
+
+/// How long a turn waits at most, so that the worker does not miss that it is to stop, in milliseconds.
+const PATIENCE_MS: u64 = 1_000;
+
+/// A worker that does the reloads that clients of the control socket ask for (own rule), one in each turn, while the control socket, the page and
+/// the metrics are served.
+#[derive(Drop)]
+pub struct ReloadWorker<'a, R: Wait + Net + Clock, N: Named> {
+    rt: &'a R,
+    gate: Watched<SharedGate<'a, R, N>>,
+    waiting: Waiting,
+    reloads: &'a Reloads,
+    console: Console<'a, Vec<u8>>,
+    in_force: InForce<'a, R>,
+}
+
+impl<'a, R: Wait + Net + Clock, N: Named> Model for ReloadWorker<'a, R, N> {
+    ghost use Rattle.pg_gateway.specs.declared.event.Event.{Event};
+    ghost use Rattle.pg_gateway.specs.declared.event.Reply.{Reply};
+    ghost use Rattle.pg_turn.specs.Known.{Known};
+
+    ghost Value = { Known Event Reply };
+
+    // It is seen as the seat of its gate.
+    ghost view = { λ w. w.gate.gate };
+}
+
+impl<'a, R: Wait + Net + Clock, N: Named> ReloadWorker<'a, R, N> {
+    /// A worker that does these reloads, of a gateway that runs by this setup.
+    pub(crate) fn new(
+        rt: &'a R,
+        alloc: Global,
+        gate: SharedGate<'a, R, N>,
+        waiting: Waiting,
+        reloads: &'a Reloads,
+        told: Told<'a>,
+        in_force: InForce<'a, R>,
+    ) -> ReloadWorker<'a, R, N>
+        ensures seat { result ≡ gate.entry }
+    {
+        ReloadWorker {
+            rt,
+            gate: Watched::new(gate),
+            waiting,
+            reloads,
+            console: Console::new(alloc, Vec::new(alloc), told),
+            in_force,
+        }
+    }
+
+    /// Its gate.
+    pub fn into_gate(self) -> SharedGate<'a, R, N>
+        // With its own seat.
+        ensures seat { result ≡ self.entry }
+    {
+        let ReloadWorker { gate, .. } = self;
+        gate.into_inner()
+    }
+
+    /// Does the reload of this number, and leaves its answer for the worker that serves the control socket.
+    fn reload(&mut self, number: u64) {
+        let told = self.console.told();
+        let done = self
+            .in_force
+            .renew(self.rt, &mut self.console, &mut self.gate);
+        if done.is_err() {
+            told.neighbours.journal.note(Notice::ConsoleFault);
+        }
+        let empty = Vec::new(self.console.alloc());
+        let answer = mem::replace(self.console.out_mut(), empty);
+        self.reloads.answer(self.rt, number, answer);
+        told.wake_window();
+    }
+}
+
+impl<R: Wait + Net + Clock, N: Named> Work for ReloadWorker<'_, R, N> {
+    fn turn(&mut self) -> bool {
+        let journal = self.console.told().neighbours.journal;
+        let most = Duration::from_millis(PATIENCE_MS);
+        self.waiting.wait(self.rt, journal, most);
+        if let Some(number) = self.reloads.next(self.rt, self.console.alloc()) {
+            self.reload(number);
+            // The next one is done in the next turn, unless all workers are to end.
+            self.reloads.wake(journal);
+        }
+        true
+    }
+}

@@ -1,0 +1,50 @@
+//! What the log begins with.
+
+use crate::running::Start;
+use pg_gateway::Edit;
+use pg_operator::Setup;
+use std::fmt;
+
+/// What is served by a setup, in numbers.
+#[derive(Clone, Copy)]
+pub(crate) struct Served<'a> {
+    start: Start<'a>,
+    pmus: usize,
+    sources: usize,
+    subscribers: usize,
+    streams: usize,
+}
+
+impl<'a> Served<'a> {
+    /// What is served by this setup.
+    pub(crate) fn of(start: Start<'a>, setup: &Setup) -> Served<'a> {
+        let mut served = Served {
+            start,
+            pmus: 0,
+            sources: setup.links.len(),
+            subscribers: 0,
+            streams: 0,
+        };
+        for edit in &setup.edits {
+            let count = match edit {
+                Edit::AddPmu(_) => &mut served.pmus,
+                Edit::AddSub(..) => &mut served.subscribers,
+                Edit::Define(..) => &mut served.streams,
+                _ => continue,
+            };
+            *count = count.saturating_add(1);
+        }
+        served
+    }
+}
+
+impl fmt::Display for Served<'_> {
+    fn fmt<W: fmt::Write>(&self, f: &mut fmt::Formatter<W>) -> fmt::Result {
+        let Start { file, version, .. } = self.start;
+        write!(f, "the service starts: pdcgw {version}, setup {file}, ")?;
+        let (pmus, sources) = (self.pmus, self.sources);
+        write!(f, "{pmus} PMUs, {sources} sources that are called, ")?;
+        let (subscribers, streams) = (self.subscribers, self.streams);
+        write!(f, "{subscribers} subscribers, {streams} streams")
+    }
+}

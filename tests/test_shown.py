@@ -1,0 +1,163 @@
+"""The whole texts of `status`, `/metrics` and `/state` of a known state, whose counts all differ. They are written by the rules of docs/OPERATING.md."""
+import json
+import re
+import socket
+import time
+
+from peers import RATE, expect, http, metrics, pmu, same, stream, stream_frame, subscriber, until, with_wrong_check
+
+STATUS = """\
+source 7 {seven} up frames 10 events 7 ignored BadCheck=2 WrongId=1 last N
+source 8 {eight} up frames 2 events 2 ignored - last N
+source 9 {nine} pause N frames 0 events 0 ignored - last -
+source 300 {full} calling frames 0 events 0 ignored - last -
+source 65534 - pause - frames 0 events 0 ignored - last -
+subscriber 1 {port} connected {client} made 9 dropped 3 lost 0 late 6 twice 3 handed 528 queue 0 0
+subscriber 65535 - waiting N made 0 dropped 0 lost 0 late 0 twice 0 handed 0 queue 0 0
+stream 1 101 on members 1/1
+stream 1 102 on members 2/3
+stream 1 103 on members 1/1
+stream 65535 7 off members 0/1
+"""
+ONE, TWO = 'subscriber="1"', 'subscriber="65535"'
+# Name, type and text of each metric, and its value by its labels.
+METRICS = [
+    ("source_up", "gauge", "Whether the source is connected.", {7: 1, 8: 1, 9: 0, 300: 0, 65534: 0}),
+    ("source_pause_seconds", "gauge", "Time until the source is called again, 0 where no pause runs.", {7: 0, 8: 0, 9: "N", 300: 0, 65534: 0}),
+    ("source_frames_total", "counter", "Whole frames that came from the source.", {7: 10, 8: 2, 9: 0, 300: 0, 65534: 0}),
+    ("source_events_total", "counter", "Announcements and measurements that came from the source.", {7: 7, 8: 2, 9: 0, 300: 0, 65534: 0}),
+    ("source_since_event_seconds", "gauge", "Time since the last event of the source.", {7: "N", 8: "N"}),
+    ("source_ignored_total", "counter", "Frames and breaks of the source that were ignored, by reason.",
+     {'source="7",reason="BadCheck"': 2, 'source="7",reason="WrongId"': 1}),
+    ("subscriber_connected", "gauge", "Whether the subscriber is connected.", {ONE: 1, TWO: 0}),
+    ("subscriber_waiting_seconds", "gauge", "Time since the subscriber was connected last, 0 while it is.", {ONE: 0, TWO: "N"}),
+    ("subscriber_made_frames_total", "counter", "Data frames made for the subscriber.", {ONE: 9, TWO: 0}),
+    ("subscriber_dropped_frames_total", "counter", "Data frames dropped, for the subscriber's ring was full.", {ONE: 3, TWO: 0}),
+    ("subscriber_lost_frames_total", "counter", "Data frames not made, for want of memory.", {ONE: 0, TWO: 0}),
+    ("subscriber_late_blocks_total", "counter", "Blocks that came for a slot that had left.", {ONE: 6, TWO: 0}),
+    ("subscriber_twice_blocks_total", "counter", "Blocks that came a second time.", {ONE: 3, TWO: 0}),
+    ("subscriber_handed_bytes_total", "counter", "Bytes handed out to the subscriber.", {ONE: 528, TWO: 0}),
+    ("subscriber_handed_frames_total", "counter", "Data frames handed out to the subscriber.", {ONE: 6, TWO: 0}),
+    ("subscriber_gap_frames_total", "counter", "Data frames that are missing before one that was handed out to the subscriber.", {ONE: 2, TWO: 0}),
+    ("subscriber_queue_frames", "gauge", "Frames that wait for the subscriber.", {ONE: 0, TWO: 0}),
+    ("subscriber_queue_bytes", "gauge", "Bytes that wait for the subscriber.", {ONE: 0, TWO: 0}),
+    ("stream_on", "gauge", "Whether the subscriber has started the stream.",
+     {f'{ONE},stream="101"': 1, f'{ONE},stream="102"': 1, f'{ONE},stream="103"': 1, f'{TWO},stream="7"': 0}),
+    ("stream_effective_members", "gauge", "Members of the stream that its frames carry.",
+     {f'{ONE},stream="101"': 1, f'{ONE},stream="102"': 2, f'{ONE},stream="103"': 1, f'{TWO},stream="7"': 0}),
+    ("stream_members", "gauge", "Members of the stream.",
+     {f'{ONE},stream="101"': 1, f'{ONE},stream="102"': 3, f'{ONE},stream="103"': 1, f'{TWO},stream="7"': 1}),
+]
+# The bounds of the ages in seconds, and how many of the six frames are as old at most: each is more than 2 and less than 5 seconds old.
+AGES = [("0.005000", 0), ("0.010000", 0), ("0.020000", 0), ("0.050000", 0), ("0.100000", 0), ("0.200000", 0), ("0.500000", 0), ("1.000000", 0),
+        ("2.000000", 0), ("5.000000", 6), ("10.000000", 6), ("30.000000", 6), ("+Inf", 6)]
+STATE = """\
+{"sources":[\
+{"source":7,"address":"SEVEN","call":"up","pause":null,"frames":10,"events":7,\
+"ignored":[{"reason":"BadCheck","count":2},{"reason":"WrongId","count":1}],"last":N},\
+{"source":8,"address":"EIGHT","call":"up","pause":null,"frames":2,"events":2,"ignored":[],"last":N},\
+{"source":9,"address":"NINE","call":"pause","pause":N,"frames":0,"events":0,"ignored":[],"last":null},\
+{"source":300,"address":"FULL","call":"calling","pause":null,"frames":0,"events":0,"ignored":[],"last":null},\
+{"source":65534,"address":null,"call":"rests","pause":null,"frames":0,"events":0,"ignored":[],"last":null}],\
+"subscribers":[\
+{"subscriber":1,"port":PORT,"address":"CLIENT","waiting":null,"made":9,"dropped":3,"lost":0,"late":6,"twice":3,"handed":528,"gaps":2,\
+"queue_frames":0,"queue_bytes":0,"seconds":SECONDS},\
+{"subscriber":65535,"port":null,"address":null,"waiting":N,"made":0,"dropped":0,"lost":0,"late":0,"twice":0,"handed":0,"gaps":0,\
+"queue_frames":0,"queue_bytes":0,"seconds":SECONDS}],\
+"streams":[{"subscriber":1,"stream":101,"on":true,"effective":1,"members":1},{"subscriber":1,"stream":102,"on":true,"effective":2,"members":3},\
+{"subscriber":1,"stream":103,"on":true,"effective":1,"members":1},{"subscriber":65535,"stream":7,"on":false,"effective":0,"members":1}]}"""
+
+
+def metrics_text():
+    """The whole text of the metrics, but for the sum of the ages."""
+    lines = []
+    for name, kind, text, values in METRICS:
+        lines += [f"# HELP pdcgw_{name} {text}", f"# TYPE pdcgw_{name} {kind}"]
+        for key, value in values.items():
+            labels = key if isinstance(key, str) else f'source="{key}"'
+            lines.append(f"pdcgw_{name}{{{labels}}} {value}")
+    name = "pdcgw_frame_age_seconds"
+    lines += [f"# HELP {name} Age of data frames as they are written: this machine's clock less the frame's time.", f"# TYPE {name} histogram"]
+    lines += [f'{name}_bucket{{le="{bound}"}} {count}' for bound, count in AGES]
+    return "\n".join([*lines, f"{name}_sum SUM", f"{name}_count 6", ""])
+
+
+def full_host(bench):
+    """The address of a listener that leaves calls without an answer, since its queue is full."""
+    full = bench.source(300, host="127.0.0.7", backlog=0)
+    for _ in range(4):
+        held = socket.socket()
+        bench.made.append(held)
+        held.setblocking(False)
+        held.connect_ex(full.listener.getsockname())
+    time.sleep(0.05)
+    return full.address
+
+
+def known_state(bench, page):
+    """A gateway in the state that the texts above have, and the values of their names."""
+    seven, eight, nine = bench.source(7), bench.source(8, host="127.0.0.2", phasors=6), bench.source(9, host="127.0.0.3")
+    nine.listener.close()
+    port, full = bench.port(), full_host(bench)
+    text = f'status = "127.0.0.1:{page}"\n' + pmu(7, connect=seven.address) + pmu(8, connect=eight.address) + pmu(9, connect=nine.address)
+    text += pmu(300, connect=full) + pmu(65534)
+    # Frames of streams 101 and 103 have 26 bytes. Those of stream 102 have 56, so that each of them is dropped.
+    text += subscriber(1, port, bytes=52, grants=[7, 8, 9]) + stream(101, [7]) + stream(102, [7, 8, 9], wait=30) + stream(103, [7])
+    text += subscriber(65535, grants=[9]) + stream(7, [9])
+    gateway = bench.gateway(text).serves(1)
+    seven.come()
+    eight.come()
+    gateway.logs("source (7|8): announced.*", 2)
+    client = bench.subscriber(port)
+    for it in (101, 102, 103):
+        client.start(it)
+    slot = int((time.time() - 3) * RATE)
+
+    def comes(slot, number):
+        same(sorted(client.frame() for _ in range(2)), [stream_frame(it, slot, number) for it in (101, 103)], "frames of streams 101 and 103")
+
+    # The first slot leaves streams 101 and 103 at once, so that what comes again is late there, three times; in stream 102 it is there twice.
+    for number in (1, 2, 3, 4):
+        seven.measure(slot, number)
+    comes(slot, 1)
+    until(lambda: gateway.counters("stats 1")["dropped"] == 1, "a frame of stream 102")
+    seven.measure(slot + 1, 5)
+    comes(slot + 1, 5)
+    eight.measure(slot + 1, 6)
+    until(lambda: gateway.counters("stats 1")["dropped"] == 2, "another frame of stream 102")
+    seven.measure(slot + 2, 7)
+    comes(slot + 2, 7)
+    wrong = with_wrong_check(seven.data(slot, 8))
+    seven.link.send(wrong + eight.data(slot, 9) + wrong)
+    until(lambda: gateway.counters("stats 1")["dropped"] == 3, "a third frame of stream 102")
+    return gateway, {"seven": seven.address, "eight": eight.address, "nine": nine.address, "full": full, "port": port, "client": client.name}
+
+
+def masked(text):
+    """A text without what changes by the second."""
+    for pattern, put in ((r'("last":|"waiting":|"pause":|last |waiting |pause )\d+', r"\1N"), (r'("seconds":){[^}]*}', r"\1SECONDS"),
+                         (r'(source_pause_seconds{source="9"}|since_event_seconds{[^}]*}|waiting_seconds{' + TWO + r"}) \d+", r"\1 N"),
+                         (r"(pdcgw_frame_age_seconds_sum) \S+", r"\1 SUM")):
+        text = re.sub(pattern, put, text)
+    return text
+
+
+def test_all_that_is_shown(bench):
+    """`status`, the metrics and the state as JSON have all sources, subscribers and streams of a known state, and nothing else."""
+    page = bench.port()
+    gateway, values = known_state(bench, page)
+    until(lambda: metrics(page)['pdcgw_subscriber_dropped_frames_total{subscriber="1"}'] == "3", "the page's second")
+    came = masked("".join(f"{it}\n" for it in gateway.answer("status")))
+    same(came.splitlines(), STATUS.format(**values).splitlines())
+    shown = http(page, "/metrics")[1]
+    same(masked(shown).splitlines(), metrics_text().splitlines())
+    total = float(re.search(r"_sum (\S+)\n", shown)[1])
+    expect(18 <= total <= 30, f"the sum of six ages of 3 seconds and a little more is {total}")
+    wanted = STATE
+    for name, value in values.items():
+        wanted = wanted.replace(name.upper(), str(value))
+    shown = http(page, "/state")[1]
+    same(masked(shown), wanted)
+    seconds = [it["seconds"] for it in json.loads(shown)["subscribers"]]
+    same([(sum(it["handed"]), sum(it["dropped"])) for it in seconds], [(6, 3), (0, 0)], "frames handed out and dropped in all seconds")
+    gateway.quit()

@@ -1,0 +1,484 @@
+"""`pdcgw simulate` and `pdcgw watch`: what they obey, send, check and print, against each other, a gateway and peers that do wrong."""
+import random
+import re
+import socket
+import struct
+import subprocess
+import time
+
+from c37118 import (BASE, COMMAND, CONFIG_1, CONFIG_2, DATA, HEADER, SEND_CONFIG_1, SEND_CONFIG_2, SEND_HEADER, START, STOP, command, configuration, frame,
+                    frames_in)
+from peers import (PATIENCE, RATE, Lines, Subscriber, expect, pmu, read_all, same, slot_of, stream, subscriber, takes, until,
+                   with_wrong_check)
+
+COUNTED = re.compile(r"(\d+) frames, (\d+) missing, (\d+) fillers, (\d+) troubles \((\d+) CHK, (\d+) order, (\d+) misfit\)")
+
+
+class Simulated:
+    """`pdcgw simulate` with these options, of source 7 unless they say otherwise."""
+
+    def __init__(self, bench, *words):
+        self.port = bench.port()
+        self.address = f"127.0.0.1:{self.port}"
+        self.process = subprocess.Popen([bench.program, "simulate", "--listen", self.address, *words], stdin=subprocess.DEVNULL, stdout=subprocess.PIPE)
+        bench.made.append(self)
+        self.out = Lines(self.process.stdout)
+        until(lambda: self.out.lines, "the first line of `simulate`")
+
+    def close(self):
+        self.process.kill()
+        self.process.wait()
+
+    def says(self, line, times=1):
+        until(lambda: self.out.lines.count(line) >= times, f"{times} x {line!r} of {self.out.lines[-5:]}")
+
+
+def begin_watch(bench, address, idcode, *words):
+    return subprocess.Popen([bench.program, "watch", address, "--stream", str(idcode), *words], cwd=bench.folder, stdin=subprocess.DEVNULL,
+                            stdout=subprocess.PIPE, stderr=subprocess.PIPE)
+
+
+def end_watch(process):
+    """The status, output and errors of `watch`."""
+    out, errors = process.communicate(timeout=PATIENCE)
+    return process.returncode, out.decode(), errors.decode()
+
+
+def watched(bench, source, *words, idcode=7):
+    return end_watch(begin_watch(bench, source.address, idcode, *words))
+
+
+def counted(text):
+    """The counts of `watch`: frames, missing, fillers, troubles; CHK, order, misfit."""
+    found = COUNTED.search(text)
+    expect(found, f"no counts in {text[-500:]!r}")
+    return tuple(map(int, found.groups()))
+
+
+def is_asked(link, *words, idcode=7):
+    """The next commands are these."""
+    came = [link.frame() for _ in words]
+    same([(it[1] >> 4, it[4:6], it[14:16]) for it in came], [(COMMAND, struct.pack(">H", idcode), struct.pack(">H", word)) for word in words])
+
+
+def test_simulate_obeys_commands(bench):
+    """Commands 1 and 2 switch data, 3, 4 and 5 are answered, 6 and 8 are not, and 7 and those of another IDCODE are ignored; each has a line. Data begin with
+    the slot behind the start, and have one frame for each slot."""
+    source = Simulated(bench)
+    same(source.out.lines[0], f"source 7 listens at {source.address}: 1 PMU from 7 on, 30 frames a second")
+    client = bench.subscriber(source.port)
+    source.says(f"{client.name} has connected")
+    for word, kind, line in ((SEND_HEADER, HEADER, "the header is sent"), (SEND_CONFIG_1, CONFIG_1, "CFG-1 is sent"),
+                             (SEND_CONFIG_2, CONFIG_2, "CFG-2 is sent")):
+        client.command(7, word)
+        got = client.frame()
+        same((got[1] >> 4, got[4:6]), (kind, b"\0\7"))
+        same(kind != HEADER or got[14:-2] == b"pdcgw simulate: 1 PMU, 30 frames a second", True, f"the header {got[14:-2]}")
+        source.says(f"command {word}: {line}")
+    client.command(8, START)
+    source.says("a frame of the peer is ignored: NoSuchStream")
+    client.command(7, 7)
+    source.says("a frame of the peer is ignored: UnknownCommand")
+    expect(client.is_quiet(0.1), "data came that were not asked for")
+    begun = time.time()
+    client.command(7, START)
+    source.says("command 2: data is on")
+    for word in (6, 8):
+        client.command(7, word)
+        source.says(f"command {word} is not answered")
+    client.command(7, START)
+    came = [client.frame() for _ in range(20)]
+    # 16 bytes around STAT, three phasors, FREQ, DFREQ, an analog value and a digital word.
+    same({(it[1] >> 4, len(it)) for it in came}, {(DATA, 38)})
+    slots = [slot_of(it, RATE) for it in came]
+    same(slots, list(range(slots[0], slots[0] + 20)))
+    expect(0 < slots[0] - int(begun * RATE) <= 2, "the first slot is the one behind the start")
+    client.command(7, STOP)
+    source.says("command 1: data is off")
+    until(lambda: client.is_quiet(0.1) or client.buffer.clear(), "the end of the data")
+    client.command(7, START)
+    expect(0 <= slot_of(client.data(), RATE) - int(time.time() * RATE) + 2 <= 3, "data go on at this time's slot")
+    client.send(b"GET / HTTP/1.1\r\n\r\n")
+    expect(client.is_closed(2), "bytes that are no frames end the connection")
+    source.says("the bytes of the peer are no frames: BadFirst")
+
+
+def sent_to(source, what):
+    """All that comes of these bytes, behind which the peer ends its side."""
+    with socket.create_connection(("127.0.0.1", source.port), PATIENCE) as peer:
+        try:
+            peer.sendall(what)
+            peer.shutdown(socket.SHUT_WR)
+        except OSError:
+            pass
+        return read_all(peer)
+
+
+def test_simulate_obeys_nothing_that_is_no_command(bench):
+    """A command with any bit changed, and random bytes, half of them behind the beginning of a command, start nothing and are not answered; the right command
+    is, behind all of them."""
+    source, numbers = Simulated(bench), random.Random(7)
+    for word in (START, SEND_CONFIG_2):
+        for bit in range(144):
+            changed = bytearray(command(7, word))
+            changed[bit // 8] ^= 1 << bit % 8
+            same(sent_to(source, changed), b"", f"bit {bit} of command {word}")
+    for at in range(100):
+        noise = bytes(numbers.randrange(256) for _ in range(200))
+        same(sent_to(source, (b"\xAA\x42\0\x12" if at % 2 else b"") + noise), b"", f"round {at}")
+    source.says("the connection is closed; 0 data frames so far", 388)
+    same([it for it in source.out.lines if it.startswith("command ")], [])
+    client = bench.subscriber(source.port)
+    client.command(7, SEND_CONFIG_2)
+    same(client.frame()[1] >> 4, CONFIG_2)
+
+
+def test_simulate_keeps_back_a_configuration(bench):
+    """With `no-config` commands 4 and 5 are not answered, and 3 is."""
+    source = Simulated(bench, "--fault", "no-config")
+    client = bench.subscriber(source.port)
+    for word in (SEND_CONFIG_1, SEND_CONFIG_2, SEND_HEADER):
+        client.command(7, word)
+    same(client.frame()[1] >> 4, HEADER)
+    source.says("command 4 is not answered")
+    source.says("command 5 is not answered")
+    expect(client.is_quiet(0.1), "more came than the header")
+
+
+def data_for(port, seconds, idcode=7):
+    """The data frames of so many seconds, each with the time at which it came; wrong ones too."""
+    client, came = Subscriber(port), []
+    client.command(idcode, START)
+    client.socket.settimeout(0.05)
+    end = time.monotonic() + seconds
+    while time.monotonic() < end:
+        try:
+            client.buffer += client.socket.recv(1 << 16)
+        except socket.timeout:
+            continue
+        came += [(it, time.time()) for it in frames_in(client.buffer)]
+    client.close()
+    return came
+
+
+def test_frames_that_are_dropped_or_wrong(bench):
+    """With `drop=10` about a tenth of the frames is left out, and with `wrong-check=10` about a tenth has a wrong CHK; `watch` counts just those, as missing
+    and as troubles."""
+    names = ("drop=10", "wrong-check=10")
+    sources = [Simulated(bench, "--rate", "120", "--fault", it) for it in names]
+    running = [begin_watch(bench, it.address, 7, "--frames", "180") for it in sources]
+    (status, out, _), (other_status, other_out, errors) = map(end_watch, running)
+    frames, missing, *rest = counted(out)
+    expect(status == 0 and frames == 180 and 5 <= missing <= 50 and rest == [0, 0, 0, 0, 0], f"drop=10: {out[-200:]}")
+    frames, missing, fillers, troubles, *rest = counted(other_out)
+    expect(other_status == 1 and frames == 180 and 5 <= troubles <= 50 and rest == [troubles, 0, 0], f"wrong-check=10: {other_out[-200:]}")
+    expect(troubles - 3 <= missing <= troubles, "a frame with a wrong CHK is missing, and no other one is")
+    same(errors, "pdcgw: a frame is left out: BadCheck\n" * troubles)
+
+
+@takes(4)
+def test_frames_are_as_late_as_the_fault_says(bench):
+    """Each frame comes at its time, with `late=300` 300 ms behind it, and by a clock that is 5 s ahead or behind it has that one's time. None is missing."""
+    for fault, least in ((None, 0), ("late=300", 0.3), ("clock=5000", -5), ("clock=-5000", 5)):
+        came = data_for(Simulated(bench, *(["--fault", fault] if fault else [])).port, 0.7)
+        slots = [slot_of(got, RATE) for got, _ in came]
+        ages = [at - slot_of(got, RATE) / RATE for got, at in came]
+        expect(len(ages) >= 8 and all(least <= it < least + 0.25 for it in ages), f"{fault}: {ages}")
+        same(slots, list(range(slots[0], slots[0] + len(slots))), f"{fault}: slots")
+
+
+@takes(3)
+def test_the_silence_of_a_simulated_source(bench):
+    """With `silence=1` none of the frames of each eleventh second comes, and each frame of the seconds beside it."""
+    now = time.time()
+    # The silent second is the next one.
+    shift = (9 - int(now)) % 11
+    source = Simulated(bench, "--rate", "120", "--fault", "silence=1", "--fault", f"clock={shift * 1000}")
+    slots = [slot_of(got, 120) for got, _ in data_for(source.port, 2.4)]
+    silent = (int(now) + shift + 1) * 120
+    same(silent // 120 % 11, 10)
+    wanted = [it for it in range(slots[0], slots[-1] + 1) if not silent <= it < silent + 120]
+    same(slots, wanted)
+    expect(slots[0] < silent and slots[-1] > silent + 120, f"slots of {slots[0]} to {slots[-1]}, and {silent} is the first silent one")
+
+
+def counts_of(block, *places):
+    return [struct.unpack(">h", block[at:at + 2])[0] for at in places]
+
+
+def test_the_signals_of_a_simulated_source(bench):
+    """The three phases of a PMU are in balance and of one magnitude; the angle of another one turns by its deviation of frequency, which is 20 mHz at most. A
+    second source with the same settings sends the same frames."""
+    one, other = Simulated(bench, "--pmus", "2", "--rate", "120"), Simulated(bench, "--pmus", "2", "--rate", "120")
+    links = [bench.subscriber(it.port) for it in (one, other)]
+    for it in links:
+        it.command(7, START)
+    frames, twins = [[it.data() for _ in range(125)] for it in links]
+    twins = {it[6:14]: it for it in twins}
+    alike = [twins[it[6:14]] == it for it in frames if it[6:14] in twins]
+    expect(len(alike) > 60 and all(alike), f"{sum(alike)} of {len(alike)} frames are those of another source with these settings")
+    angles, turn = [], 0.0
+    for it in frames:
+        block, polar = it[14:36], it[36:58]
+        real, imaginary = counts_of(block, 2, 6, 10), counts_of(block, 4, 8, 12)
+        expect(abs(sum(real)) <= 4 and abs(sum(imaginary)) <= 4, f"phases out of balance: {real}, {imaginary}")
+        # 28,868 counts, and at most 450 more or less.
+        expect(all(28_410 ** 2 <= x * x + y * y < 29_320 ** 2 for x, y in zip(real, imaginary)), f"magnitudes of {real}, {imaginary}")
+        deviation, angle = counts_of(polar, 14, 4)
+        expect(abs(deviation) <= 20, f"{deviation} mHz")
+        angles.append(angle)
+        turn += deviation / 120 / 1000 * 62_832
+    # In 10^-4 radians. A deviation is cut to whole millihertz.
+    apart = (angles[-1] - angles[0] - turn) % 62_832
+    expect(min(apart, 62_832 - apart) <= 72, f"the angle turned from {angles[0]} to {angles[-1]}, and by the frequency {turn:.0f}")
+
+
+def test_watch_through_a_gateway(bench):
+    """`watch` reads a stream of a simulated source's two PMUs, in another order, without trouble: each block is the source's own, as a twin of it sends
+    them."""
+    source, twin, port = Simulated(bench, "--pmus", "2"), Simulated(bench, "--pmus", "2"), bench.port()
+    text = pmu(7, connect=source.address) + pmu(8, source=7) + subscriber(1, port, grants=["7/8", 7]) + stream(101, ["7/8", 7])
+    gateway = bench.gateway(text).serves(1)
+    gateway.line("source 7: announced")
+    link = bench.subscriber(twin.port)
+    link.command(7, START)
+    status, out, errors = end_watch(begin_watch(bench, f"127.0.0.1:{port}", 101, "--frames", "30", "--raw", "kept"))
+    same((status, errors, counted(out)), (0, "", (30, 0, 0, 0, 0, 0, 0)))
+    with open(f"{bench.folder}/kept", "rb") as f:
+        kept = [it for it in frames_in(bytearray(f.read())) if it[1] >> 4 == DATA]
+    own = {it[6:14]: it for it in (link.data() for _ in range(30))}
+    blocks = [(it[14:36], it[36:58]) == (own[it[6:14]][36:58], own[it[6:14]][14:36]) for it in kept if it[6:14] in own]
+    expect(len(blocks) >= 20 and all(blocks), f"{sum(blocks)} of {len(blocks)} frames have the source's blocks")
+    until(lambda: gateway.counters("pmustats 7/8")["taken"] >= 30, "data of PMU 8")
+    same(gateway.counters("pmustats 7/8").keys(), {"taken"}, "no data are refused")
+    gateway.quit()
+
+
+def test_the_largest_simulated_source(bench):
+    """16 PMUs whose configurations have nearly 2,000 bytes: a gateway and `watch` read them."""
+    source = Simulated(bench, "--source", "65519", "--pmus", "16", "--phasors", "32", "--analogs", "32", "--digitals", "2", "--nominal", "50")
+    same(source.out.lines[0], f"source 65519 listens at {source.address}: 16 PMUs from 65519 on, 30 frames a second")
+    status, out, errors = watched(bench, source, "--frames", "2", idcode=65519)
+    same((status, errors, counted(out)), (0, "", (2, 0, 0, 0, 0, 0, 0)))
+    gateway = bench.gateway(pmu(65534, source=65519, connect=source.address) + subscriber(1))
+    until(lambda: gateway.counters("pmustats 65519/65534")["taken"] >= 2, "data of the last PMU")
+    expect(" ignored - " in gateway.status()["source 65519"], "frames are ignored")
+    gateway.quit()
+
+
+@takes(4)
+def test_simulate_reads_no_further_than_its_peer(bench):
+    """A peer that asks and does not read has a bounded number of answers waiting, and its other commands are not read; data frames that come due meanwhile are
+    left out, which is said once. As it reads, all are answered, and data go on."""
+    source, asked = Simulated(bench, "--pmus", "16"), 3_000
+    client = bench.subscriber(source.port)
+    client.command(7, START)
+    slots, configurations = [slot_of(client.data(), RATE)], 0
+    client.send(command(7, SEND_CONFIG_2) * asked)
+    source.says("the peer does not read: frames are left out")
+    time.sleep(0.5)
+    obeyed = source.out.lines.count("command 5: CFG-2 is sent")
+    expect(0 < obeyed < asked, f"{obeyed} of {asked} commands were obeyed, and no answer was read")
+    while configurations < asked:
+        got = client.frame()
+        configurations += got[1] >> 4 == CONFIG_2
+        slots += [slot_of(got, RATE)] if got[1] >> 4 == DATA else []
+    slots += [slot_of(client.data(), RATE) for _ in range(10)]
+    same(slots, sorted(set(slots)), "slots of the data frames")
+    expect(slots[-1] - slots[0] + 1 - len(slots) >= 10, f"no data frames were left out: {slots}")
+    source.says("command 5: CFG-2 is sent", asked)
+    same(source.out.lines.count("the peer does not read: frames are left out"), 1)
+
+
+def test_troubles_of_watch(bench):
+    """Each frame that is wrong is named on standard error and counted, the others are taken, and the status is 1. Behind a frame of another length the
+    configuration is asked for again, once."""
+    source, second = bench.source(7), 1_800_000_000
+
+    def data(idcode=7, soc=second, frac=0, body=bytes(10)):
+        return frame(DATA, idcode, soc, frac, body)
+
+    process = begin_watch(bench, source.address, 7)
+    link = source.accept()
+    is_asked(link, SEND_CONFIG_2, SEND_HEADER)
+    rows = [(frame(HEADER, 8, 0, 0, b"north"), "a header can't be taken: WrongId"),
+            (data(), "a data frame can't be taken: NoConfig"),
+            (configuration(8, [8], RATE), "a configuration can't be taken: WrongId"),
+            (source.configuration(), None), (data(), None),
+            (data(), f"a stamp does not rise: {second}+0 comes after {second}+0"),
+            (data(soc=second - 1), f"a stamp does not rise: {second - 1}+0 comes after {second}+0"),
+            (data(idcode=8), "a data frame can't be taken: WrongId"),
+            (data(soc=second + 1, frac=BASE), "a data frame can't be taken: BadFraction"),
+            (data(soc=second + 1, body=bytes(8)), "a data frame can't be taken: BadLength"),
+            (data(soc=second + 1, body=bytes(12)), "a data frame can't be taken: BadLength"),
+            (with_wrong_check(data(soc=second + 1)), "a frame is left out: BadCheck"),
+            (command(7, START), "a frame was not asked for: type 4"),
+            (frame(CONFIG_1, 7, 0, 0, bytes(10)), "a frame was not asked for: type 2")]
+    for what, _ in rows:
+        link.send(what)
+        if what == source.configuration():
+            is_asked(link, START, SEND_HEADER)
+    is_asked(link, SEND_CONFIG_2)
+    expect(link.is_quiet(0.1), "it asks again, twice")
+    link.send(b"\x55")
+    link.close()
+    status, out, errors = end_watch(process)
+    wanted = [text for _, text in rows if text] + ["the bytes are no frames from here on: BadFirst"]
+    same((status, errors.splitlines()), (1, [f"pdcgw: {it}" for it in wanted]))
+    # Slots of which no frame came are not counted before a frame is taken.
+    same(counted(out), (1, 0, 0, len(wanted), 1, 2, 5))
+
+
+def test_a_peer_that_closes_and_lengths_that_lie(bench):
+    """A peer that closes, and no data frame at all, are troubles. A frame that says that it has 65,535 bytes is waited for, and left out; what begins no frame
+    behind it ends `watch`."""
+    source = bench.source(7)
+    for what, wanted in ((b"", ["the peer closed the connection", "no data frame came"]),
+                         (b"\xAA\x32\xFF\xFF" + bytes(65_531), ["a frame is left out: BadCheck", "the peer closed the connection", "no data frame came"]),
+                         (b"\xAA\x32\xFF\xFF" + bytes(65_532), ["a frame is left out: BadCheck", "the bytes are no frames from here on: BadFirst",
+                                                               "no data frame came"])):
+        process = begin_watch(bench, source.address, 7)
+        link = source.accept()
+        is_asked(link, SEND_CONFIG_2, SEND_HEADER)
+        link.send(what)
+        link.close()
+        status, out, errors = end_watch(process)
+        same((status, errors.splitlines(), counted(out)[3]), (1, [f"pdcgw: {it}" for it in wanted], len(wanted)))
+
+
+def test_hostile_bytes_at_watch(bench):
+    """A configuration with changed bytes and a right CHK, and data frames behind it: each data frame that is taken has a line of values, each other trouble a
+    line on standard error, and `watch` ends."""
+    simulated, source, numbers = Simulated(bench, "--pmus", "2", "--rate", "120"), bench.source(7), random.Random(11)
+    client = bench.subscriber(simulated.port)
+    client.command(7, SEND_CONFIG_2)
+    right = client.frame()
+    client.command(7, START)
+    data = b"".join(client.data() for _ in range(20))
+    for at in range(40):
+        changed = bytearray(right)
+        for _ in range(3):
+            # Its length stays right.
+            changed[numbers.randrange(4, len(right))] = numbers.randrange(256)
+        wrong = frame(CONFIG_2, *struct.unpack(">HII", changed[4:14]), bytes(changed[14:-2]))
+        process = begin_watch(bench, source.address, 7, "--csv")
+        link = source.accept()
+        is_asked(link, SEND_CONFIG_2, SEND_HEADER)
+        link.send(wrong + data)
+        link.close()
+        status, out, errors = end_watch(process)
+        frames, _, _, troubles, *_ = counted(errors)
+        lines = [it for it in errors.splitlines() if not COUNTED.search(it)]
+        values = re.findall(r"(?m)^\d{4}-\d\d-\d\dT", out)
+        same((status, len(values), len(lines)), (1, frames, troubles), f"round {at}: {errors[-500:]}")
+
+
+@takes(4)
+def test_a_configuration_without_a_pmu(bench):
+    """A CFG-2 without any PMU is no trouble: it is asked again each second, until one has come, which starts the stream."""
+    source = bench.source(7)
+    process = begin_watch(bench, source.address, 7)
+    link = source.accept()
+    is_asked(link, SEND_CONFIG_2, SEND_HEADER)
+    for _ in range(2):
+        begun = time.monotonic()
+        link.send(configuration(7, [], RATE))
+        is_asked(link, SEND_CONFIG_2)
+        expect(time.monotonic() - begun < 1.5, "it was asked again late")
+    link.send(configuration(8, [], RATE) + frame(CONFIG_2, 7, 0, 0, struct.pack(">IH", BASE, 0) + bytes(4)) + source.configuration())
+    is_asked(link, START, SEND_HEADER)
+    link.close()
+    status, out, errors = end_watch(process)
+    same((status, out.splitlines()[:2]), (1, ["no PMU yet; 0 troubles"] * 2))
+    same(errors.splitlines()[:2], [f"pdcgw: a configuration can't be taken: {it}" for it in ("WrongId", "BadCounts")])
+
+
+@takes(8)
+def test_what_is_not_answered_is_asked_again(bench):
+    """Without CFG-2 command 5 is sent each 3 seconds, and after 5 the want is reported; without data commands 2 and 3 are sent each 3 seconds, and with data
+    they are not."""
+    silent, source = bench.source(7), bench.source(9)
+    unanswered = begin_watch(bench, silent.address, 7, "--seconds", "6")
+    answered = begin_watch(bench, source.address, 9)
+    link, begun = source.accept(), time.monotonic()
+    is_asked(silent.accept(), SEND_CONFIG_2, SEND_HEADER)
+    is_asked(link, SEND_CONFIG_2, SEND_HEADER, idcode=9)
+    link.send(source.configuration())
+    is_asked(link, START, SEND_HEADER, idcode=9)
+    expect(link.is_quiet(2.5), "it is asked again early")
+    is_asked(link, START, SEND_HEADER, idcode=9)
+    is_asked(silent.link, SEND_CONFIG_2)
+    took = time.monotonic() - begun
+    expect(2.5 < took < 4, f"they were asked again after {took:.1f} s")
+    time.sleep(max(0, begun + 4.5 - time.monotonic()))
+    source.measure(int(time.time()) * RATE, 1)
+    expect(link.is_quiet(2), "a data frame came, and data are asked for again")
+    link.close()
+    same(end_watch(answered)[2], "pdcgw: the peer closed the connection\n")
+    status, out, errors = end_watch(unanswered)
+    same((status, errors.splitlines()),
+         (1, ["pdcgw: no configuration came; is the stream's number right?", "pdcgw: no data frame came"]))
+
+
+WORDS = """\
+listen 127.0.0.1 no
+listen localhost:4712 no
+source 65533 yes
+source 65534 no
+source 0 no
+source +7 no
+pmus 16 yes
+pmus 17 no
+rate 120 yes
+rate 121 no
+rate -1 no
+phasors 32 yes
+phasors 33 no
+analogs 0 yes
+digitals 7 yes
+digitals 8 no
+nominal 50 yes
+nominal 55 no
+fault silence=5 yes
+fault silence=0 no
+fault drop=100 yes
+fault drop=101 no
+fault late=60000 yes
+fault late=60001 no
+fault wrong-check=5 yes
+fault clock=-500 yes
+fault clock=--5 no
+fault no-config yes
+fault no-config=1 no
+fault noise=3 no"""
+
+
+def said(bench, *words, out=subprocess.PIPE):
+    """The status of the program with these words, and what it says on standard error."""
+    done = subprocess.run([bench.program, *words], cwd=bench.folder, stdin=subprocess.DEVNULL, stdout=out, stderr=subprocess.PIPE, timeout=PATIENCE)
+    return done.returncode, done.stderr.decode()
+
+
+def test_words_of_the_tools(bench):
+    """Each option of `simulate` is taken within its limits; else the status is 2, and the option is named. What can't be bound, reached or written is named,
+    with status 1."""
+    taken = Simulated(bench)
+    for row in WORDS.splitlines():
+        option, value, is_taken = row.split()
+        words = {"listen": taken.address, "pmus": "2", option: value}
+        status, errors = said(bench, "simulate", *(f"--{name}={word}" for name, word in words.items()))
+        if is_taken == "yes":
+            expect(status == 1 and f"{taken.address} can't be bound: " in errors, f"{row}: {status}, {errors}")
+        else:
+            expect(status == 2 and f"--{option} takes " in errors, f"{row}: {status}, {errors}")
+    port = bench.port()
+    for words, text in ((["simulate", "--listen", taken.address], f"pdcgw: {taken.address} can't be bound: "),
+                        (["watch", f"127.0.0.1:{port}", "--stream", "7"], f"pdcgw: 127.0.0.1:{port} can't be reached: "),
+                        (["watch", taken.address, "--stream", "7", "--raw", "/no/such/file"], "pdcgw: the file of --raw can't be written: ")):
+        status, errors = said(bench, *words)
+        expect(status == 1 and errors.startswith(text) and len(errors) > len(text) + 3, f"{words}: {status}, {errors}")
+    with open("/dev/full", "w") as full:
+        same(said(bench, "simulate", "--listen", f"127.0.0.1:{port}", out=full), (1, "pdcgw: standard output can't be written\n"))
+    for words in (["watch", "here", "--stream", "7"], ["watch", taken.address, "--stream", "0"], ["watch", taken.address, "--stream", "7", "--frames", "0"]):
+        status, errors = said(bench, *words)
+        expect(status == 2 and " takes " in errors, f"{words}: {status}, {errors}")
