@@ -16,6 +16,7 @@ architecture=$(dpkg --print-architecture)
 root=$(mktemp -d)
 trap 'rm -rf "$root"' EXIT
 umask 022
+chmod 755 "$root"
 
 # FROM TO [MODE]: puts a file into the package.
 put() {
@@ -38,6 +39,10 @@ put "$top/CHANGELOG.md" usr/share/doc/pdcgw/CHANGELOG.md
 put "$top/LICENSE" usr/share/doc/pdcgw/LICENSE
 for page in "$top"/docs/*.md "$top"/docs/*.toml "$top"/docs/*.svg "$top"/docs/*.png; do
     [ ! -e "$page" ] || put "$page" "usr/share/doc/pdcgw/docs/$(basename "$page")"
+done
+
+for setup in "$top"/docs/setups/*.toml; do
+    [ ! -e "$setup" ] || put "$setup" "usr/share/doc/pdcgw/docs/setups/$(basename "$setup")"
 done
 
 mkdir "$root/DEBIAN"

@@ -3,6 +3,7 @@
 A test is a function that gets one `Bench`. The bench gives it ports and files of its own, and ends all that it started.
 """
 import ctypes
+import fcntl
 import os
 import re
 import socket
@@ -19,6 +20,8 @@ from c37118 import (BASE, COMMAND, CONFIG_2, DATA, SEND_CONFIG_2, START, STOP, b
 
 # For how many seconds a test waits for something that has to come.
 PATIENCE = 15
+# The call of fcntl that sets the size of a pipe (Linux).
+F_SETPIPE_SZ = 1031
 RATE = 30
 # Ports are below 32,768, since the system gives the others to clients. Each test claims a block of them.
 FIRST_PORT, BLOCK, BLOCKS = 10_000, 40, 240
@@ -564,6 +567,12 @@ class Gateway:
         self.write(text)
         self.process = subprocess.Popen([*words, bench.program, "run", "--setup", self.file], stdin=subprocess.PIPE, stdout=subprocess.PIPE,
                                         stderr=subprocess.PIPE, cwd=bench.folder)
+        # The gateway leaves out lines that standard error does not take. A pipe of 64 KB fills sooner than a busy test reads; the system's
+        # journal takes megabytes.
+        try:
+            fcntl.fcntl(self.process.stderr, F_SETPIPE_SZ, 1 << 20)
+        except OSError:
+            pass  # The system permits less: its default stays.
         self.log, self.out = Lines(self.process.stderr), Lines(self.process.stdout) if gathers else None
 
     def write(self, text):

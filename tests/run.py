@@ -5,7 +5,7 @@
     python3 tests/run.py PROGRAM NAME..       the tests of these names, such as test_allow_at_the_start
 
 PROGRAM is `pdcgw`, as `sh try.sh` or `rt ci` leaves it. As many tests run side by side as there are processors, each in a process of its own
-with its own ports, folder and a time limit of 60 seconds. A test that failed is run once more alone, as some wait for real seconds; the
+with its own ports, folder and a time limit of 60 seconds, or twice the seconds that it says to wait. A test that failed is run once more alone, as some wait for real seconds; the
 second result counts. The last line is 'N passed, M failed', and the status is 1 where one failed.
 """
 import glob
@@ -79,6 +79,7 @@ class Run:
 
     def __init__(self, program, name, guard):
         self.name, self.begun = name, time.monotonic()
+        self.limit = max(LIMIT, 2 * getattr(all_tests()[name], "seconds", 0))
         self.folder = tempfile.mkdtemp(prefix="pdcgw-test-")
         self.output = tempfile.TemporaryFile("w+", errors="replace")
         self.process = subprocess.Popen([sys.executable, os.path.abspath(__file__), program, ONE, name, self.folder, str(guard)],
@@ -86,7 +87,7 @@ class Run:
                                         start_new_session=True)
 
     def is_over(self):
-        if self.process.poll() is None and time.monotonic() < self.begun + LIMIT:
+        if self.process.poll() is None and time.monotonic() < self.begun + self.limit:
             return False
         self.kill()
         return True
@@ -105,8 +106,8 @@ class Run:
         took = time.monotonic() - self.begun
         self.output.seek(0)
         printed = self.output.read()
-        if took >= LIMIT:
-            printed = f"it took longer than {LIMIT} s\n{printed}"
+        if took >= self.limit:
+            printed = f"it took longer than {self.limit} s\n{printed}"
         return self.process.returncode == 0, took, printed
 
 

@@ -1,4 +1,4 @@
-"""A gateway behind a gateway, as docs/CHAIN.md has it: the second one's subscriber gets the data of the first one's source."""
+"""A gateway behind a gateway, as docs/SCALING.md has it: the second one's subscriber gets the data of the first one's source."""
 from c37118 import configuration
 from peers import RATE, expect, now_soc, pmu, same, stream, stream_frame, subscriber, takes, until
 

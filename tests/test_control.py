@@ -285,6 +285,33 @@ def test_a_ninth_client_is_refused(bench):
     gateway.quit()
 
 
+@takes(63)
+def test_a_client_that_is_silent_gives_way(bench):
+    """While eight clients are connected a ninth is refused, until one of them has been silent for 60 seconds: that one, and none that
+    sent something since, is closed for it."""
+    pair, path = controlled(bench)
+    gateway = pair.run()
+    silent = Client(bench, path)
+    time.sleep(1)
+    others = [Client(bench, path) for _ in range(7)]
+    Client(bench, path).gets(b"refused 34 Busy\n")
+    time.sleep(58)
+    for client in others:
+        client.send(b"pmustats 7\n")
+        client.gets(b"pmustats taken 0\n")
+    time.sleep(2.5)
+    ninth = Client(bench, path)
+    ninth.send(b"pmustats 9\n")
+    ninth.gets(b"pmustats taken 0\n")
+    expect(silent.is_closed(), "the silent client was not closed")
+    gateway.logs("WARN control socket: a client that was silent for 60 seconds was closed for another")
+    for client in others:
+        client.send(b"pmustats 7\n")
+        client.gets(b"pmustats taken 0\n")
+    same(gateway.logged("WARN control socket: a client that was silent for 60 seconds was closed for another"), 1)
+    gateway.quit()
+
+
 def test_a_client_that_does_not_read_is_closed(bench):
     """A client is closed once more than a million bytes wait for it, and not before; another one is answered meanwhile."""
     pair, path = controlled(bench)

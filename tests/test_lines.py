@@ -83,6 +83,34 @@ def test_lines_steer_sources_and_ports(bench):
     gateway.quit()
 
 
+def test_lines_about_sources_and_ports_are_read(bench):
+    """Each line does what it says, with one space between its words or several, at the ends of the ranges of its numbers."""
+    gateway = bench.gateway(pmu(7) + subscriber(65535))
+    port, said = bench.port(), "INFO subscriber 65535: "
+    for line, log, times in (("dial 7 127.0.0.255:4712", r"INFO source 7: called at 127\.0\.0\.255:4712", 1),
+                             ("  undial   7 ", "INFO source 7: called no longer", 1),
+                             (f"listen 65535 {port}", rf"{said}may connect at 0\.0\.0\.0:{port}", 1),
+                             ("listen 65535 65535 127.0.0.1", rf"{said}may connect at 127\.0\.0\.1:65535", 1),
+                             ("unlisten 65535", f"{said}its port is closed", 2),
+                             ("disconnect 65535", f"{said}its port is closed", 2)):
+        gateway.does(line, "done 0 0")
+        gateway.logs(log, times)
+    gateway.quit()
+
+
+def test_lines_of_another_form_are_refused(bench):
+    """Lines about sources and ports with a word too few or too many, with numbers beyond their ranges, or with a name: none is a line."""
+    gateway = bench.gateway(pmu(7) + subscriber(1))
+    same(gateway.answer(""), [])
+    for line in ("dial", "dial 7", "dial 7 10.0.0.1", "dial 7 10.0.0.1:0", "dial 7 10.0.0.256:4712", "dial 7 pmu7.example.org:4712",
+                 "dial 65535 10.0.0.1:4712", "dial 7 10.0.0.1:4712 8", "undial 0", "listen 1", "listen 1 0", "listen 1 65536", "listen 1 04800",
+                 "listen 1 4800 localhost", "unlisten", "disconnect 1 2", "Disconnect 1"):
+        gateway.does(line, "refused 36 BadLine")
+    # This line is another one: it registers a PMU.
+    gateway.does("addpmu 7", "refused 24 PmuExists")
+    gateway.quit()
+
+
 def test_lines_that_are_refused(bench):
     """Lines about what is not there, of another form, or about a port that is taken: each is answered by its reason, and changes nothing."""
     pair = Pair(bench)

@@ -1,5 +1,6 @@
 """The log as a whole: its first and last lines, its times, its priorities for the system's journal, and that no line of a reload is lost."""
 import calendar
+import pathlib
 import re
 import statistics
 import subprocess
@@ -34,7 +35,8 @@ def test_the_log_begins_with_what_is_served_and_ends_with_the_end(bench):
     gateway.quit()
     version = subprocess.run([bench.program, "--version"], stdout=subprocess.PIPE, check=True).stdout.decode().strip()
     texts = [parts(it)[2:] for it in gateway.log.lines]
-    same(texts[0], ("INFO", f"the service starts: {version}, setup {gateway.file}, {served(pair.text)}"), "the first line")
+    name = pathlib.Path("/proc/sys/kernel/hostname").read_text().strip()
+    same(texts[0], ("INFO", f"the service starts: {version}, name {name}, setup {gateway.file}, {served(pair.text)}"), "the first line")
     same(texts[-2:], [("INFO", "`quit`: the service ends"), ("INFO", "the service has ended")], "the last lines")
 
 

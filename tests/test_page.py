@@ -57,8 +57,8 @@ def answer(status, kind, body, is_head=False, more=""):
 
 PLAIN = "text/plain; charset=utf-8"
 # What is shown, by the beginning of its content; what is refused, whole.
-SHOWN = {"page": ("text/html; charset=utf-8", b"<!DOCTYPE html>\n"), "state": ("application/json", b'{"sources":['),
-         "metrics": ("text/plain; version=0.0.4; charset=utf-8", b"# HELP pdcgw_source_up ")}
+SHOWN = {"page": ("text/html; charset=utf-8", b"<!DOCTYPE html>\n"), "state": ("application/json", b'{"name":"'),
+         "metrics": ("text/plain; version=0.0.4; charset=utf-8", b"# HELP pdcgw_info ")}
 DENIED = {"400": ("400 Bad Request", "", b"This is no request of HTTP/1.1.\n"),
           "404": ("404 Not Found", "", b"Nothing is here. There are /, /state and /metrics.\n"),
           "405": ("405 Method Not Allowed", "Allow: GET, HEAD\r\n", b"All here is read by GET or HEAD.\n"),

@@ -222,13 +222,13 @@ def test_status_has_each_once_after_many_changes(bench):
 
 
 def test_keys_that_need_a_new_start_are_reported(bench):
-    """A change of `tick_ms`, `ingest`, `serve`, `control` or `status` is reported by a reload, which does the rest."""
+    """A change of `tick_ms`, `ingest`, `serve`, `control`, `status` or `name` is reported by a reload, which does the rest."""
     pair = Reloads(bench).begin()
-    pair.more = f'tick_ms = 20\ncontrol = "{bench.folder}/c"\nstatus = "127.0.0.1:{bench.port()}"\n'
-    answer = sorted(f"{key} needs a new start" for key in ("tick_ms", "ingest", "serve", "control", "status"))
+    pair.more = f'tick_ms = 20\ncontrol = "{bench.folder}/c"\nstatus = "127.0.0.1:{bench.port()}"\nname = "other"\n'
+    answer = sorted(f"{key} needs a new start" for key in ("tick_ms", "ingest", "serve", "control", "status", "name"))
     pair.gateway.write(pair.more + "".join(pair.tables.values()))
-    came = pair.gateway.ask("reload", 6)
-    same((sorted(came[:5]), came[5]), (answer, "reloaded: 0 edits, 0 orders"))
+    came = pair.gateway.ask("reload", 7)
+    same((sorted(came[:6]), came[6]), (answer, "reloaded: 0 edits, 0 orders"))
     pair.first_is_served()
     pair.end()
 

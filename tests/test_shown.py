@@ -22,6 +22,7 @@ stream 65535 7 off members 0/1
 ONE, TWO = 'subscriber="1"', 'subscriber="65535"'
 # Name, type and text of each metric, and its value by its labels.
 METRICS = [
+    ("info", "gauge", "The gateway's name.", {r'name="North \"7\" \\ PDC"': 1}),
     ("source_up", "gauge", "Whether the source is connected.", {7: 1, 8: 1, 9: 0, 300: 0, 65534: 0}),
     ("source_pause_seconds", "gauge", "Time until the source is called again, 0 where no pause runs.", {7: 0, 8: 0, 9: "N", 300: 0, 65534: 0}),
     ("source_frames_total", "counter", "Whole frames that came from the source.", {7: 10, 8: 2, 9: 0, 300: 0, 65534: 0}),
@@ -52,7 +53,8 @@ METRICS = [
 AGES = [("0.005000", 0), ("0.010000", 0), ("0.020000", 0), ("0.050000", 0), ("0.100000", 0), ("0.200000", 0), ("0.500000", 0), ("1.000000", 0),
         ("2.000000", 0), ("5.000000", 6), ("10.000000", 6), ("30.000000", 6), ("+Inf", 6)]
 STATE = """\
-{"sources":[\
+{"name":"North \\"7\\" \\\\ PDC",\
+"sources":[\
 {"source":7,"address":"SEVEN","call":"up","pause":null,"frames":10,"events":7,\
 "ignored":[{"reason":"BadCheck","count":2},{"reason":"WrongId","count":1}],"last":N},\
 {"source":8,"address":"EIGHT","call":"up","pause":null,"frames":2,"events":2,"ignored":[],"last":N},\
@@ -99,7 +101,7 @@ def known_state(bench, page):
     seven, eight, nine = bench.source(7), bench.source(8, host="127.0.0.2", phasors=6), bench.source(9, host="127.0.0.3")
     nine.listener.close()
     port, full = bench.port(), full_host(bench)
-    text = f'status = "127.0.0.1:{page}"\n' + pmu(7, connect=seven.address) + pmu(8, connect=eight.address) + pmu(9, connect=nine.address)
+    text = f'status = "127.0.0.1:{page}"\n' + "name = 'North \"7\" \\ PDC'\n" + pmu(7, connect=seven.address) + pmu(8, connect=eight.address) + pmu(9, connect=nine.address)
     text += pmu(300, connect=full) + pmu(65534)
     # Frames of streams 101 and 103 have 26 bytes. Those of stream 102 have 56, so that each of them is dropped.
     text += subscriber(1, port, bytes=52, grants=[7, 8, 9]) + stream(101, [7]) + stream(102, [7, 8, 9], wait=30) + stream(103, [7])

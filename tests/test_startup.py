@@ -1,6 +1,7 @@
 """Start: what is printed where the program can't start, `check`, and the demo."""
 import os
 import re
+import resource
 import signal
 import socket
 import subprocess
@@ -139,6 +140,19 @@ def test_check_prints_what_would_run(bench):
     expect("subscriber 4: stream 44: 25 frames/s of 7/7\n" in out, out)
 
 
+def test_names_of_a_gateway(bench):
+    """A name of 1 to 64 characters of ASCII is in the log's first line; any other text is refused with its line, as is a name that is no text."""
+    for name in ("a", "PDC North, bay 7 ~", "x" * 64):
+        pair = Pair(bench, more=f'name = "{name}"\n')
+        gateway = pair.run()
+        expect(f", name {name}, setup " in gateway.log.lines[0], gateway.log.lines[0])
+        gateway.quit()
+    for value in ('""', '"' + "x" * 65 + '"', '"N\\u00f6rd"', '"a\\tb"', '"\\u007f"', "7"):
+        status, _, errors = printed(bench, f"name = {value}\n" + pmu(7) + subscriber(1), "check")
+        same(status, 1)
+        expect(re.match(r"setup\.toml:1: name: is .*; it has to be a text of 1 to 64 characters of ASCII that can be printed\n", errors), errors)
+
+
 def test_the_level_of_the_log_at_the_start(bench):
     """With `log = "warn"` lines of INFO are left out, and those of WARN are not."""
     pair = Pair(bench, more='log = "warn"\n')
@@ -180,3 +194,15 @@ def test_the_demo_compares_each_frame(bench):
     expect(first == second and 150 <= first <= 301, f"{first} and {second} frames in ten seconds")
     said = re.search(r"(?m)^(\d+) frames, (\d+) missing, 0 fillers, 0 troubles ", out)
     expect(said and int(said[1]) == first, f"what `watch` counts: {out[-300:]}")
+
+
+def test_a_demo_that_ends_before_its_time(bench):
+    """Where standard output is full, and where memory runs out, the demo says so, and its status is 1."""
+    def memory_is_short():
+        resource.setrlimit(resource.RLIMIT_AS, (20 << 20, 20 << 20))
+
+    for limit, told in ((None, "standard output can't be written"), (memory_is_short, "1 NoMemory")):
+        with open("/dev/full", "w") as full:
+            done = subprocess.run([bench.program, "demo", "--seconds", "1"], stdin=subprocess.DEVNULL, stdout=full, stderr=subprocess.PIPE,
+                                  timeout=PATIENCE, preexec_fn=limit)
+        same((done.returncode, done.stderr.decode()), (1, f"pdcgw: {told}\n"))

@@ -1,12 +1,14 @@
 #!/usr/bin/env python3
 """Compares the lists of the pages with those of the program, taken from its sources: keys of a setup, operator's commands, metrics,
-texts of the log, reasons, crates, the libraries that are trusted, pages of definitions, planted bugs; and looks at each link, command
+texts of the log, reasons, crates, the libraries that are trusted, pages of definitions, planted bugs and the tests that refuse them; and looks at each link, command
 and path that the pages name. What is missing is printed, a line each; status 1 where something is. Run it anywhere: it finds the
 repository by its own place."""
 import glob
 import os
 import re
 import sys
+
+import planted_table
 
 ROOT = os.path.dirname(os.path.dirname(os.path.abspath(__file__)))
 found = []
@@ -147,7 +149,7 @@ def log():
             expect(cells[0].strip("| ") == level, f"docs/OPERATING.md, the log: {text!r} is logged as {level}")
         expect(table, f"docs/OPERATING.md, the log: no row has {text!r}")
     expect(len(texts) > 30, "the texts of the log were not found in the sources")
-    for start, end in (("fn write_end", "\n}"), ("fn system_words", "\n}"), ("End::Closed", ",")):
+    for start, end in (("fn write_fault", "\n}"), ("fn system_words", "\n}"), ("Detail::ClosedByPeer", ",")):
         for text in re.findall(r'(?:=> |str\()"(?:: )?([^"]+)"', between(words, start, end)):
             expect(text in page, f"docs/OPERATING.md, the log: the reason {text!r} is missing")
 
@@ -156,9 +158,8 @@ def reasons():
     enum = between(source("pg_wire", "refusal"), "pub enum Refusal {", "\n}")
     listed = {int(number): name for name, number in re.findall(r"(\w+) = (\d+),", enum)}
     told = {}
-    for cells in rows(section("docs/OPERATING.md", "## Reasons by number")):
-        numbers = [int(it) for it in re.findall(r"\d+", cells[0])]
-        told.update(zip(numbers, cells[1].split(", ")))
+    for names in re.findall(r"\*\*([^*]+)\*\*", section("docs/OPERATING.md", "## Reasons by number")):
+        told.update({int(number): name for number, name in (it.split(" ") for it in names.split(", "))})
     expect(len(listed) == 40, "the reasons were not found in the sources")
     for number, name in listed.items():
         expect(told.get(number) == name, f"docs/OPERATING.md, reasons: {number} {name} is missing")
@@ -233,19 +234,83 @@ def quoted():
         expect(re.sub(r"\s+", "", line) in real, f"docs/PROOFS.md: the contract has no {line.strip()!r}")
 
 
-def planted():
-    text = text_of("docs/PLANTED.md")
-    for part in re.split(r"\n## ", text)[1:]:
+def code_of(names):
+    """The sources of these crates."""
+    return "".join(text_of(os.path.relpath(it, ROOT)) for name in names for it in sorted(glob.glob(f"{ROOT}/crates/{name}/src/**/*.rt", recursive=True)))
+
+
+def proved():
+    """The calls and clauses in the rows of PROOFS.md are in the sources of the crates that the heading above them names."""
+    for part in re.split(r"\n### ", section("docs/PROOFS.md", "## What is proved"))[1:]:
         names = re.findall(r"\bpg_\w+", part.partition("\n")[0])
-        for cells in rows(part)[1:] if names else []:
-            for file in re.findall(r"`(\w+)`", cells[-1]):
-                there = [it for it in glob.glob(f"{ROOT}/crates/*/*/{file}.edit") if it.split("/")[-3] in names]
-                expect(there, f"docs/PLANTED.md, {' and '.join(names)}: there is no edit {file}")
-    for path in glob.glob(f"{ROOT}/crates/*/*/*.edit"):
-        name = os.path.basename(path).removesuffix(".edit")
-        rest = text.partition("<!-- files: begin -->")
-        expect(f"`{name}`" in rest[0], f"docs/PLANTED.md: no row has the edit {name} of {path.split('/')[-3]}")
-        expect(f"`{name}`" in rest[2], f"docs/PLANTED.md: run tools/planted_table.py, for {name}")
+        code = code_of(names)
+        for line in part.splitlines():
+            # (a cell may be empty)
+            cells = line.strip("|").split("|")
+            if not line.startswith("|") or len(cells) < 3:
+                continue
+            for call in spans(cells[0]):
+                last = call.split("::")[-1]
+                expect(re.search(rf"\b(?:fn|struct|enum) {last}\b", code), f"docs/PROOFS.md: {' and '.join(names)} have no {call}")
+            for clause in spans(cells[1]):
+                expect(re.search(rf"\bensures {clause} ", code), f"docs/PROOFS.md: {' and '.join(names)} have no clause {clause}")
+
+
+def numbers():
+    """The numbers at the head of PROOFS.md; those behind `some` within a tenth."""
+    edits = planted_table.edits()
+    by_test = sum(bool(it.tests()) for it in edits)
+    public = re.findall(r"^ *pub (?:const )?fn \w+", code_of(crates()), re.M)
+    of_service, of_crates = tests()
+    real = {
+        "crates": len(crates()),
+        "public functions": len(public),
+        "planted bugs that the": len(edits) - by_test,
+        "planted bugs that a test": by_test + len(planted_table.listed()),
+        "tests of calls": len(of_crates),
+        "tests of the running": len(of_service),
+        "worked rows": len(glob.glob(f"{ROOT}/crates/pdcgw_rows/data/*.script")),
+    }
+    head = text_of("docs/PROOFS.md").partition("\n## ")[0]
+    said = {cells[0].strip("| ").replace("[", "").replace("](PLANTED.md)", ""): cells[1].strip(" |") for cells in rows(head)[1:]}
+    for start, number in real.items():
+        told = [it for row, it in said.items() if row.startswith(start)]
+        some = told and told[0].startswith("some ")
+        off = abs(int(told[0].removeprefix("some ").replace(",", "")) - number) if told else number
+        expect(told and off <= (number // 10 if some else 0), f"docs/PROOFS.md: {start}: the number is {number}")
+
+
+def tests():
+    """The tests by name: functions of tests/, and of the crates."""
+    of_service = [it for path in glob.glob(f"{ROOT}/tests/*.py") for it in re.findall(r"^def (test_\w+)", text_of(os.path.relpath(path, ROOT)), re.M)]
+    marked = re.compile(r"^ *#\[test\]\n(?: *(?:#|//).*\n)* *(?:pub )?fn (\w+)", re.M)
+    of_crates = [it for path in glob.glob(f"{ROOT}/crates/*/src/**/*.rt", recursive=True) for it in marked.findall(text_of(os.path.relpath(path, ROOT)))]
+    return of_service, of_crates
+
+
+def planted():
+    """Each edit has its two lines and fits the sources; the tests that refuse bugs are there; the page has the numbers."""
+    for it in planted_table.wrong():
+        expect(False, it)
+    known = {it for some in tests() for it in some}
+    for edit in planted_table.edits():
+        for test in edit.tests() or [None]:
+            expect(test is None or test in known, f"{os.path.relpath(edit.path, ROOT)}: there is no test {test}")
+    for function, _, named in planted_table.listed():
+        crate, _, function = function.partition(" ")
+        code = "".join(text_of(os.path.relpath(it, ROOT)) for it in glob.glob(f"{ROOT}/crates/{crate}/src/**/*.rt", recursive=True))
+        expect(re.search(rf"\bfn {function.split('::')[-1]}\b", code), f"{planted_table.LIST}: {crate} has no function {function}")
+        for test in named.split(", "):
+            expect(test in known, f"{planted_table.LIST}: there is no test {test}")
+    edits = planted_table.edits()
+    numbers = [
+        sum(it.folder == "must-fail" for it in edits),
+        sum(it.folder == "planted" and not it.tests() for it in edits),
+        sum(bool(it.tests()) for it in edits),
+        len(planted_table.listed()),
+    ]
+    told = [int(cells[1]) for cells in rows(text_of("docs/PLANTED.md").partition("\n## ")[0])[1:]]
+    expect(told == numbers, f"docs/PLANTED.md: the numbers are {numbers}")
 
 
 def anchor(heading):
@@ -307,7 +372,7 @@ def commands():
 
 
 PAGES = [os.path.relpath(path, ROOT) for path in sorted(glob.glob(f"{ROOT}/*.md") + glob.glob(f"{ROOT}/docs/*.md"))]
-for look in (keys, lines, metrics, log, reasons, table_of_crates, trusted, definitions, quoted, planted, links, commands):
+for look in (keys, lines, metrics, log, reasons, table_of_crates, trusted, definitions, quoted, proved, numbers, planted, links, commands):
     look()
 print("\n".join(found + [f"{looked} places looked at, {len(found)} wrong"]))
 sys.exit(1 if found else 0)

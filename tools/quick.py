@@ -1,7 +1,7 @@
 #!/usr/bin/env python3
 """Runs tests without a proof, as `rt try` builds them. `sh tools/quick.sh` calls it.
 
-    sh tools/quick.sh            the worked rows and the tests of streams, in about two minutes
+    sh tools/quick.sh            the worked rows and the tests of frames, in about two minutes
     sh tools/quick.sh --all      the worked rows and all tests, as many crates side by side as processors and memory allow, or RT_JOBS
     sh tools/quick.sh CRATE..    the tests of these crates; pdcgw_rows names the worked rows
     sh tools/quick.sh --service  the tests of the running service (tests/run.py) with ./pdcgw, which `sh try.sh` builds
@@ -25,7 +25,7 @@ import jobs  # noqa: E402
 
 TOP = os.path.dirname(os.path.dirname(os.path.abspath(__file__)))
 ROWS = "pdcgw_rows"
-USUAL = [ROWS, "pg_stream_tests"]
+USUAL = [ROWS, "pg_frame_tests"]
 # What a try of the largest crate takes.
 GIGABYTES = 3
 TEST = re.compile(r"(?m)^test (\S+) \.\.\. (ok|FAILED)\n((?:\n|    .*\n)*)")

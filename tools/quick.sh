@@ -1,5 +1,5 @@
 #!/bin/sh
-# Runs the worked rows and the tests of streams without a proof, in about two minutes. --all: all tests. CRATE..: the tests of these crates.
+# Runs the worked rows and the tests of frames without a proof, in about two minutes. --all: all tests. CRATE..: the tests of these crates.
 # --service: the tests of the running service with ./pdcgw, which `sh try.sh` builds.
 # The last line is 'N passed, M failed', and the status is 1 where one failed. It needs the toolchain's `rt` on the PATH, and Python 3.8.
 for command in rt python3; do

@@ -376,6 +376,29 @@ row("shared-frame-3", SHARED, ("grant 1 9/11", DONE), ("define 1 103 30 1000000 
     of_sub(1, command(101, 1), DONE), of_sub(1, command(103, 2), DONE), of_pmu(9, MEASURED_9, "done 2 2"),
     queue(1, [(0, sent(103, SLOTS[0], [DATA_7, DATA_11]))]),
     of_pmu(9, configuration(0x32, 9, 100, 0, [BLOCK_7, BLOCK_8, BLOCK_7]), "ignored 16 DuplicatePmu"))
+# One frame brings the blocks of all members, which stand in another order in the stream; bit 7 of its quality is not sent. A stream that is
+# stopped and started sends its slots again: each with the quality that its own frame has.
+AGAIN = [of_sub(1, command(103, 1), DONE), of_sub(1, command(103, 2), DONE)]
+
+
+def turned_round(quality, slot):
+    """The frame of source 9 with this quality, and the queued frame that it makes."""
+    return (of_pmu(9, measured(9, SLOTS[slot], DATA_7 + DATA_8 + DATA_11, quality=quality), MADE),
+            (0, sent(103, SLOTS[slot], [DATA_11, DATA_7], quality=quality & 0x7F)))
+
+
+FIRST, SECOND, THIRD, FOURTH = (turned_round(*it) for it in ((0xA4, 0), (0, 1), (0x24, 1), (0, 0)))
+row("members-of-one-frame", done("addpmu 9/7", "addpmu 9/8", "addpmu 9/11", "addsub 1 4", "grant 1 9/7", "grant 1 9/11",
+                                 "define 1 103 30 1000000 0 4 none 9/11 9/7", "connect 1"),
+    of_pmu(9, CONFIG_9, DONE), of_sub(1, command(103, 2), DONE), FIRST[0], SECOND[0], AGAIN, THIRD[0], AGAIN, FOURTH[0],
+    queue(1, [it[1] for it in (FIRST, SECOND, THIRD, FOURTH)]))
+# What is wrong with a data frame: the source first, then the length, then the numerator, which is below the resolution.
+TOO_LONG, TOO_SHORT = DATA_7 + "0000", DATA_7[:-4]
+row("data-refusals", stream_101(), STARTED, of_pmu(7, measured(7, 999_999, DATA_7), MADE),
+    of_pmu(7, measured(7, 1_000_000, DATA_7), "ignored 19 BadFraction"),
+    of_pmu(7, measured(7, 1_000_000, TOO_LONG), "ignored 8 BadLength"), of_pmu(7, measured(7, 999_999, TOO_SHORT), "ignored 8 BadLength"),
+    of_pmu(7, measured(8, 1_000_000, TOO_LONG), "ignored 17 WrongId"), queue(1, [(0, sent(101, 0, [DATA_7], soc=101))]),
+    ("linkstats 7", "linkstats taken 2 8:2 17:1 19:1"), ("pmustats 7", "pmustats taken 1"))
 # A window of one: all blocks of a frame arrive before a slot leaves, so the frame opens a second slot.
 row("frame-opens-one-slot-more", done("addpmu 7", "addpmu 9/7", "addpmu 9/11", "addsub 1 4", "grant 1 7", "grant 1 9/7", "grant 1 9/11",
                                       "define 1 102 30 1000000 9 1 none 7 9/7 9/11", "connect 1"),
@@ -383,6 +406,17 @@ row("frame-opens-one-slot-more", done("addpmu 7", "addpmu 9/7", "addpmu 9/11", "
     of_pmu(7, measured(7, 16_666, DATA_7), DONE), of_pmu(9, MEASURED_9, MADE), of_pmu(7, MEASURED_7, MADE),
     queue(1, [(0, sent(102, 0, [DATA_7, FILLER_7, FILLER_7])), (0, sent(102, SLOTS[0], [DATA_7, DATA_7, DATA_11]))]))
 assert len(sent(103, SLOTS[0], [DATA_7, DATA_11])) == 2 * 36
+
+# One data frame for 512 streams: eight of each of 64 subscribers.
+
+EIGHT = range(101, 109)
+row("fan-out-of-512", ("addpmu 7", DONE), of_pmu(7, CONFIG_7, DONE),
+    [pair for subscriber in range(1, 65) for pair in (
+        *done(f"addsub {subscriber} 8", f"grant {subscriber} 7",
+              *(f"define {subscriber} {stream} 30 1000000 0 4 none 7" for stream in EIGHT), f"connect {subscriber}"),
+        *(of_sub(subscriber, command(stream, 2), DONE) for stream in EIGHT))],
+    of_pmu(7, MEASURED_7, "done 512 512"),
+    [drain(subscriber, 400, 8, 0, "".join(sent(stream, SLOTS[0], [DATA_7]) for stream in EIGHT)) for subscriber in range(1, 65)])
 
 # Hostile bytes: prefixes of frames, frames with one byte changed, and sizes and bytes that promise too much.
 
@@ -429,13 +463,13 @@ row("forms-of-lines",
     [(line,) for line in ("", "# a comment, whatever it says: -x", "   ")],
     [(line, BAD) for line in (
         "quit", "help", "drain", "drain 1", "drain 1 65536", "drain 01 5", "drain 1 +5", "drain -1 5", "drain 65536 5",
-        "\tdrain 1 5", "sub 1 0", "sub 1 4g", "sub 1 +", "sub 0 00", "pmu 65535 00", "pmu 7/7 00", "linkup 7/7", "linkstats 7/7",
-        "tick 4294967296", "addsub 1", "addsub 1 0", "addsub 1 1025", "addsub 1 4 16777217", "grant 1", "grant 1 0",
+        "\tdrain 1 5", "sub 1", "sub 1 0", "sub 1 4g", "sub 1 0g", "sub 1 +", "sub 1 0+", "sub 1 00++", "sub 1 0+0", "sub 0 00",
+        "pmu 65535 00", "pmu 7/7 00", "linkup 7/7", "linkstats 7/7", "tick 4294967296", "addsub 1", "addsub 1 0", "addsub 1 1025", "addsub 1 4 16777217", "grant 1", "grant 1 0",
         "grant 01 7", "grant 1 65535",
         "grant 1 7/0", "audit 1 64", "define 1 101 30 1000000 0 4 none", "define 1 101 30 1000000 0 4 +1 7", "-x", "queue -1")],
     [("linkup 7", "refused 23 NoSuchPmu"), ("pmu 7 00", "refused 23 NoSuchPmu"), ("linkstats 7", "refused 23 NoSuchPmu"),
-     ("drain 2 5", "refused 26 NoSuchSub"), ("sub 2 00", "refused 26 NoSuchSub"), ("queue 2", "refused 26 NoSuchSub"),
-     ("sessionstats 2", "refused 26 NoSuchSub")],
+     ("drain 2 5", "refused 26 NoSuchSub"), ("sub 2 00", "refused 26 NoSuchSub"), ("sub 2 0a", "refused 26 NoSuchSub"),
+     ("queue 2", "refused 26 NoSuchSub"), ("sessionstats 2", "refused 26 NoSuchSub")],
     stream_101(),
     [("queue 1", "rest -", "pending 0"), ("  drain   1  5  ", "drained 0 0 0 -"), ("drain 1 5\r", "drained 0 0 0 -"),
      ("pmu 7 " + MEASURED_7.lower() + "+", "ignored 18 NoConfig"), of_pmu(7, "AA22" + CONFIG_7[4:], "ignored 7 WrongType"),

@@ -105,6 +105,8 @@ A setup file is TOML:
                            that the gateway runs as may connect, and nobody else. None where not given
   status                   the text A.B.C.D:PORT, where a page (at /) and metrics (at /metrics) are served by HTTP; nowhere where
                            not given
+  name                     the gateway's name on the page, in metrics and in the log: 1 to 64 characters of ASCII that can be
+                           printed; the host's name where not given
   [[pmu]]                  a PMU, registered in the order of the file
     id                     its number: 1 to 65534
     source                 the number of its source: 1 to 65534; as `id` where not given

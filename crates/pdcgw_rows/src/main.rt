@@ -11,7 +11,7 @@ use std::rt::Files;
 use std::{fs, io};
 
 /// The rows.
-const ROWS: [&str; 45] = [
+const ROWS: [&str; 48] = [
     "first-path",
     "two-subscribers",
     "registry-and-grants",
@@ -48,7 +48,10 @@ const ROWS: [&str; 45] = [
     "shared-frame-1",
     "shared-frame-2",
     "shared-frame-3",
+    "members-of-one-frame",
+    "data-refusals",
     "frame-opens-one-slot-more",
+    "fan-out-of-512",
     "hostile-bytes",
     "forms-of-lines",
     "lines-of-bytes",

@@ -23,7 +23,7 @@ pub struct Trouble {
 }
 
 /// A setup that can run.
-#[derive(Debug, Drop)]
+#[derive(Drop)]
 pub struct Checked {
     /// What would run, a line for each source, subscriber and stream.
     pub report: String,

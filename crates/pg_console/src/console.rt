@@ -77,7 +77,7 @@ impl Steering for EditsAlone {
 }
 
 /// What a line asks for.
-#[derive(Clone, Copy, Debug, PartialEq, Eq)]
+#[derive(Clone, Copy)]
 enum Request {
     /// An edit, or nothing.
     Edit,

@@ -25,6 +25,7 @@ pub(crate) fn seen_by<R: Wait + Clock, G: Gate>(
 ) -> Result<(Snapshot, Histogram), AllocError> {
     let reports = told.ask(rt, alloc);
     let mut snapshot = Snapshot {
+        name: String::from_str(alloc, told.name)?,
         sources: Vec::new(alloc),
         subscribers: Vec::new(alloc),
         streams: Vec::new(alloc),

@@ -20,6 +20,8 @@ pub struct Told<'a> {
     pub sources: &'a [Mailbox<SourceOrder>],
     /// The workers that serve subscribers, the journal and the board.
     pub neighbours: Neighbours<'a>,
+    /// The gateway's name.
+    pub name: &'a str,
     /// The PMUs and subscribers that are registered.
     pub registered: &'a Mutex<Registered>,
     /// The mailbox of the worker that serves the control socket and the page, if there is one.

@@ -14,10 +14,11 @@ use pg_console::{Console, Counter, EditsAlone, Told};
 use pg_demo_core::{Course, SOURCES, demo_settings};
 use pg_limits::{Allow, OnChange};
 use pg_service::{
-    Address, Dial, DoorRules, Guards, Mailbox, Neighbours, Port, PortOrder, PortWorker,
-    SourceOrder, SourceWorker, Ticker, Waiting,
+    Address, Dial, DoorRules, Guards, Mailbox, Neighbours, PortOrder, SourceOrder, Waiting,
 };
 use pg_shared::{Named, Seat, Shared, SharedGate, Work};
+use pg_sources::{SourceWorker, Ticker};
+use pg_subscribers::{Port, PortWorker};
 use pg_tools::{Simulator, Style};
 use pg_window::Window;
 use pg_wire::Refusal;
@@ -207,6 +208,7 @@ pub fn make_workers<
     let told = Told {
         sources: &boxes.sources,
         neighbours,
+        name: "demo",
         registered: &boxes.registered,
         window: Some(&boxes.window),
         reloads: None,

@@ -1,16 +1,24 @@
-//! Tests of pg_wire, pg_command, pg_config and pg_data, as their callers see them. They stand in a crate of their own, so that the gate
-//! proves those crates once.
+//! Tests of pg_wire, pg_command, pg_config, pg_data, pg_stream, pg_entitle, pg_align, pg_outcfg, pg_ring, pg_audit and pg_registry, as
+//! their callers see them. They stand in a crate of their own, so that the gate proves those crates once.
 #![tactic(auto)]
 
 #[cfg(test)]
+mod align;
+#[cfg(test)]
 mod asserts;
 #[cfg(test)]
-mod command;
+mod deframer;
 #[cfg(test)]
-mod config;
+mod fixtures;
 #[cfg(test)]
-mod data;
+mod keys;
+#[cfg(test)]
+mod output;
+#[cfg(test)]
+mod plain;
+#[cfg(test)]
+mod queue;
 #[cfg(test)]
 mod rows;
 #[cfg(test)]
-mod wire;
+mod stream;

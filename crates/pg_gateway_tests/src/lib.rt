@@ -1,7 +1,22 @@
-//! Tests of pg_gateway, as its callers see it. They stand in a crate of their own, so that the gate proves that crate once.
+//! Tests of pg_session, pg_gateway, pg_ingest, pg_shared and pg_proof_service, as their callers see them. They stand in a crate of their
+//! own, so that the gate proves those crates once.
 #![tactic(auto)]
 
 #[cfg(test)]
 mod asserts;
 #[cfg(test)]
-mod tests;
+mod fixtures;
+#[cfg(test)]
+mod links;
+#[cfg(test)]
+mod memory;
+#[cfg(test)]
+mod services;
+#[cfg(test)]
+mod sessions;
+#[cfg(test)]
+mod sharing;
+#[cfg(test)]
+mod standings;
+#[cfg(test)]
+mod workers;

@@ -8,3 +8,5 @@ mod asserts;
 mod limits;
 #[cfg(test)]
 mod plans;
+#[cfg(test)]
+mod times;

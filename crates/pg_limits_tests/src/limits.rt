@@ -1,11 +1,12 @@
 //! Budgets, networks, guards, credits, layouts and rows of the table of connections, by values that are written by hand from the rules.
 use crate::asserts::same;
+use crate::times::after;
 use pg_limits::{
     AheadGuard, Allow, Budget, ClockGuard, Credit, Deadline, Network, Pause, Portion, Stamp,
     TcpRow, Unacknowledged, are_unlike, is_clock_wrong, lower_median, reference,
 };
-use std::collections::VecDeque;
-use std::io::{ErrorKind, Read};
+use std::alloc::{AllocError, Global};
+use std::io::Read;
 use std::net::Ipv4Addr;
 use std::process::Abort;
 use std::test::*;
@@ -13,68 +14,54 @@ use std::time::{Duration, Instant};
 
 // ---- networks
 
-/// Networks, each with hosts that it has, and behind `|` hosts beside its edges that it has not.
+/// Lists of networks, `every` for no list, then hosts that they have, and hosts beside their edges that they have not.
 const NETWORKS: &str = "\
-0.0.0.0/0 0.0.0.0 255.255.255.255 10.0.0.1 |\n\
-10.0.0.1/8 10.0.0.0 10.0.0.1 10.255.255.255 | 9.255.255.255 11.0.0.0\n\
-192.168.1.0/24 192.168.1.0 192.168.1.255 | 192.168.0.255 192.168.2.0 192.169.1.0\n\
-10.0.0.4/31 10.0.0.4 10.0.0.5 | 10.0.0.3 10.0.0.6\n\
-10.0.0.5/31 10.0.0.4 10.0.0.5 | 10.0.0.3 10.0.0.6\n\
-255.255.255.255/32 255.255.255.255 | 255.255.255.254 127.255.255.255\n\
-0.0.0.0/32 0.0.0.0 | 0.0.0.1 128.0.0.0\n\
-128.0.0.0/1 128.0.0.0 255.255.255.255 | 127.255.255.255 0.0.0.0";
+0.0.0.0/0|0.0.0.0 255.255.255.255 10.0.0.1|\n\
+10.0.0.1/8|10.0.0.0 10.0.0.1 10.255.255.255|9.255.255.255 11.0.0.0\n\
+192.168.1.0/24|192.168.1.0 192.168.1.255|192.168.0.255 192.168.2.0 192.169.1.0\n\
+10.0.0.4/31|10.0.0.4 10.0.0.5|10.0.0.3 10.0.0.6\n\
+10.0.0.5/31|10.0.0.4 10.0.0.5|10.0.0.3 10.0.0.6\n\
+255.255.255.255/32|255.255.255.255|255.255.255.254 127.255.255.255\n\
+0.0.0.0/32|0.0.0.0|0.0.0.1 128.0.0.0\n\
+128.0.0.0/1|128.0.0.0 255.255.255.255|127.255.255.255 0.0.0.0\n\
+every|0.0.0.0 255.255.255.255|\n\
+||127.0.0.1\n\
+10.1.2.3/16 127.0.0.1/32|10.1.0.0 10.1.255.255 127.0.0.1|10.0.255.255 10.2.0.0 127.0.0.2";
 
 fn host(rt: &impl Abort, text: &str) -> Ipv4Addr {
     text.parse::<Ipv4Addr>().expect(rt, "an address")
 }
 
-/// A network of the table.
-fn network(rt: &impl Abort, text: &str) -> Network {
-    let (address, bits) = text.split_once('/').expect(rt, "a slash");
-    let bits = bits.parse::<u8>().expect(rt, "bits");
-    assert!(rt; bits <= 32, "{text}");
-    Network::new(host(rt, address), bits)
+/// The networks of a row.
+fn networks(rt: &impl Abort, alloc: Global, text: &str) -> Option<Vec<Network>> {
+    if text == "every" {
+        return None;
+    }
+    let mut networks = Vec::new(alloc);
+    for text in text.split_ascii_whitespace() {
+        let (address, bits) = text.split_once('/').expect(rt, "a slash");
+        let bits = bits.parse::<u8>().expect(rt, "bits");
+        assert!(rt; bits <= 32);
+        let network = Network::new(host(rt, address), bits);
+        networks.push(network).expect(rt, "memory");
+    }
+    Some(networks)
 }
 
 #[test]
-fn networks_at_their_edges(rt: HostRuntime) {
+fn hosts_that_may_connect(rt: HostRuntime) {
     for row in NETWORKS.split('\n') {
-        let (inside, outside) = row.split_once('|').expect(&rt, "a bar");
-        let (own, hosts) = inside.split_once(' ').expect(&rt, "a space");
-        let own = network(&rt, own);
-        for text in hosts.split_ascii_whitespace() {
-            assert!(rt; own.has(host(&rt, text)), "{text} at {row}");
-        }
-        for text in outside.split_ascii_whitespace() {
-            assert!(rt; !own.has(host(&rt, text)), "{text} at {row}");
+        let (list, hosts) = row.split_once('|').expect(&rt, "a list");
+        let (inside, outside) = hosts.split_once('|').expect(&rt, "hosts");
+        let allow = Allow {
+            networks: networks(&rt, rt.alloc(), list),
+        };
+        for (hosts, may) in [(inside, true), (outside, false)] {
+            for text in hosts.split_ascii_whitespace() {
+                assert!(rt; allow.allows(host(&rt, text)) == may, "{text} at {row}");
+            }
         }
     }
-}
-
-#[test]
-fn hosts_that_may_connect(rt: HostRuntime) -> Result<(), Fail> {
-    let every = Allow { networks: None };
-    assert!(rt; every.allows(host(&rt, "0.0.0.0")));
-    assert!(rt; every.allows(host(&rt, "255.255.255.255")));
-    let mut nobody = Allow {
-        networks: Some(Vec::new(rt.alloc())),
-    };
-    assert!(rt; !nobody.allows(host(&rt, "127.0.0.1")));
-    let mut networks = Vec::new(rt.alloc());
-    networks.push(network(&rt, "10.1.2.3/16"))?;
-    networks.push(network(&rt, "127.0.0.1/32"))?;
-    nobody.networks = Some(networks);
-    for (text, may) in [
-        ("10.1.0.0", true),
-        ("10.1.255.255", true),
-        ("127.0.0.1", true),
-        ("10.0.255.255", false),
-        ("10.2.0.0", false),
-        ("127.0.0.2", false),
-    ] {
-        assert_eq!(rt; nobody.allows(host(&rt, text)), may, "{text}");
-    }
-    Ok(())
 }
 
 // ---- times
@@ -82,49 +69,34 @@ fn hosts_that_may_connect(rt: HostRuntime) -> Result<(), Fail> {
 #[test]
 fn pauses(rt: HostRuntime) {
     let mut pause = Pause::none();
-    same(&rt, pause.seconds(), 0);
-    for seconds in [1, 2, 4, 8, 16, 30, 30] {
-        pause = pause.longer();
+    for seconds in [0, 1, 2, 4, 8, 16, 30, 30] {
         same(&rt, pause.seconds(), seconds);
+        pause = pause.longer();
     }
-    same(&rt, Pause::none().longer().seconds(), 1);
 }
 
-/// The instant so many seconds and nanoseconds later.
-fn later(rt: &impl Abort, from: Instant, seconds: u64, nanos: u32) -> Instant {
-    let seconds = from.checked_add(Duration::from_secs(seconds));
-    let seconds = seconds.expect(rt, "a later second");
-    let nanos = seconds.checked_add(Duration::from_nanos(u64::from(nanos)));
-    nanos.expect(rt, "a later instant")
-}
-
+/// Nanoseconds since it was last seen, those that are left, and whether it is over. A clock that reads earlier leaves the whole limit.
 #[test]
-fn deadline_at_its_limit(rt: HostRuntime) -> Result<(), Fail> {
-    let start = Instant::now(&rt)?;
+fn deadline_at_its_limit(rt: HostRuntime) {
+    let start = Instant::now(&rt).expect(&rt, "a clock");
+    let seen = after(&rt, start, Duration::from_secs(9));
     let mut deadline = Deadline {
         last: start,
         limit: Duration::from_secs(10),
     };
-    for (seconds, nanos, left, over) in [
-        (0, 0, 10_000_000_000, false),
-        (9, 999_999_999, 1, false),
-        (10, 0, 0, true),
-        (10, 1, 0, true),
-        (3_600, 0, 0, true),
-    ] {
-        let now = later(&rt, start, seconds, nanos);
-        same(&rt, deadline.left(now).as_nanos(), left);
-        same(&rt, deadline.is_over(now), over);
-    }
-    // seen again half a second before its end: it has its whole limit from there
-    let seen = later(&rt, start, 9, 500_000_000);
     deadline.seen(seen);
-    same(&rt, deadline.limit, Duration::from_secs(10));
-    assert!(rt; !deadline.is_over(later(&rt, start, 19, 499_999_999)));
-    assert!(rt; deadline.is_over(later(&rt, start, 19, 500_000_000)));
-    // a clock that reads earlier than what was seen leaves the whole limit
+    for (passed, left, is_over) in [
+        (0, 10_000_000_000, false),
+        (9_999_999_999, 1, false),
+        (10_000_000_000, 0, true),
+        (10_000_000_001, 0, true),
+        (3_600_000_000_000, 0, true),
+    ] {
+        let now = after(&rt, seen, Duration::from_nanos(passed));
+        same(&rt, deadline.left(now).as_nanos(), left);
+        same(&rt, deadline.is_over(now), is_over);
+    }
     same(&rt, deadline.left(start), Duration::from_secs(10));
-    Ok(())
 }
 
 /// Limits, clocks in milliseconds, and the SOC, numerator and resolution of measurements; whether they are near.
@@ -171,9 +143,8 @@ fn clock_guard_at_its_limit(rt: HostRuntime) {
     for (limit, now, soc, frac, base, near) in NEAR {
         assert!(rt; now < 281_474_976_710_656 && frac < 16_777_216 && base < 16_777_216);
         let guard = ClockGuard { limit };
-        assert_eq!(rt;
-            guard.is_near(now, soc, frac, base),
-            near,
+        assert!(rt;
+            guard.is_near(now, soc, frac, base) == near,
             "{limit} {now} {soc} {frac}/{base}"
         );
     }
@@ -201,7 +172,7 @@ const AHEAD: [(u32, u32, u32, u64, i64); 8] = [
 fn times_ahead_of_a_clock(rt: HostRuntime) {
     for (soc, frac, base, clock, ahead) in AHEAD {
         let stamp = Stamp { soc, frac, base };
-        assert_eq!(rt; stamp.ahead_of(clock), ahead, "{soc} {frac}/{base}");
+        same(&rt, stamp.ahead_of(clock), ahead);
     }
 }
 
@@ -219,9 +190,8 @@ fn clocks_that_are_probably_wrong(rt: HostRuntime) {
         (256, 129, true),
         (4_294_967_295, 4_294_967_295, true),
     ] {
-        assert_eq!(rt;
-            is_clock_wrong(connected, refused),
-            wrong,
+        assert!(rt;
+            is_clock_wrong(connected, refused) == wrong,
             "{refused} of {connected}"
         );
     }
@@ -251,69 +221,90 @@ const AHEAD_OF_ALL: [(u64, u16, u32, u32, u32, bool); 12] = [
 fn ahead_guard_at_its_limit(rt: HostRuntime) {
     for (reference, limit, soc, frac, base, ahead) in AHEAD_OF_ALL {
         let guard = AheadGuard { limit };
-        assert_eq!(rt;
-            guard.is_ahead(reference, soc, frac, base),
-            ahead,
+        assert!(rt;
+            guard.is_ahead(reference, soc, frac, base) == ahead,
             "{reference} {limit} {soc} {frac}/{base}"
         );
     }
 }
 
-#[test]
-fn lower_medians(rt: HostRuntime) {
-    same(&rt, lower_median(&[]), None);
-    same(&rt, lower_median(&[7]), Some(7));
+/// Times, of which the first so many count, and their lower median.
+const MEDIANS: [(usize, [u64; 5], Option<u64>); 13] = [
+    (0, [0; 5], None),
+    (1, [7, 0, 0, 0, 0], Some(7)),
     // of an even number the lower of the two in the middle
-    same(&rt, lower_median(&[9, 5]), Some(5));
-    same(&rt, lower_median(&[5, 9]), Some(5));
-    same(&rt, lower_median(&[4, 1, 3, 2]), Some(2));
+    (2, [9, 5, 0, 0, 0], Some(5)),
+    (2, [5, 9, 0, 0, 0], Some(5)),
+    (4, [4, 1, 3, 2, 0], Some(2)),
     // of an odd number the one in the middle
-    same(&rt, lower_median(&[9, 1, 5]), Some(5));
-    same(&rt, lower_median(&[9, 5, 1]), Some(5));
-    same(&rt, lower_median(&[5, 4, 3, 2, 1]), Some(3));
+    (3, [9, 1, 5, 0, 0], Some(5)),
+    (3, [9, 5, 1, 0, 0], Some(5)),
+    (5, [5, 4, 3, 2, 1], Some(3)),
     // the same number more than once
-    same(&rt, lower_median(&[8, 8]), Some(8));
-    same(&rt, lower_median(&[1, 8, 8]), Some(8));
-    same(&rt, lower_median(&[8, 1, 1, 8]), Some(1));
+    (2, [8, 8, 0, 0, 0], Some(8)),
+    (3, [1, 8, 8, 0, 0], Some(8)),
+    (4, [8, 1, 1, 8, 0], Some(1)),
     // one that runs ahead, and one that stopped
-    same(&rt, lower_median(&[u64::MAX, 100, 101]), Some(101));
-    same(&rt, lower_median(&[0, 100, 101]), Some(100));
-}
+    (3, [u64::MAX, 100, 101, 0, 0], Some(101)),
+    (3, [0, 100, 101, 0, 0], Some(100)),
+];
+
+/// A clock, the newest times of sources, of which the first so many count, and the reference.
+const REFERENCES: [(u64, usize, [u64; 3], u64); 7] = [
+    // no source, and one: the clock alone
+    (1_000, 0, [0; 3], 1_000),
+    (1_000, 1, [9_000, 0, 0], 1_000),
+    // of two the lower, where it is later than the clock
+    (1_000, 2, [9_000, 2_000, 0], 2_000),
+    (1_000, 2, [9_000, 1_000, 0], 1_000),
+    (1_000, 2, [9_000, 999, 0], 1_000),
+    // a clock that is behind all sources, and one that is ahead of them
+    (0, 3, [5_000, 5_020, 5_010], 5_010),
+    (6_000, 3, [5_000, 5_020, 5_010], 6_000),
+];
 
 #[test]
-fn references(rt: HostRuntime) {
-    // no source, and one: the clock alone
-    same(&rt, reference(1_000, &[]), 1_000);
-    same(&rt, reference(1_000, &[9_000]), 1_000);
-    // of two the lower, where it is later than the clock
-    same(&rt, reference(1_000, &[9_000, 2_000]), 2_000);
-    same(&rt, reference(1_000, &[9_000, 1_000]), 1_000);
-    same(&rt, reference(1_000, &[9_000, 999]), 1_000);
-    // a clock that is behind all sources, and one that is ahead of them
-    same(&rt, reference(0, &[5_000, 5_020, 5_010]), 5_010);
-    same(&rt, reference(6_000, &[5_000, 5_020, 5_010]), 6_000);
+fn medians_and_references(rt: HostRuntime) {
+    for (count, times, median) in MEDIANS {
+        assert!(rt; count <= 5);
+        same(&rt, lower_median(&times[..count]), median);
+    }
+    for (clock, count, times, wanted) in REFERENCES {
+        assert!(rt; count <= 3);
+        same(&rt, reference(clock, &times[..count]), wanted);
+    }
 }
 
 // ---- layouts
 
+/// Lengths of layouts, the newest first, of which those from one place to another are known; the numbers of the layouts that are to be
+/// unlike, and whether they are.
 #[test]
 fn layouts_that_no_reader_takes_for_each_other(rt: HostRuntime) {
-    let lengths = [36, 26, 36, 56];
-    // one layout is alone
-    assert!(rt; are_unlike(&lengths, 7, 7));
-    assert!(rt; are_unlike(&lengths, 6, 7));
-    // the third is as long as the present one
-    assert!(rt; !are_unlike(&lengths, 5, 7));
-    assert!(rt; !are_unlike(&lengths, 4, 7));
-    assert!(rt; are_unlike(&[26, 36, 56], 5, 7));
-    // a pair that does not stand side by side, and the last two
-    assert!(rt; !are_unlike(&[1, 2, 3, 1], 0, 3));
-    assert!(rt; !are_unlike(&[1, 2, 3, 3], 0, 3));
-    assert!(rt; are_unlike(&[1, 2, 3, 3], 1, 3));
-    // what was longer ago is not known
-    assert!(rt; !are_unlike(&[26, 36, 56], 4, 7));
-    assert!(rt; !are_unlike(&[26], 0, u64::MAX));
-    assert!(rt; !are_unlike(&[], 7, 7));
+    let lengths = [36, 26, 36, 56, 26, 26];
+    for (from, to, floor, newest, unlike) in [
+        // one layout is alone
+        (0, 4, 7, 7, true),
+        (0, 4, 6, 7, true),
+        // the third is as long as the present one
+        (0, 4, 5, 7, false),
+        (0, 4, 4, 7, false),
+        (1, 4, 5, 7, true),
+        // a pair that does not stand side by side, and the last two
+        (1, 5, 4, 7, false),
+        (2, 6, 4, 7, false),
+        (2, 6, 5, 7, true),
+        // what was longer ago is not known
+        (1, 4, 4, 7, false),
+        (1, 2, 0, u64::MAX, false),
+        (0, 0, 7, 7, false),
+    ] {
+        assert!(rt; from <= to && to <= 6 && floor <= newest);
+        assert!(rt;
+            are_unlike(&lengths[from..to], floor, newest) == unlike,
+            "{from} {to} {floor}"
+        );
+    }
 }
 
 // ---- connections
@@ -346,32 +337,24 @@ A: 0100007F:1388 00000000:0000 0A 00000000:00000000 =>\n\
 0: 0100007F:1388 00000000:0000 0A 00000000:0000000G =>\n\
 0: 00000000000000000000000001000000:1388 00000000000000000000000000000000:0000 0A 00000000:00000000 =>";
 
-/// The connection of a row.
-fn connection(rt: &impl Abort, text: &str) -> Option<TcpRow> {
-    let mut words = text.split_ascii_whitespace();
-    let local = end(rt, words.next()?);
-    let remote = end(rt, words.next().expect(rt, "the other end"));
-    let state = words.next().expect(rt, "a state");
-    let queue = words.next().expect(rt, "a number of bytes");
-    Some(TcpRow {
-        local,
-        remote,
-        state: state.parse::<u8>().expect(rt, "a state"),
-        unacknowledged: queue.parse::<u32>().expect(rt, "a number of bytes"),
-    })
-}
-
-/// One end of a connection, `A.B.C.D:PORT`.
-fn end(rt: &impl Abort, text: &str) -> (Ipv4Addr, u16) {
-    let (address, port) = text.split_once(':').expect(rt, "a colon");
-    (host(rt, address), port.parse::<u16>().expect(rt, "a port"))
+/// A connection as a row has it; nothing where there is none.
+fn told(alloc: Global, row: Option<TcpRow>) -> Result<String, AllocError> {
+    match row {
+        None => Ok(String::new(alloc)),
+        Some(row) => {
+            let ((local, port), (remote, far)) = (row.local, row.remote);
+            let (state, queue) = (row.state, row.unacknowledged);
+            format!(in alloc; " {local}:{port} {remote}:{far} {state} {queue}")
+        }
+    }
 }
 
 #[test]
 fn connections_of_the_system(rt: HostRuntime) {
     for row in CONNECTIONS.split('\n') {
         let (line, wanted) = row.split_once("=>").expect(&rt, "an arrow");
-        same(&rt, TcpRow::read(line), connection(&rt, wanted));
+        let came = told(rt.alloc(), TcpRow::read(line)).expect(&rt, "memory");
+        assert!(rt; came.as_str() == wanted, "{row}: {came}");
     }
 }
 
@@ -404,160 +387,100 @@ const LOOKS: [(u64, u32, u64, Option<u64>); 14] = [
 fn bytes_that_are_not_acknowledged(rt: HostRuntime) {
     let start = Instant::now(&rt).expect(&rt, "a clock");
     let mut waiting = Unacknowledged::new();
-    same(&rt, waiting.since(), None);
     for (written, queue, seconds, since) in LOOKS {
-        waiting.look(written, queue, later(&rt, start, seconds, 0));
-        let since = since.map(|seconds| later(&rt, start, seconds, 0));
-        assert_eq!(rt; waiting.since(), since, "{written} {queue} {seconds}");
+        waiting.look(
+            written,
+            queue,
+            after(&rt, start, Duration::from_secs(seconds)),
+        );
+        let since = since.map(|seconds| after(&rt, start, Duration::from_secs(seconds)));
+        assert!(rt; waiting.since() == since, "{written} {queue} {seconds}");
     }
-    // a new connection of which nothing was acknowledged yet
-    let mut fresh = Unacknowledged::new();
-    fresh.look(16, 16, later(&rt, start, 5, 0));
-    same(&rt, fresh.since(), Some(later(&rt, start, 5, 0)));
-    fresh.look(32, 32, later(&rt, start, 6, 0));
-    same(&rt, fresh.since(), Some(later(&rt, start, 5, 0)));
 }
 
 // ---- reads
 
-/// Reads of 4,096 bytes until none is given, put behind what is there. How many were given, and the kind of the last fault.
-fn drain(
-    budget: &mut Budget<VecDeque<u8>>,
-    got: &mut Vec<u8>,
-) -> Result<(usize, Option<ErrorKind>), Fail> {
-    let mut buf = [0; 4096];
-    for given in 0..100 {
-        match budget.read(&mut buf) {
-            Ok(0) => return Ok((given, None)),
-            Ok(n) => got.extend_from_slice(&buf[..n])?,
-            Err(error) => return Ok((given, Some(error.kind()))),
-        }
+/// A budget of two reads of one byte: the third is refused, and the byte waits. A budget that is left has its reads.
+#[test]
+fn budget_of_reads(rt: HostRuntime) {
+    let mut budget = Budget::new(b"abc".as_slice(), 2);
+    let mut buf = [0; 1];
+    for wanted in [Some(1), Some(1), None, None] {
+        same(&rt, budget.is_used_up(), wanted.is_none());
+        same(&rt, budget.read(&mut buf).ok(), wanted);
     }
-    Ok((100, None))
+    let mut next = Budget::new(budget.reader, 2);
+    same(&rt, next.read(&mut buf).ok(), Some(1));
+    same(&rt, (buf, next.left), (*b"c", 1));
 }
 
 #[test]
-fn budget_of_sixteen_reads(rt: HostRuntime) -> Result<(), Fail> {
-    let alloc = rt.alloc();
-    let mut sent = Vec::new(alloc);
-    let mut source = VecDeque::new(alloc);
-    for number in 0..20 * 4096 {
-        let byte = u8::try_from(number % 251).expect(&rt, "below 251");
-        sent.push(byte)?;
-        source.push_back(byte)?;
+fn portions(rt: HostRuntime) {
+    let mut source: &[u8] = b"abcdefgh";
+    let mut buf = [0; 5];
+    let mut reader = Portion::new(&mut source, 3);
+    for (most, wanted) in [
+        (3, *b"abc\0\0"),
+        (0, *b"dbc\0\0"),
+        (9, *b"efgh\0"),
+        (9, *b"efgh\0"),
+    ] {
+        reader.most = most;
+        assert!(rt; reader.read(&mut buf).is_ok());
+        same(&rt, buf, wanted);
     }
-    let mut got = Vec::new(alloc);
-    let mut budget = Budget::new(source, 16);
-    assert!(rt; !budget.is_used_up());
-    same(
-        &rt,
-        drain(&mut budget, &mut got)?,
-        (16, Some(ErrorKind::WouldBlock)),
-    );
-    assert!(rt; budget.is_used_up());
-    same(&rt, got.len(), 16 * 4096);
-    // it stays used up
-    same(
-        &rt,
-        drain(&mut budget, &mut got)?,
-        (0, Some(ErrorKind::WouldBlock)),
-    );
-    same(&rt, got.len(), 16 * 4096);
-    // the next turn goes on where this one stopped, and ends before its budget does
-    let mut next = Budget::new(budget.reader, 16);
-    same(&rt, drain(&mut next, &mut got)?, (4, None));
-    assert!(rt; !next.is_used_up());
-    same(&rt, next.left, 11);
-    same(&rt, got, sent);
-    Ok(())
-}
-
-#[test]
-fn budget_of_no_read(rt: HostRuntime) -> Result<(), Fail> {
-    let mut source = VecDeque::new(rt.alloc());
-    source.push_back(7)?;
-    let mut budget = Budget::new(source, 0);
-    assert!(rt; budget.is_used_up());
-    let mut buf = [0; 8];
-    assert!(rt; budget.read(&mut buf).is_err());
-    same(&rt, budget.reader.len(), 1);
-    Ok(())
 }
 
 // ---- how far one may be ahead
 
+/// What is done to a credit that began with 8: so many are spent, the mark is set, what is before it confirmed, or it has another size; and
+/// then how many are left, whether any was spent since the mark, and whether half of all is free.
+const CREDITS: [(&str, u32, u32, bool, bool); 25] = [
+    ("resize", 8, 8, false, true),
+    ("spend", 3, 5, true, true),
+    // the mark is behind three; two more come, and three
+    ("mark", 0, 5, false, true),
+    ("spend", 2, 3, true, false),
+    ("spend", 3, 0, true, false),
+    // the three are handed out, the five are not
+    ("confirm", 0, 3, true, false),
+    ("mark", 0, 3, false, false),
+    ("confirm", 0, 8, false, true),
+    // one at least
+    ("resize", 0, 1, false, true),
+    ("spend", 1, 0, true, false),
+    ("mark", 0, 0, false, false),
+    ("confirm", 0, 1, false, true),
+    // of three, two are half
+    ("resize", 3, 3, false, true),
+    ("spend", 1, 2, true, true),
+    ("spend", 1, 1, true, false),
+    // fewer than are out leave none
+    ("resize", 1, 0, true, false),
+    ("resize", 0, 0, true, false),
+    ("mark", 0, 0, false, false),
+    ("confirm", 0, 1, false, true),
+    // no more are counted than a number holds
+    ("spend", u32::MAX, 0, true, false),
+    ("spend", 1, 0, true, false),
+    ("mark", 0, 0, false, false),
+    ("spend", u32::MAX, 0, true, false),
+    ("mark", 0, 0, false, false),
+    ("confirm", 0, 1, false, true),
+];
+
 #[test]
 fn credit_by_turns(rt: HostRuntime) {
     let mut credit = Credit::new(8);
-    same(&rt, credit.left(), 8);
-    same(&rt, credit.has_spent(), false);
-    credit.spend(3);
-    same(&rt, credit.left(), 5);
-    same(&rt, credit.has_spent(), true);
-    // the mark is behind three; two more come
-    credit.mark();
-    same(&rt, credit.has_spent(), false);
-    credit.spend(2);
-    same(&rt, credit.left(), 3);
-    same(&rt, credit.is_half_free(), false);
-    credit.spend(3);
-    same(&rt, credit.left(), 0);
-    // the three are handed out, the five are not
-    credit.confirm();
-    same(&rt, credit.left(), 3);
-    same(&rt, credit.is_half_free(), false);
-    credit.mark();
-    credit.confirm();
-    same(&rt, credit.left(), 8);
-    same(&rt, credit.is_half_free(), true);
-}
-
-#[test]
-fn credit_at_its_edges(rt: HostRuntime) {
-    let mut one = Credit::new(0);
-    same(&rt, one.left(), 1);
-    one.spend(1);
-    same(&rt, one.left(), 0);
-    same(&rt, one.is_half_free(), false);
-    one.mark();
-    one.confirm();
-    same(&rt, one.is_half_free(), true);
-    // of three, two are half
-    let mut three = Credit::new(3);
-    three.spend(1);
-    same(&rt, three.is_half_free(), true);
-    three.spend(1);
-    same(&rt, three.is_half_free(), false);
-    // fewer than are out leave none
-    three.resize(1);
-    same(&rt, three.left(), 0);
-    three.resize(0);
-    three.mark();
-    three.confirm();
-    same(&rt, three.left(), 1);
-    three.spend(u32::MAX);
-    three.spend(1);
-    same(&rt, three.left(), 0);
-    three.mark();
-    three.spend(u32::MAX);
-    three.mark();
-    three.confirm();
-    same(&rt, three.left(), 1);
-}
-
-#[test]
-fn portions(rt: HostRuntime) -> Result<(), Fail> {
-    let mut source: &[u8] = b"abcdefgh";
-    let mut buf = [0; 5];
-    let mut reader = Portion::new(&mut source, 3);
-    same(&rt, reader.read(&mut buf)?, 3);
-    same(&rt, buf, *b"abc\0\0");
-    reader.most = 0;
-    same(&rt, reader.read(&mut buf)?, 1);
-    same(&rt, buf, *b"dbc\0\0");
-    reader.most = 9;
-    same(&rt, reader.read(&mut buf)?, 4);
-    same(&rt, buf, *b"efgh\0");
-    same(&rt, reader.read(&mut buf)?, 0);
-    Ok(())
+    for (verb, events, left, has_spent, is_half_free) in CREDITS {
+        match verb {
+            "spend" => credit.spend(events),
+            "mark" => credit.mark(),
+            "confirm" => credit.confirm(),
+            _ => credit.resize(events),
+        }
+        same(&rt, credit.left(), left);
+        same(&rt, credit.has_spent(), has_spent);
+        same(&rt, credit.is_half_free(), is_half_free);
+    }
 }

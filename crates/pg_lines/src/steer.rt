@@ -28,7 +28,7 @@ pub enum Steer {
 }
 
 /// The first word of such a line.
-#[derive(Clone, Copy, Debug, PartialEq, Eq)]
+#[derive(Clone, Copy, PartialEq, Eq)]
 pub(crate) enum Way {
     Dial,
     Undial,

@@ -3,7 +3,6 @@
 use crate::asked::Asked;
 use crate::change::ConfigChange;
 use log::{Level, LevelFilter};
-use pg_ingest::End;
 use pg_wire::{PmuId, Refusal, SubId};
 use std::alloc::Global;
 use std::io::ErrorKind;
@@ -219,8 +218,10 @@ pub enum Detail {
     At(SocketAddr),
     /// By which rule.
     Because(Refusal),
-    /// How a connection ended.
-    Ended(End),
+    /// The other side closed the connection.
+    ClosedByPeer,
+    /// The connection ended by the fault of this number (the numbers of refusals).
+    Fault(u8),
     /// What the system said.
     System(ErrorKind),
     /// The configuration that was announced: its DATA_RATE, and the IDCODEs of its PMUs in their order, 0 behind the last.

@@ -2,7 +2,6 @@
 
 use crate::asked::{why, write_asked, write_done};
 use crate::journal::{Detail, Entry, MOST_PMUS, Notice, Whom};
-use pg_ingest::End;
 use pg_wire::Refusal;
 use std::fmt;
 use std::io::ErrorKind;
@@ -122,7 +121,8 @@ fn write_detail<W: fmt::Write>(
             write!(f, "{joined}{address}")
         }
         Detail::Because(refusal) => write_refusal(*refusal, f),
-        Detail::Ended(end) => write_end(*end, f),
+        Detail::ClosedByPeer => f.write_str(": closed by the other side"),
+        Detail::Fault(number) => write_fault(*number, f),
         Detail::System(kind) => {
             let told = system_words(*kind);
             write!(f, ": {told}")
@@ -173,23 +173,17 @@ fn write_refusal<W: fmt::Write>(refusal: Refusal, f: &mut fmt::Formatter<W>) -> 
     write!(f, ": {number} {name}")
 }
 
-/// How a connection ended.
-fn write_end<W: fmt::Write>(end: End, f: &mut fmt::Formatter<W>) -> fmt::Result {
-    match end {
-        End::Closed => f.write_str(": closed by the other side"),
-        End::Quiet | End::Stalled => Ok(()),
-        End::Fault(number) => {
-            let told = match number {
-                2 => "its bytes begin no frame (2 BadFirst)",
-                3 => "its bytes begin no frame (3 BadSecond)",
-                4 => "its bytes tell a frame of no possible length (4 ShortSize)",
-                39 => "it can't be read",
-                40 => "it can't be written",
-                _ => "a fault",
-            };
-            write!(f, ": {told}")
-        }
-    }
+/// By which fault a connection ended.
+fn write_fault<W: fmt::Write>(number: u8, f: &mut fmt::Formatter<W>) -> fmt::Result {
+    let text = match number {
+        2 => "its bytes begin no frame (2 BadFirst)",
+        3 => "its bytes begin no frame (3 BadSecond)",
+        4 => "its bytes tell a frame of no possible length (4 ShortSize)",
+        39 => "it can't be read",
+        40 => "it can't be written",
+        _ => "a fault",
+    };
+    write!(f, ": {text}")
 }
 
 /// What the system said, in words.

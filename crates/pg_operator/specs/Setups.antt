@@ -312,6 +312,17 @@ abbrev pub path_in : Data → Option Text
 path_in (string s) = if is_path s then Some s else None
 path_in _ = None
 
+-- a name for people: 1 to 64 characters of ASCII that can be printed
+abbrev pub is_printable : ℕ → Bool
+is_printable b = nat_le 32 b && nat_le b 126
+
+abbrev pub is_title : Text → Bool
+is_title w = (nat_lt 0 (length w) && nat_le (length w) 64) && list_all is_printable w
+
+abbrev pub title_in : Data → Option Text
+title_in (string s) = if is_title s then Some s else None
+title_in _ = None
+
 pub record General : Type 0 where
   pub tick_ms : ℕ
   pub ingest : ℕ
@@ -319,6 +330,7 @@ pub record General : Type 0 where
   pub log : LogLevel
   pub control : Option Text
   pub status : Option Endpoint
+  pub name : Option Text
 
 -- the same, of keys that were read
 abbrev pub general_of : GeneralKeys → General
@@ -329,13 +341,15 @@ general_of g = record {
   log = g.log;
   control = option_map (λ s. s.now) g.control;
   status = option_map endpoint g.status;
+  name = option_map (λ s. s.now) g.name;
 }
 
--- 10 milliseconds, one thread each, the level info, no socket and no page, where it is left out
+-- 10 milliseconds, one thread each, the level info, no socket, no page and no name, where it is left out
 abbrev pub general_by : Members → Option General
 general_by ms =
-    option_and_then (λ tick. option_and_then (λ ingest. option_and_then (λ serve. option_and_then (λ log. option_and_then (λ control. option_map
-    (λ status. record { tick_ms = tick; ingest = ingest; serve = serve; log = log; control = control; status = status })
+    option_and_then (λ tick. option_and_then (λ ingest. option_and_then (λ serve. option_and_then (λ log. option_and_then (λ control. option_and_then (λ status. option_map
+    (λ name. record { tick_ms = tick; ingest = ingest; serve = serve; log = log; control = control; status = status; name = name })
+    (absent_or title_in (codes "name") ms))
     (absent_or endpoint_text_in (codes "status") ms))
     (absent_or path_in (codes "control") ms))
     (optional level.Info level_in (codes "log") ms))
@@ -390,6 +404,7 @@ settings s = record {
     log = s.log;
     control = option_map (λ path. string_bytes path) s.control;
     status = option_map endpoint s.status;
+    name = option_map (λ name. string_bytes name) s.name;
   };
 }
 
@@ -415,7 +430,7 @@ setup_by ms =
 
 abbrev pub top_names : List Text
 top_names =
-    codes "tick_ms" ∷ codes "ingest" ∷ codes "serve" ∷ codes "log" ∷ codes "control" ∷ codes "status" ∷ codes "pmu" ∷ codes "subscriber" ∷ []
+    codes "tick_ms" ∷ codes "ingest" ∷ codes "serve" ∷ codes "log" ∷ codes "control" ∷ codes "status" ∷ codes "name" ∷ codes "pmu" ∷ codes "subscriber" ∷ []
 
 abbrev pub setup_in : Members → Option Settings
 setup_in = only top_names setup_by

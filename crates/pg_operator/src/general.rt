@@ -3,7 +3,7 @@ ghost use Rattle.std.specs.Prelude.{◌≡◌, ◌⊎◌, ◌==◌, IfOk, IfErr,
 ghost use Rattle.std.specs.List.{list_all};
 ghost use Rattle.toml.specs.View.{view, table_view};
 ghost use Rattle.pg_lines.specs.Addresses.{endpoint};
-ghost use Rattle.pg_operator.specs.Setups.{absent_or, endpoint_text_in, general_by, general_of, is_path, level_in, level_of, optional, path_in, whole_in};
+ghost use Rattle.pg_operator.specs.Setups.{absent_or, endpoint_text_in, general_by, general_of, is_path, is_printable, is_title, level_in, level_of, optional, path_in, title_in, whole_in};
 
 use crate::{address, table};
 use pg_wire::Refusal;
@@ -49,6 +49,7 @@ pub(crate) struct GeneralKeys<'a> {
     pub(crate) log: LogLevel,
     pub(crate) control: Option<&'a str>,
     pub(crate) status: Option<SocketAddrV4>,
+    pub(crate) name: Option<&'a str>,
 }
 
 /// What the file's own keys say, but for its tables.
@@ -61,6 +62,7 @@ pub(crate) fn general_at(table: &Table) -> Option<GeneralKeys<'_>>
     let log = log_at(table)?;
     let control = control_at(table)?;
     let status = status_at(table)?;
+    let name = name_at(table)?;
     Some(GeneralKeys {
         tick_ms,
         ingest,
@@ -68,6 +70,7 @@ pub(crate) fn general_at(table: &Table) -> Option<GeneralKeys<'_>>
         log,
         control,
         status,
+        name,
     })
 }
 
@@ -127,6 +130,19 @@ fn status_at(table: &Table) -> Option<Option<SocketAddrV4>>
     }
 }
 
+/// The gateway's name, or none where it is left out.
+fn name_at(table: &Table) -> Option<Option<&str>>
+    ensures { option_map (λ o. option_map (λ s. s.now) o) result ≡ absent_or title_in (codes "name") (table_view table.now) }
+{
+    match table::value_at(table, "name") {
+        Some(value) => match name(value) {
+            Some(name) => Some(Some(name)),
+            None => None,
+        },
+        None => Some(None),
+    }
+}
+
 /// A level of the log.
 pub(crate) fn level(value: &Value) -> Option<LogLevel>
     ensures { result ≡ level_in (view value.now) }
@@ -164,6 +180,35 @@ fn no_zero(bytes: &[u8]) -> bool
     ensures { result ≡ list_all (λ b. not (b == 0)) bytes.now }
 {
     bytes.iter().all(|byte| *byte != 0)
+}
+
+/// The most characters of a gateway's name.
+const NAME_LIMIT: usize = 64;
+
+/// A name for people.
+pub(crate) fn name(value: &Value) -> Option<&str>
+    ensures { option_map (λ s. s.now) result ≡ title_in (view value.now) }
+{
+    match value {
+        Value::String(text) if is_title(text.as_bytes()) => Some(text.as_str()),
+        _ => None,
+    }
+}
+
+/// One to 64 characters of ASCII that can be printed.
+fn is_title(bytes: &[u8]) -> bool
+    ensures { result ≡ is_title bytes.now }
+{
+    if bytes.is_empty() || bytes.len() > NAME_LIMIT {
+        return false;
+    }
+    are_printable(bytes)
+}
+
+fn are_printable(bytes: &[u8]) -> bool
+    ensures { result ≡ list_all is_printable bytes.now }
+{
+    bytes.iter().all(|byte| 32 <= *byte && *byte <= 126)
 }
 
 /// A text of its own, where there is one.

@@ -10,7 +10,7 @@ use thiserror::Error;
 use toml::Value;
 
 /// Which table of a setup file.
-#[derive(Clone, Copy, Debug, PartialEq, Eq)]
+#[derive(Clone, Copy, Debug)]
 pub enum Heading {
     /// The file itself.
     File,
@@ -23,7 +23,7 @@ pub enum Heading {
 }
 
 /// A key of a table.
-#[derive(Clone, Copy, Debug)]
+#[derive(Clone, Copy)]
 pub(crate) struct Rule {
     /// Its name.
     pub(crate) name: &'static str,
@@ -52,6 +52,8 @@ pub enum Kind {
     Change,
     /// The path of a socket.
     Path,
+    /// A name for people.
+    Name,
     /// A list of networks.
     Networks,
     /// A list of PMUs.
@@ -87,13 +89,14 @@ macro_rules! optional {
 }
 
 /// The keys of the file itself.
-pub(crate) const TOP: [Rule; 8] = [
+pub(crate) const TOP: [Rule; 9] = [
     optional!("tick_ms", Kind::Whole(1, 1000)),
     optional!("ingest", Kind::Whole(1, 8)),
     optional!("serve", Kind::Whole(1, 8)),
     optional!("log", Kind::Level),
     optional!("control", Kind::Path),
     optional!("status", Kind::Served),
+    optional!("name", Kind::Name),
     required!("pmu", Kind::Tables("[[pmu]]")),
     required!("subscriber", Kind::Tables("[[subscriber]]")),
 ];
@@ -149,6 +152,7 @@ impl fmt::Display for Kind {
             Kind::Path => {
                 f.write_str("the path of a socket, a text of 1 to 107 bytes without a zero byte")
             }
+            Kind::Name => f.write_str("a text of 1 to 64 characters of ASCII that can be printed"),
             Kind::Networks => f.write_str("a list of texts \"A.B.C.D\" or \"A.B.C.D/BITS\""),
             Kind::Grants => f.write_str(
                 "a list of PMUs, each a number or a text \"SOURCE/PMU\", from 1 to 65534",
@@ -231,6 +235,7 @@ impl Kind {
             Kind::Level => general::level(value).is_some(),
             Kind::Change => door::change(value).is_some(),
             Kind::Path => general::path(value).is_some(),
+            Kind::Name => general::name(value).is_some(),
             Kind::Text => matches!(value, Value::String(_)),
             Kind::Networks | Kind::Grants | Kind::Members | Kind::Tables(_) => {
                 return self.misfit_of_list(alloc, value);

@@ -7,7 +7,7 @@ use pg_wire::Refusal;
 use std::alloc::Global;
 
 /// A table of a setup file. Tables of a list are counted from 0, in the order of the file.
-#[derive(Clone, Copy, Debug, PartialEq, Eq)]
+#[derive(Clone, Copy, PartialEq, Eq)]
 pub enum SetupTable {
     /// The file itself.
     File,

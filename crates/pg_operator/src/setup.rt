@@ -39,6 +39,8 @@ pub struct Setup {
     pub control: Option<String>,
     /// The address on which the page and the metrics are served; `None` where they are not.
     pub status: Option<SocketAddrV4>,
+    /// The gateway's name for people: 1 to 64 characters of ASCII that can be printed; `None` for the host's name.
+    pub name: Option<String>,
 }
 
 /// What a setup file asks for (own rule). It is TOML, with these keys and no other:
@@ -50,6 +52,7 @@ pub struct Setup {
 /// | `log` | `"error"`, `"warn"`, `"info"`, `"debug"` | `"info"` |
 /// | `control` | path of a Unix socket: a text of 1 to 107 bytes without a zero byte | no socket |
 /// | `status` | text `A.B.C.D:PORT`, of the page and the metrics | no page |
+/// | `name` | text of 1 to 64 characters of ASCII that can be printed | the host's name |
 /// | `pmu`, `subscriber` | tables | required |
 /// | `pmu.id` | 1 to 65534 | required |
 /// | `pmu.source` | 1 to 65534 | equal to `id` |
@@ -140,13 +143,14 @@ fn edits_in(alloc: Global, table: &Table) -> Result<Vec<Edit>, Refusal>
 }
 
 /// The keys of the file's own table.
-const TOP_KEYS: [&str; 8] = [
+const TOP_KEYS: [&str; 9] = [
     "tick_ms",
     "ingest",
     "serve",
     "log",
     "control",
     "status",
+    "name",
     "pmu",
     "subscriber",
 ];
@@ -167,6 +171,7 @@ fn setup_in(alloc: Global, table: &Table) -> Result<Setup, Refusal>
     let sources = source::sources_of(alloc, pmus.as_slice())?;
     let subscribers = subscribers_at(alloc, table)?;
     let control = general::own_text(alloc, general.control)?;
+    let name = general::own_text(alloc, general.name)?;
     let mut edits = pmu::edits_of(alloc, pmus.as_slice())?;
     let mut rest = subscribers.edits;
     edits.append(&mut rest)?;
@@ -182,6 +187,7 @@ fn setup_in(alloc: Global, table: &Table) -> Result<Setup, Refusal>
         log: general.log,
         control,
         status: general.status,
+        name,
     })
 }
 

@@ -1,17 +1,14 @@
-//! Tests of pg_operator, pg_operator and pg_check, as their callers see them. They stand in a crate of their own, so that the gate proves each of these once.
+//! Tests of pg_lines, pg_operator and pg_reload, as their callers see them. They stand in a crate of their own, so that the gate proves each of these once.
+//! What `check` says of a setup file is tested in tests/test_setups.py, lines about sources and ports in tests/test_lines.py.
 #![tactic(auto)]
 
 #[cfg(test)]
 mod asserts;
 #[cfg(test)]
-mod checking;
-#[cfg(test)]
-mod faults;
-#[cfg(test)]
-mod general;
-#[cfg(test)]
 mod lines;
 #[cfg(test)]
-mod steers;
+mod reloads;
 #[cfg(test)]
-mod tests;
+mod setups;
+#[cfg(test)]
+mod told;

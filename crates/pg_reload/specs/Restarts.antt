@@ -6,7 +6,7 @@ use Rattle.pg_operator.specs.declared.setup.Setup.{Setup}
 use Rattle.pg_lines.specs.Addresses.{Endpoint, endpoint}
 use Rattle.pg_lines.specs.Words.{Text}
 use Rattle.pg_reload.specs.declared.restarts.Restart.{Restart}
-use Rattle.pg_reload.specs.declared.restarts.Restart.TheVariants.{TickMs, Ingest, Serve, Control, Status}
+use Rattle.pg_reload.specs.declared.restarts.Restart.TheVariants.{TickMs, Ingest, Serve, Control, Status, Name}
 
 -- the values of these keys
 pub record Keys : Type 0 where
@@ -15,6 +15,7 @@ pub record Keys : Type 0 where
   pub serve : ℕ
   pub control : Option Text
   pub status : Option Endpoint
+  pub name : Option Text
 
 abbrev pub keys_of : Setup → Keys
 keys_of s = record {
@@ -23,6 +24,7 @@ keys_of s = record {
   serve = s.serve;
   control = option_map (λ path. string_bytes path) s.control;
   status = option_map endpoint s.status;
+  name = option_map (λ name. string_bytes name) s.name;
 }
 
 -- the host and the port are the same
@@ -35,5 +37,6 @@ told_unless is_same key = if is_same then [] else key ∷ []
 
 abbrev pub restarts_between : Keys → Keys → List Restart
 restarts_between old new =
-    (((told_unless (old.tick_ms == new.tick_ms) TickMs ++ told_unless (old.ingest == new.ingest) Ingest) ++ told_unless (old.serve == new.serve) Serve)
-    ++ told_unless (option_eq bytes_eq old.control new.control) Control) ++ told_unless (option_eq endpoint_eq old.status new.status) Status
+    ((((told_unless (old.tick_ms == new.tick_ms) TickMs ++ told_unless (old.ingest == new.ingest) Ingest) ++ told_unless (old.serve == new.serve) Serve)
+    ++ told_unless (option_eq bytes_eq old.control new.control) Control) ++ told_unless (option_eq endpoint_eq old.status new.status) Status)
+    ++ told_unless (option_eq bytes_eq old.name new.name) Name

@@ -23,6 +23,8 @@ pub enum Restart {
     Control,
     /// `status`.
     Status,
+    /// `name`.
+    Name,
 }
 
 /// Tells a key, unless its values are the same.
@@ -36,8 +38,8 @@ fn tell(keys: &mut Vec<Restart>, key: Restart, is_same: bool) -> Result<(), Refu
     Ok(())
 }
 
-/// Whether both are one path, or both none.
-fn is_same_path(one: &Option<String>, other: &Option<String>) -> bool
+/// Whether both are one text, or both none.
+fn is_same_text(one: &Option<String>, other: &Option<String>) -> bool
     ensures { result ≡ option_eq bytes_eq (option_map (λ s. string_bytes s) one.now) (option_map (λ s. string_bytes s) other.now) }
 {
     match (one, other) {
@@ -73,9 +75,11 @@ pub(crate) fn restarts_between(
     tell(&mut keys, Restart::TickMs, old.tick_ms == new.tick_ms)?;
     tell(&mut keys, Restart::Ingest, old.ingest == new.ingest)?;
     tell(&mut keys, Restart::Serve, old.serve == new.serve)?;
-    let is_same = is_same_path(&old.control, &new.control);
+    let is_same = is_same_text(&old.control, &new.control);
     tell(&mut keys, Restart::Control, is_same)?;
     let is_same = is_same_address(old.status, new.status);
     tell(&mut keys, Restart::Status, is_same)?;
+    let is_same = is_same_text(&old.name, &new.name);
+    tell(&mut keys, Restart::Name, is_same)?;
     Ok(keys)
 }

@@ -1,7 +1,7 @@
 -- The port of a subscriber by its rules.
 use Rattle.std.specs.Prelude.{ℕ, None, option_map}
 use Rattle.pg_operator.specs.declared.door.PortRules.{PortRules}
-use Rattle.pg_service.specs.Visits.{Doorway}
+use Rattle.pg_subscribers.specs.Visits.{Doorway}
 use Rattle.pg_run.specs.Limits.{limit_of}
 
 -- It has just these rules, and nobody is connected.

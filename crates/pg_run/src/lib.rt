@@ -3,6 +3,7 @@
 
 mod failure;
 mod making;
+mod naming;
 mod opening;
 mod operator;
 mod patient;

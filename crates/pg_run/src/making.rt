@@ -13,11 +13,10 @@ use crate::workers::{Worker, share_ports, share_sources, told_as};
 use pg_console::{Counter, Told};
 use pg_log::{Detail, Entry, Journal, Notice, Whom};
 use pg_operator::Setup;
-use pg_service::{
-    ConnectionsWorker, Dial, Logger, Neighbours, Port, PortWorker, ResolverWorker, SourceWorker,
-    Ticker, Waiting,
-};
+use pg_service::{ConnectionsWorker, Dial, Logger, Neighbours, ResolverWorker, Waiting};
 use pg_shared::{Named, Seat, Shared, SharedGate};
+use pg_sources::{SourceWorker, Ticker};
+use pg_subscribers::{Port, PortWorker};
 use pg_window::Window;
 use pg_wire::Refusal;
 use std::alloc::Global;
@@ -31,6 +30,7 @@ use std::time::{Duration, Instant};
 pub(crate) struct Place<'a> {
     pub(crate) files: &'a HostRuntime,
     pub(crate) file: &'a str,
+    pub(crate) name: &'a str,
     pub(crate) setup: &'a Mutex<Setup>,
     // It is held while a reload does what changed.
     pub(crate) turn: &'a Mutex<()>,

@@ -368,5 +368,6 @@ fn key_of(restart: Restart) -> &'static str {
         Restart::Serve => "serve",
         Restart::Control => "control",
         Restart::Status => "status",
+        Restart::Name => "name",
     }
 }

@@ -7,6 +7,7 @@ ghost use Rattle.pg_run.specs.Limits.{guards_by, limit_of};
 
 use crate::failure::{Failure, not_bound};
 use crate::making::Place;
+use crate::naming::name_of;
 use crate::opening::Openings;
 use crate::operator::StandardIo;
 use crate::patient::Patient;
@@ -22,7 +23,8 @@ use pg_console::{SetUp, set_up};
 use pg_limits::{AheadGuard, ClockGuard};
 use pg_log::Journal;
 use pg_operator::{BoundBy, PortRules, Setup, SourceRules, read_setup};
-use pg_service::{Address, Board, Dial, DoorRules, Guards, Logger, Port, Registered};
+use pg_service::{Address, Board, Dial, DoorRules, Guards, Logger, Registered};
+use pg_subscribers::Port;
 use pg_wire::{PmuId, Refusal, SubId};
 use std::alloc::Global;
 use std::io::{BufReader, BufWriter};
@@ -81,12 +83,14 @@ fn run_at<'a, R: Runtime + Alloc<A = Global>>(
     lines: StandardIo<'a, R>,
     stop: &'a AtomicBool,
 ) -> Result<(), Failure> {
-    let (setup, in_force) = setups_in(files, rt.alloc(), start.file)?;
+    let (mut setup, in_force) = setups_in(files, rt.alloc(), start.file)?;
+    let name = name_of(files, rt.alloc(), setup.name.take())?;
     let in_force = Mutex::new(in_force);
     let turn = Mutex::new(());
     let place = Place {
         files,
         file: start.file,
+        name: name.as_str(),
         setup: &in_force,
         turn: &turn,
     };
@@ -103,7 +107,7 @@ fn run_by<'a, R: Runtime + Alloc<A = Global>>(
     stop: &'a AtomicBool,
 ) -> Result<(), Failure> {
     let alloc = rt.alloc();
-    let served = Served::of(start, &setup);
+    let served = Served::of(start, place.name, &setup);
     let edits = mem::replace(&mut setup.edits, Vec::new(alloc));
     let SetUp {
         shared,

@@ -9,6 +9,7 @@ use std::fmt;
 #[derive(Clone, Copy)]
 pub(crate) struct Served<'a> {
     start: Start<'a>,
+    name: &'a str,
     pmus: usize,
     sources: usize,
     subscribers: usize,
@@ -17,9 +18,10 @@ pub(crate) struct Served<'a> {
 
 impl<'a> Served<'a> {
     /// What is served by this setup.
-    pub(crate) fn of(start: Start<'a>, setup: &Setup) -> Served<'a> {
+    pub(crate) fn of(start: Start<'a>, name: &'a str, setup: &Setup) -> Served<'a> {
         let mut served = Served {
             start,
+            name,
             pmus: 0,
             sources: setup.links.len(),
             subscribers: 0,
@@ -41,7 +43,11 @@ impl<'a> Served<'a> {
 impl fmt::Display for Served<'_> {
     fn fmt<W: fmt::Write>(&self, f: &mut fmt::Formatter<W>) -> fmt::Result {
         let Start { file, version, .. } = self.start;
-        write!(f, "the service starts: pdcgw {version}, setup {file}, ")?;
+        write!(
+            f,
+            "the service starts: pdcgw {version}, name {}, setup {file}, ",
+            self.name
+        )?;
         let (pmus, sources) = (self.pmus, self.sources);
         write!(f, "{pmus} PMUs, {sources} sources that are called, ")?;
         let (subscribers, streams) = (self.subscribers, self.streams);

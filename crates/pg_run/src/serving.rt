@@ -11,9 +11,10 @@ use crate::workers::{Worker, mailbox, mailboxes};
 use pg_console::{Reloads, Told, serve_by};
 use pg_log::Journal;
 use pg_service::{
-    Board, Dial, Mailbox, Neighbours, Port, PortOrder, Registered, Resolver, SourceOrder, Waiting,
+    Board, Dial, Mailbox, Neighbours, PortOrder, Registered, Resolver, SourceOrder, Waiting,
 };
 use pg_shared::{Named, Seat, Shared};
+use pg_subscribers::Port;
 use pg_wire::Refusal;
 use std::alloc::Global;
 use std::net::Net;
@@ -118,6 +119,7 @@ fn workers_of<'a, R: Runtime, N: Named>(
         told: Told {
             sources: &boxes.sources,
             neighbours,
+            name: place.name,
             registered: &known.registered,
             window: boxes.window.as_ref(),
             reloads: boxes.reloads.as_ref(),

@@ -9,11 +9,10 @@ use crate::reload_worker::ReloadWorker;
 use crate::reloading::InForce;
 use crate::runtime::Runtime;
 use pg_console::{Counter, Seated};
-use pg_service::{
-    ConnectionsWorker, Dial, Logger, Mailbox, Port, PortWorker, ResolverWorker, Rota, SourceWorker,
-    Ticker, Waiting,
-};
+use pg_service::{ConnectionsWorker, Dial, Logger, Mailbox, ResolverWorker, Rota, Waiting};
 use pg_shared::{Named, Seat, Work};
+use pg_sources::{SourceWorker, Ticker};
+use pg_subscribers::{Port, PortWorker};
 use pg_window::Window;
 use pg_wire::Refusal;
 use std::alloc::Global;

@@ -1,4 +1,3 @@
--- Lemmas of the running service.
-pub mod Own
-pub mod Calls
+-- Lemmas of what the workers share.
+pub mod Taken
 pub mod Ordered

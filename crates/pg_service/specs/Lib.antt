@@ -1,5 +1,3 @@
--- Definitions that the contracts of the running service cite, in the order in which to read them.
-pub mod Lines
+-- Definitions that the contracts of what the workers share cite, in the order in which to read them.
 pub mod Posts
-pub mod Visits
 pub mod Setting

@@ -7,23 +7,26 @@ use std::mem;
 use std::rt::Clock;
 use std::time::{Duration, Instant};
 
+/// The reads of one turn of a connection.
+pub const READS: u32 = 16;
+
 /// The places, of sources or of ports, that a worker serves in this turn and in the next, and when something is due at one of them.
 #[derive(Drop)]
-pub(crate) struct Agenda {
+pub struct Agenda {
     // Those that are served in the next turn, and those of this one.
     ready: Vec<usize>,
     serving: Vec<usize>,
     /// When something is due, or before; None where nothing is.
-    pub(crate) due: Option<Instant>,
+    pub due: Option<Instant>,
     /// Until when nobody is served, but where the worker is woken; None where those that are ready are.
-    pub(crate) held: Option<Instant>,
+    pub held: Option<Instant>,
     /// The clock, as it was read last.
-    pub(crate) now: Instant,
+    pub now: Instant,
 }
 
 impl Agenda {
     /// Nothing is to be served, and nothing is due.
-    pub(crate) fn new(alloc: Global, now: Instant) -> Agenda {
+    pub fn new(alloc: Global, now: Instant) -> Agenda {
         Agenda {
             ready: Vec::new(alloc),
             serving: Vec::new(alloc),
@@ -38,19 +41,19 @@ impl Agenda {
     /// # Errors
     ///
     /// There is no memory for it.
-    pub(crate) fn reserve(&mut self, places: usize) -> Result<(), AllocError> {
+    pub fn reserve(&mut self, places: usize) -> Result<(), AllocError> {
         self.ready.reserve(places)?;
         self.serving.reserve(places)
     }
 
     /// Adds a place that is not among those that are ready, and tells whether there was room.
-    pub(crate) fn add(&mut self, place: usize) -> bool {
+    pub fn add(&mut self, place: usize) -> bool {
         self.ready.push(place).is_ok()
     }
 
     /// Waits for what comes first: a socket that is ready, a wake, or what is due. Then reads the clock: where it can't be read, it is
     /// as late as it was.
-    pub(crate) fn wait<R: Clock>(&mut self, rt: &R, waiting: &mut Waiting, journal: &Journal) {
+    pub fn wait<R: Clock>(&mut self, rt: &R, waiting: &mut Waiting, journal: &Journal) {
         waiting.wait(rt, journal, self.patience());
         match Instant::now(rt) {
             Ok(now) => self.now = now,
@@ -71,23 +74,23 @@ impl Agenda {
     }
 
     /// Whether something is due by now.
-    pub(crate) fn is_due(&self) -> bool {
+    pub fn is_due(&self) -> bool {
         self.due.is_some_and(|due| due <= self.now)
     }
 
     /// Something is due at this time, or nothing is.
-    pub(crate) fn expect(&mut self, due: Option<Instant>) {
+    pub fn expect(&mut self, due: Option<Instant>) {
         self.due = sooner(self.due, due);
     }
 
     /// Those that are ready are served from now on; who is added while they are waits for the next turn.
-    pub(crate) fn begin(&mut self) {
+    pub fn begin(&mut self) {
         self.serving.clear();
         mem::swap(&mut self.ready, &mut self.serving);
     }
 
     /// Those of this turn from this one on are served in the next one, before those that were added meanwhile.
-    pub(crate) fn put_off(&mut self, from: usize) {
+    pub fn put_off(&mut self, from: usize) {
         let mut kept = 0;
         for at in from..self.serving.len() {
             if let Some(place) = self.serving.get(at).copied() {
@@ -109,12 +112,12 @@ impl Agenda {
     }
 
     /// How many are served in this turn.
-    pub(crate) fn served(&self) -> usize {
+    pub fn served(&self) -> usize {
         self.serving.len()
     }
 
     /// Those that are served in this turn, one after another.
-    pub(crate) fn serving(&self, at: usize) -> Option<usize> {
+    pub fn serving(&self, at: usize) -> Option<usize> {
         self.serving.get(at).copied()
     }
 }

@@ -20,7 +20,7 @@ const LOOKS: u32 = 1_000;
 const PAUSE_MS: u64 = 1;
 
 /// How the connection to a source stands.
-#[derive(Clone, Copy, Debug, PartialEq, Eq)]
+#[derive(Clone, Copy, Debug)]
 pub enum Reach {
     /// It is connected.
     Up,
@@ -33,7 +33,7 @@ pub enum Reach {
 }
 
 /// A source, as its worker tells of it.
-#[derive(Debug, Drop)]
+#[derive(Drop)]
 pub struct SourceReport {
     /// The source.
     pub source: PmuId,
@@ -50,7 +50,7 @@ pub struct SourceReport {
 }
 
 /// A subscriber's port, as its worker tells of it.
-#[derive(Clone, Copy, Debug)]
+#[derive(Clone, Copy)]
 pub struct PortReport {
     /// The subscriber.
     pub sub: SubId,
@@ -67,7 +67,7 @@ pub struct PortReport {
 }
 
 /// What workers have told.
-#[derive(Debug, Drop)]
+#[derive(Drop)]
 pub struct Reports {
     /// The sources of all workers that answered.
     pub sources: Vec<SourceReport>,
@@ -130,7 +130,7 @@ impl Board {
     }
 
     /// The clocks of the sources of the worker of this number stand so. Where there is no memory for it, that is noted.
-    pub(crate) fn put_up<R: Wait>(&self, rt: &R, journal: &Journal, worker: usize, own: Clocks) {
+    pub fn put_up<R: Wait>(&self, rt: &R, journal: &Journal, worker: usize, own: Clocks) {
         let mut held = self.clocks.lock(rt);
         for _ in held.len()..worker.saturating_add(1) {
             if held.push(Clocks::none()).is_err() {
@@ -144,7 +144,7 @@ impl Board {
     }
 
     /// How the clocks of the sources of all workers stand.
-    pub(crate) fn clocks<R: Wait>(&self, rt: &R) -> Clocks {
+    pub fn clocks<R: Wait>(&self, rt: &R) -> Clocks {
         let mut all = Clocks::none();
         let held = self.clocks.lock(rt);
         for own in held.iter() {
@@ -160,7 +160,7 @@ impl Board {
 
     /// The newest data of the sources of the worker of this number are of these times, in milliseconds since 1970-01-01 00:00 UTC. Those of the
     /// sources of all workers are put into `all`. Where there is no memory for one, that is noted.
-    pub(crate) fn exchange_times<R: Wait>(
+    pub fn exchange_times<R: Wait>(
         &self,
         rt: &R,
         journal: &Journal,
@@ -231,7 +231,7 @@ impl Board {
     }
 
     /// A worker tells of its sources, unless that asking is over. Where there is no memory for it, that is noted.
-    pub(crate) fn tell_sources<R: Wait>(
+    pub fn tell_sources<R: Wait>(
         &self,
         rt: &R,
         journal: &Journal,
@@ -251,7 +251,7 @@ impl Board {
     }
 
     /// A worker tells of its ports, unless that asking is over. Where there is no memory for it, that is noted.
-    pub(crate) fn tell_ports<R: Wait>(
+    pub fn tell_ports<R: Wait>(
         &self,
         rt: &R,
         journal: &Journal,

@@ -42,7 +42,7 @@ impl Connections {
     }
 
     /// Has the table read once more.
-    pub(crate) fn ask(&self) {
+    pub fn ask(&self) {
         // Most often it is asked for already, and then nothing is written that other processors hold.
         if !self.is_wanted.load(Ordering::SeqCst) {
             self.is_wanted.store(true, Ordering::SeqCst);
@@ -50,12 +50,12 @@ impl Connections {
     }
 
     /// How often the table was read.
-    pub(crate) fn reads(&self) -> u64 {
+    pub fn reads(&self) -> u64 {
         self.reads.load(Ordering::SeqCst)
     }
 
     /// How many bytes are not acknowledged of those that were sent from this port to that peer.
-    pub(crate) fn unacknowledged<R: Wait>(&self, rt: &R, port: u16, peer: SocketAddr) -> u32 {
+    pub fn unacknowledged<R: Wait>(&self, rt: &R, port: u16, peer: SocketAddr) -> u32 {
         let IpAddr::V4(host) = peer.ip() else {
             return 0;
         };

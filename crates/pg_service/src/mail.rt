@@ -1,7 +1,7 @@
 //! What workers are told while they run.
 
-use crate::door::DoorRules;
-use crate::sources::Dial;
+use crate::rules::DoorRules;
+use crate::targets::Dial;
 use mio::net::TcpListener;
 use mio::{Poll, Token, Waker};
 use pg_log::{Journal, Notice};
@@ -125,27 +125,27 @@ impl<O: Drop> Mailbox<O> {
     }
 
     /// Whether the worker was woken since it took its orders last.
-    pub(crate) fn is_pending(&self) -> bool {
+    pub fn is_pending(&self) -> bool {
         self.pending.load(Ordering::SeqCst)
     }
 
     /// The number of a turn that begins later than now, if the worker is woken now.
-    pub(crate) fn next_turn(&self) -> usize {
+    pub fn next_turn(&self) -> usize {
         self.begun.load(Ordering::SeqCst).wrapping_add(1)
     }
 
     /// Whether the worker has ended the turn of this number.
-    pub(crate) fn has_ended(&self, turn: usize) -> bool {
+    pub fn has_ended(&self, turn: usize) -> bool {
         self.ended.load(Ordering::SeqCst) >= turn
     }
 
     /// From now on somebody waits until the worker ends a turn.
-    pub(crate) fn wait_for_end(&self) {
+    pub fn wait_for_end(&self) {
         self.is_awaited.store(true, Ordering::SeqCst);
     }
 
     /// The worker ends the turn that it began last, and is told whether somebody waits for that.
-    pub(crate) fn end_turn(&self) -> bool {
+    pub fn end_turn(&self) -> bool {
         let begun = self.begun.load(Ordering::SeqCst);
         self.ended.store(begun, Ordering::SeqCst);
         self.is_awaited.load(Ordering::SeqCst) && self.is_awaited.swap(false, Ordering::SeqCst)

@@ -135,7 +135,7 @@ impl Resolver {
     }
 
     /// Has a name looked up, and reports whether there was memory for it.
-    pub(crate) fn ask<R: Wait>(&self, rt: &R, journal: &Journal, lookup: Lookup) -> bool {
+    pub fn ask<R: Wait>(&self, rt: &R, journal: &Journal, lookup: Lookup) -> bool {
         let is_left = self.names.waiting.lock(rt).push(lookup).is_ok();
         if is_left {
             self.under_way.fetch_add(1, Ordering::SeqCst);

@@ -14,7 +14,7 @@ use std::{io, thread};
 const EVENTS: usize = 256;
 
 /// How long a turn waits at most, so that no worker misses that it is to stop.
-pub(crate) const PATIENCE_MS: u64 = 1_000;
+pub const PATIENCE_MS: u64 = 1_000;
 
 /// How long a worker rests where the system can't wait.
 const FAULT_MS: u64 = 100;
@@ -97,7 +97,7 @@ impl Waiting {
 }
 
 /// The sooner of two times; None is never.
-pub(crate) fn sooner(one: Option<Instant>, other: Option<Instant>) -> Option<Instant> {
+pub fn sooner(one: Option<Instant>, other: Option<Instant>) -> Option<Instant> {
     match (one, other) {
         (Some(one), Some(other)) => Some(one.min(other)),
         (one, None) => one,

@@ -1,5 +1,5 @@
-//! Tests of pg_service, as its callers see it: over memory, with a clock that the test moves. They stand in a crate of their
-//! own, so that the gate proves that crate once.
+//! Tests of pg_service, pg_sources, pg_subscribers and pg_console, as their callers see them: over memory, with a clock that the test
+//! moves. They stand in a crate of their own, so that the gate proves those crates once.
 #![tactic(auto)]
 
 #[cfg(test)]
@@ -7,9 +7,13 @@ mod asserts;
 #[cfg(test)]
 mod doors;
 #[cfg(test)]
+mod errors;
+#[cfg(test)]
 mod frames;
 #[cfg(test)]
 mod layouts;
+#[cfg(test)]
+mod lines;
 #[cfg(test)]
 mod logging;
 #[cfg(test)]
@@ -17,7 +21,11 @@ mod patience;
 #[cfg(test)]
 mod registering;
 #[cfg(test)]
+mod reloads;
+#[cfg(test)]
 mod setups;
+#[cfg(test)]
+mod sharing;
 #[cfg(test)]
 mod sources;
 #[cfg(test)]

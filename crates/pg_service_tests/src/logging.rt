@@ -1,7 +1,6 @@
 //! What the log says, and how often.
 use crate::asserts::same;
 use crate::frames::{key, source, subscriber};
-use pg_ingest::End;
 use pg_log::{Asked, ConfigChange, Detail, Digest, Entry, Journal, Notice, Whom};
 use pg_wire::Refusal;
 use std::alloc::Global;
@@ -234,7 +233,7 @@ fn lines_of_the_log(rt: HostRuntime) {
     let announced = of_source(&rt, Notice::Announced, Detail::Config(-2, pmus));
     let expected = "source 7: announced its configuration, DATA_RATE -2, PMUs 11 12";
     assert!(rt; says(announced, expected));
-    let ended = of_source(&rt, Notice::SourceEnded, Detail::Ended(End::Closed));
+    let ended = of_source(&rt, Notice::SourceEnded, Detail::ClosedByPeer);
     let expected = "source 7: the connection ended; it is called again: closed by the other side";
     assert!(rt; says(ended, expected));
     let mut ignored = of_source(&rt, Notice::Ignored, Detail::Because(Refusal::BadCheck));
@@ -249,7 +248,7 @@ fn lines_of_the_log(rt: HostRuntime) {
     assert!(rt; says(connected, "subscriber 20: connected from 10.1.2.3:4712"));
     let refused = of_subscriber(&rt, 20, Notice::Refused, Detail::Because(Refusal::Busy));
     assert!(rt; says(refused, "subscriber 20: a connection was refused: 34 Busy"));
-    let ended = of_subscriber(&rt, 20, Notice::GuestEnded, Detail::Ended(End::Fault(3)));
+    let ended = of_subscriber(&rt, 20, Notice::GuestEnded, Detail::Fault(3));
     let expected = "subscriber 20: the connection ended: its bytes begin no frame (3 BadSecond)";
     assert!(rt; says(ended, expected));
     let started = of_subscriber(&rt, 20, Notice::Started, Detail::Stream(101));

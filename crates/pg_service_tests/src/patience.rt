@@ -2,7 +2,8 @@
 use crate::asserts::same;
 use crate::frames::{after, gateway, subscriber};
 use pg_limits::{Allow, OnChange, Overdue, Patience};
-use pg_service::{Door, DoorRules, Knock, Watched};
+use pg_service::{DoorRules, Watched};
+use pg_subscribers::{Door, Knock};
 use std::net::Ipv4Addr;
 use std::process::Abort;
 use std::test::*;

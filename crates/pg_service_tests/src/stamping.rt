@@ -1,8 +1,8 @@
 //! The ages of data frames as they go out.
 
 use crate::asserts::same;
-use pg_service::Stamps;
 use pg_status::Histogram;
+use pg_subscribers::Stamps;
 use std::test::*;
 
 /// 2026-11-24 00:00:00 UTC in seconds since 1970.

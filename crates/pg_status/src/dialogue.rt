@@ -62,7 +62,7 @@ pub enum Turned {
 }
 
 /// How the reads of a call ended.
-#[derive(Clone, Copy, Debug, PartialEq, Eq)]
+#[derive(Clone, Copy, PartialEq, Eq)]
 enum Flow {
     Blocked,
     UsedUp,

@@ -20,7 +20,7 @@ const PIECE: usize = 1024;
 const PLAIN: &str = "text/plain; charset=utf-8";
 
 /// How far a connection is.
-#[derive(Clone, Copy, Debug, PartialEq, Eq)]
+#[derive(Clone, Copy, PartialEq, Eq)]
 enum Stage {
     /// The head has not come whole.
     Hears,
@@ -33,7 +33,7 @@ enum Stage {
 }
 
 /// What is to be done with a connection that was served.
-#[derive(Clone, Copy, Debug, PartialEq, Eq)]
+#[derive(Clone, Copy)]
 pub enum Step {
     /// Nothing, until its socket is ready.
     Waits,
@@ -49,7 +49,7 @@ pub enum Step {
 }
 
 /// How the reads of a call ended.
-#[derive(Clone, Copy, Debug, PartialEq, Eq)]
+#[derive(Clone, Copy, PartialEq, Eq)]
 enum Flow {
     Blocked,
     UsedUp,

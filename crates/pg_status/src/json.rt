@@ -6,8 +6,8 @@ use crate::snapshot::{
 };
 use std::alloc::{AllocError, Global};
 
-/// A snapshot and what is remembered of its subscribers, as one JSON text (own rule): an object with the lists `sources`,
-/// `subscribers` and `streams`. The members are named as the fields of the states; what is not there is `null`. `call` is one of
+/// A snapshot and what is remembered of its subscribers, as one JSON text (own rule): an object with `name`, and the lists
+/// `sources`, `subscribers` and `streams`. The members are named as the fields of the states; what is not there is `null`. `call` is one of
 /// `up`, `calling`, `pause` and `rests`, and `seconds` holds the lists `handed` and `dropped`, of the frames in each of the last 300
 /// seconds, the oldest first.
 ///
@@ -32,6 +32,7 @@ fn put_state(
     snapshot: &Snapshot,
     history: &History,
 ) -> Result<(), AllocError> {
+    put_text(alloc, json, "{\"name\":", snapshot.name.as_str())?;
     put_sources(alloc, json, snapshot.sources.as_slice())?;
     put_subscribers(alloc, json, snapshot.subscribers.as_slice(), history)?;
     put_streams(alloc, json, snapshot.streams.as_slice())
@@ -81,7 +82,7 @@ fn put_sources(
     json: &mut String,
     sources: &[SourceState],
 ) -> Result<(), AllocError> {
-    json.push_str("{\"sources\":[")?;
+    json.push_str(",\"sources\":[")?;
     for (place, source) in sources.iter().enumerate() {
         json.push_str(comma(place))?;
         put_source(alloc, json, source)?;

@@ -13,7 +13,7 @@ pub const LINE_BYTES: usize = 4096;
 pub const END: &[u8] = b"end";
 
 /// What a line is for the connection that it came by (own rule).
-#[derive(Clone, Copy, Debug, PartialEq, Eq)]
+#[derive(Clone, Copy, PartialEq, Eq)]
 pub enum LineKind {
     /// It is answered by who answers lines.
     Other,

@@ -187,10 +187,24 @@ pub fn print_metrics<W: Write>(
     snapshot: &Snapshot,
     ages: &Histogram,
 ) -> io::Result<()> {
+    print_name(out, snapshot.name.as_str())?;
     print_sources(out, snapshot.sources.as_slice())?;
     print_subscribers(out, snapshot.subscribers.as_slice())?;
     print_streams(out, snapshot.streams.as_slice())?;
     print_ages(out, ages)
+}
+
+/// Writes the gateway's name, as the label of a metric that is always 1. A mark and a backslash stand behind a backslash there.
+fn print_name<W: Write>(out: &mut W, name: &str) -> io::Result<()> {
+    print_head(out, "pdcgw_info", "gauge", "The gateway's name.")?;
+    out.write_all(b"pdcgw_info{name=\"")?;
+    for byte in name.as_bytes() {
+        if matches!(*byte, b'"' | b'\\') {
+            out.write_all(b"\\")?;
+        }
+        out.write_all(&[*byte])?;
+    }
+    out.write_all(b"\"} 1\n")
 }
 
 /// Writes what stands above the samples of a metric.

@@ -3,7 +3,7 @@
 use std::io::{ErrorKind, Write};
 
 /// How sending ended.
-#[derive(Clone, Copy, Debug, PartialEq, Eq)]
+#[derive(Clone, Copy, PartialEq, Eq)]
 pub enum Sending {
     /// All was sent.
     Done,

@@ -109,7 +109,7 @@ svg { display: block; width: 100%; overflow: visible; }
 </style>
 </head>
 <body>
-<header><h1>pdcgw</h1><p>Phasor data concentrator gateway</p><output id="clock">connecting</output></header>
+<header><h1 id="name">pdcgw</h1><p>pdcgw, phasor data concentrator gateway</p><output id="clock">connecting</output></header>
 <main id="main">
 <p class="lost" id="lost" role="alert" hidden></p>
 <div class="tiles">
@@ -296,7 +296,9 @@ function showStreams(streams, subscribers) {
 }
 
 function show(state) {
-  const { sources, subscribers, streams } = state;
+  const { name, sources, subscribers, streams } = state;
+  document.title = name + ' - pdcgw';
+  write(byId('name'), name, '');
   const share = (some, all) => some + ' / ' + all;
   const called = sources.filter(one => one.call !== 'rests');
   const up = called.filter(one => one.call === 'up').length;

@@ -25,7 +25,7 @@ pub enum Shown {
 }
 
 /// Why a request is refused (own rule).
-#[derive(Clone, Copy, Debug, PartialEq, Eq)]
+#[derive(Clone, Copy)]
 pub enum Denial {
     /// 400: the bytes begin no request.
     NoRequest,
@@ -38,7 +38,7 @@ pub enum Denial {
 }
 
 /// What bytes ask for (own rule).
-#[derive(Clone, Copy, Debug, PartialEq, Eq)]
+#[derive(Clone, Copy)]
 pub enum Request {
     /// Nothing yet: more bytes have to come.
     Partial,

@@ -91,7 +91,7 @@ pub struct SubscriberState {
 }
 
 /// A stream of a subscriber (own rule).
-#[derive(Clone, Copy, Debug, PartialEq, Eq)]
+#[derive(Clone, Copy, Debug)]
 pub struct StreamState {
     /// The subscriber.
     pub sub: SubId,
@@ -108,6 +108,8 @@ pub struct StreamState {
 /// What the service shows of itself at one moment (own rule): each list in the order in which it is shown.
 #[derive(Debug, Drop)]
 pub struct Snapshot {
+    /// The gateway's name.
+    pub name: String,
     /// The sources.
     pub sources: Vec<SourceState>,
     /// The subscribers.

@@ -16,7 +16,7 @@ pub const AMPERE_UNIT: u32 = 5_000;
 const USED_INPUTS: u16 = 0x000F;
 
 /// What a phasor is of.
-#[derive(Clone, Copy, Debug, PartialEq, Eq)]
+#[derive(Clone, Copy)]
 pub enum Quantity {
     /// A voltage.
     Voltage,

@@ -19,7 +19,7 @@ const WHOLE_TURN: i64 = 62_832;
 const THIRD: u32 = 0x5555_5555;
 
 /// A phasor: its magnitude in counts, and its angle, of which 2^32 are a turn.
-#[derive(Clone, Copy, Debug, PartialEq, Eq)]
+#[derive(Clone, Copy)]
 struct Phasor {
     magnitude: i64,
     turn: u32,

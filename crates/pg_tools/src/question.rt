@@ -7,7 +7,7 @@ ghost use Rattle.pg_tools.specs.Asking.{is_due, waited_after};
 pub const PATIENCE: u32 = 3;
 
 /// A question that waits for its answer (own rule): since how many seconds, fewer than 3.
-#[derive(Clone, Copy, Debug, PartialEq, Eq)]
+#[derive(Clone, Copy)]
 pub struct Question {
     /// The seconds since it was asked.
     pub waited: u32,

@@ -15,7 +15,7 @@ const BEFORE_NAMES: usize = 26;
 
 /// A name, as it stands in a configuration: what is no printable ASCII shows as `?`, and the spaces behind it are left out. So no
 /// name writes to the terminal what it likes.
-#[derive(Clone, Copy, Debug, PartialEq, Eq)]
+#[derive(Clone, Copy)]
 pub struct Name {
     bytes: [u8; NAME],
 }
@@ -67,7 +67,7 @@ impl fmt::Display for Cell {
 }
 
 /// A phasor in volts or amperes, and degrees.
-#[derive(Clone, Copy, Debug, PartialEq)]
+#[derive(Clone, Copy)]
 pub struct Polar {
     /// Its magnitude.
     pub magnitude: f64,

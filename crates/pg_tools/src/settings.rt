@@ -148,7 +148,7 @@ pub struct SimulateWords<'a> {
 }
 
 /// A word that is none of an option's: which option it is, and what would be right.
-#[derive(Clone, Copy, Debug, PartialEq, Eq, Error)]
+#[derive(Clone, Copy, Debug, Error)]
 #[error("{option} takes {takes}")]
 pub struct Misword {
     /// The option, or the argument.

@@ -42,7 +42,7 @@ const WANDERS: [Wander; 3] = [
 const SWING_TURN: i64 = 18_038_863;
 
 /// The state of the grid at an instant, as one PMU sees it.
-#[derive(Clone, Copy, Debug, PartialEq, Eq)]
+#[derive(Clone, Copy)]
 pub struct Grid {
     /// How far the angle has turned from that of the nominal frequency: 2^32 are a turn.
     pub turn: u32,

@@ -29,7 +29,7 @@ const READS: u32 = 64;
 const WAITING: usize = 1_048_576;
 
 /// What happened at a simulated source, to be told.
-#[derive(Clone, Copy, Debug, PartialEq, Eq)]
+#[derive(Clone, Copy)]
 pub enum Happening {
     /// A peer has connected.
     Connected(SocketAddr),

@@ -20,7 +20,7 @@ const AROUND_BODY: usize = 16;
 const HEARD: u64 = 10;
 
 /// What a source has done.
-#[derive(Clone, Copy, Debug, PartialEq, Eq)]
+#[derive(Clone, Copy)]
 pub struct SourceCounts {
     /// Commands that were obeyed.
     pub obeyed: u64,

@@ -70,7 +70,7 @@ impl fmt::Display for Stamp {
 }
 
 /// What was counted of what came.
-#[derive(Clone, Copy, Debug, PartialEq, Eq)]
+#[derive(Clone, Copy)]
 pub struct Tally {
     /// Data frames that were taken.
     pub frames: u64,

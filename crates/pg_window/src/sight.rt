@@ -25,6 +25,7 @@ impl Sight {
         Sight {
             alloc,
             snapshot: Snapshot {
+                name: String::new(alloc),
                 sources: Vec::new(alloc),
                 subscribers: Vec::new(alloc),
                 streams: Vec::new(alloc),

@@ -19,10 +19,11 @@ returns-clause-ok c =
     let linked : links_from [] pmus ≡ Some links = search rules in
     let ruled : sources_of pmus ≡ Some sources = search rules in
     let edits : map pmu_edit pmus ++ found.edits.items ≡ c.append.new.self.items = search rules in
+    let name : option_map (λ s. s.now) own.name ≡ option_map (λ s. string_bytes s) c.in_ok-name.name = search rules in
     let control : option_map (λ s. s.now) own.control ≡ option_map (λ s. string_bytes s) c.in_ok-control.control = search rules in
     rw (keys, general, listed, linked, ruled) (
     planned_so (required (list_of subscriber_in) (codes "subscriber") ms) (record { edits = found.edits.items; ports = found.ports.items; doors = doors })
     (λ p. record { edits = map pmu_edit pmus ++ p.edits; links = links; sources = sources; ports = p.ports; doors = p.doors; general = general_of own })
     c.in_ok-subscribers.ensures.ok
-    ∙ (λ k. Some (record { edits = edits k; links = links; sources = sources; ports = found.ports.items; doors = doors; general = record (general_of own) { control = control k } }))
+    ∙ (λ k. Some (record { edits = edits k; links = links; sources = sources; ports = found.ports.items; doors = doors; general = record (general_of own) { control = control k; name = name k } }))
     )

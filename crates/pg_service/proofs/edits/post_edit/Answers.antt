@@ -1,7 +1,7 @@
 use Rattle.std.proofs.Common.{subst}
 use Rattle.pg_gateway.specs.Occurrences.{told}
 use Rattle.pg_gateway.specs.Posting.{Notes, posted_if}
-use Rattle.pg_service.proofs.Own.{posts_edit}
+use Rattle.pg_service.proofs.Taken.{posts_edit}
 use Rattle.pg_service.proofs.edits.post_edit.Goals as goal
 
 pub returns-in-Refused : goal.returns-in-Refused

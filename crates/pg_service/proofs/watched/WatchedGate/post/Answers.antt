@@ -2,7 +2,7 @@ use Rattle.std.proofs.Common.{◌≡◌, ◌∙◌, sym, ap, ap₂, subst, true}
 use Rattle.pg_gateway.specs.Occurrences.{occurrence, told}
 use Rattle.pg_gateway.specs.Posting.{Notes, posted_if}
 use Rattle.pg_service.specs.Posts.{passes, takes_by}
-use Rattle.pg_service.proofs.Own.{and_false, not_false, posts_taken}
+use Rattle.pg_service.proofs.Taken.{and_false, not_false, posts_taken}
 use Rattle.pg_service.proofs.watched.WatchedGate.post.Goals as goal
 
 pub returns-else-refuses : goal.returns-else-refuses

@@ -1,4 +1,0 @@
-use Rattle.pg_serve_tests.proofs.ticking.ticks_at_a_gate.Given as goal
-
-abbrev pub ghosts-ticks_by : goal.ghosts-ticks_by
-ghosts-ticks_by g a = record { table = a.gateway.now }

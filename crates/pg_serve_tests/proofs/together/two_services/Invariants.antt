@@ -1,7 +1,0 @@
-use Rattle.pg_serve_tests.proofs.together.two_services.Given as goal
-
-abbrev pub ghosts-compare-N-Named : goal.ghosts-compare-N-Named
-ghosts-compare-N-Named g a = record { table = a.gateway.now }
-
-abbrev pub ghosts-compare-M-Named : goal.ghosts-compare-M-Named
-ghosts-compare-M-Named g a = record { table = a.other_gateway.now }

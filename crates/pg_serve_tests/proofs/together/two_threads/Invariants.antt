@@ -1,4 +1,0 @@
-use Rattle.pg_serve_tests.proofs.together.two_threads.Given as goal
-
-abbrev pub ghosts-serve_two : goal.ghosts-serve_two
-ghosts-serve_two g a = record { table = a.gateway.now }

@@ -1,0 +1,19 @@
+//! Who may connect as a subscriber, and for how long.
+
+use pg_limits::{Allow, OnChange};
+use std::time::Duration;
+
+/// Who may connect, and how long who has connected is waited for (own rule).
+#[derive(Drop)]
+pub struct DoorRules {
+    /// The hosts that may connect.
+    pub allow: Allow,
+    /// Whether a new connection takes the place of one that stands for 5 seconds.
+    pub takeover: bool,
+    /// How long the socket may take none of the bytes that wait; `None` for ever.
+    pub stall: Option<Duration>,
+    /// How long no byte may go either way; `None` for ever.
+    pub idle: Option<Duration>,
+    /// What is done where the effective blocks of a stream change while it is on.
+    pub change: OnChange,
+}

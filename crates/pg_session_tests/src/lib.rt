@@ -1,7 +1,0 @@
-//! Tests of pg_session, as its callers see it. They stand in a crate of their own, so that the gate proves that crate once.
-#![tactic(auto)]
-
-#[cfg(test)]
-mod asserts;
-#[cfg(test)]
-mod tests;

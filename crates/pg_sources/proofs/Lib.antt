@@ -1,0 +1,2 @@
+-- Lemmas of the connections to sources.
+pub mod Calls

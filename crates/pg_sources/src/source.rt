@@ -1,0 +1,236 @@
+//! The line to a source: its link, and when it is called.
+
+ghost use Rattle.std.specs.Prelude.{◌≡◌, option_map, IfOk, IfErr};
+ghost use Rattle.std.specs.Duration.{as_nanos};
+ghost use Rattle.std.specs.Time.{instant_nanos};
+ghost use Rattle.pg_audit.specs.Counting.{no_pmu_stats};
+ghost use Rattle.pg_ingest.specs.Linking.{unfed};
+ghost use Rattle.pg_ingest.specs.Runs.{wires};
+ghost use Rattle.pg_ingest.specs.Served.{IsCall};
+ghost use Rattle.pg_sources.specs.Lines.{Turned, guarding, hearing, settled, turn_after, unlinked, with_plan};
+ghost use Rattle.pg_limits.specs.Plans.{asked, begun, called, due_by, ended, made, received, renewed, rested, sought};
+ghost use Rattle.pg_service.specs.Posts.{passes};
+
+use pg_gateway::Gate;
+use pg_ingest::{End, Link, run_link};
+use pg_limits::{Budget, CallPlan, Due};
+use pg_service::{Guarding, Guards, Seen, Watched};
+use pg_wire::{PmuId, Refusal};
+use std::alloc::Global;
+use std::io::{Read, Write};
+use std::marker::Model;
+use std::time::{Duration, Instant};
+
+/// The turns that a call of `run_link` takes at most (own rule). The budget of reads ends before.
+const TURNS: u64 = 10_000;
+
+/// How a source was served.
+#[derive(Clone, Copy, Debug, PartialEq, Eq)]
+pub enum Turn {
+    /// Nothing is left to do until its socket is ready.
+    Waits,
+    /// Its reads were used up: bytes may still wait.
+    More,
+    /// The connection ended, and is to be closed.
+    Ended(End),
+}
+
+/// The line to a source (own rule): its link, and when it is called. It knows neither sockets nor clocks.
+#[derive(Drop)]
+pub struct SourceLine {
+    link: Link,
+    plan: CallPlan,
+    guards: Guards,
+}
+
+impl Model for SourceLine {
+    ghost use Rattle.pg_sources.specs.Lines.{Line};
+
+    ghost Value = { Line };
+
+    ghost view = { λ l. record { link = l.link; plan = l.plan; guards = l.guards } };
+}
+
+impl SourceLine {
+    /// The line to a source that is to be called at once. A connection may be silent for `silence`, `None` for ever, and the times of its
+    /// measurements as far from the clocks as `guards` say.
+    ///
+    /// # Errors
+    ///
+    /// `NoMemory`.
+    pub fn new(
+        alloc: Global,
+        source: PmuId,
+        silence: Option<Duration>,
+        guards: Guards,
+        now: Instant,
+    ) -> Result<SourceLine, Refusal>
+        ensures state { IfOk result (λ l. l ≡ record { link = unfed source no_pmu_stats; plan = begun (instant_nanos now) (option_map as_nanos silence); guards = guards }) }
+        ensures memory { IfErr result (λ refusal. refusal ≡ Refusal.NoMemory) }
+    {
+        Ok(SourceLine {
+            link: Link::new(alloc, source)?,
+            plan: CallPlan::new(now, silence),
+            guards,
+        })
+    }
+
+    /// The source.
+    pub fn source(&self) -> PmuId
+        ensures { result ≡ self.now.link.source }
+    {
+        self.link.source()
+    }
+
+    /// Its link.
+    pub fn link(&self) -> &Link
+        ensures { result.now ≡ self.now.link }
+    {
+        &self.link
+    }
+
+    /// When it is called.
+    pub fn plan(&self) -> &CallPlan
+        ensures { result.now ≡ self.now.plan }
+    {
+        &self.plan
+    }
+
+    /// What is to be done by now.
+    pub fn due(&self, now: Instant) -> Due
+        ensures { result ≡ due_by (instant_nanos now) self.now.plan }
+    {
+        self.plan.due(now)
+    }
+
+    /// A call was begun.
+    pub fn called(&mut self, now: Instant)
+        ensures { self.new ≡ with_plan (called (instant_nanos now) self.old.plan) self.old }
+    {
+        self.plan.called(now);
+    }
+
+    /// Its name is looked up for a call.
+    pub fn sought(&mut self, now: Instant)
+        ensures { self.new ≡ with_plan (sought (instant_nanos now) self.old.plan) self.old }
+    {
+        self.plan.sought(now);
+    }
+
+    /// The connection was made.
+    pub fn made(&mut self, now: Instant)
+        ensures { self.new ≡ with_plan (made (instant_nanos now) self.old.plan) self.old }
+    {
+        self.plan.made(now);
+    }
+
+    /// Bytes of it came.
+    pub fn received(&mut self, now: Instant)
+        ensures { self.new ≡ with_plan (received (instant_nanos now) self.old.plan) self.old }
+    {
+        self.plan.received(now);
+    }
+
+    /// It is asked again over its connection: the link starts anew, so that it owes command 5, and then command 2.
+    pub fn ask_again(&mut self)
+        ensures { self.new ≡ with_plan (asked self.old.plan) (unlinked self.old) }
+    {
+        self.link.reset();
+        self.plan.asked();
+    }
+
+    /// The call failed or was given up, or the connection ended: the link starts anew.
+    pub fn ended(&mut self, now: Instant)
+        ensures { self.new ≡ with_plan (ended (instant_nanos now) self.old.plan) (unlinked self.old) }
+    {
+        self.link.reset();
+        self.plan.ended(now);
+    }
+
+    /// It is to be called anew, at once: the link starts anew.
+    pub fn renew(&mut self, now: Instant)
+        ensures { self.new ≡ with_plan (renewed (instant_nanos now) self.old.plan) (unlinked self.old) }
+    {
+        self.link.reset();
+        self.plan.renew(now);
+    }
+
+    /// It is not to be called any more.
+    pub fn rest(&mut self)
+        ensures { self.new ≡ with_plan (rested self.old.plan) (unlinked self.old) }
+    {
+        self.link.reset();
+        self.plan.rest();
+    }
+
+    /// Serves its connection until the reader's budget is used up, or it would block, and tells what went through the gate
+    /// meanwhile. `clock` is this machine's, in milliseconds since 1970-01-01 00:00 UTC, and `reference` what the times of measurements may be
+    /// ahead of. Where the connection ended or failed, the link starts anew.
+    pub fn serve<R: Read, W: Write, G: Gate>(
+        &mut self,
+        reader: &mut Budget<R>,
+        writer: &mut W,
+        gate: &mut Watched<G>,
+        now: Instant,
+        clock: u64,
+        reference: u64,
+    ) -> (Turn, Seen)
+        // It posts what its bytes tell and nothing else, but for the measurements that its guards do not take.
+        ensures turned { Turned (instant_nanos now) reader.new.left result.0 result.1 self.old self.new
+            (wires (R.remaining reader.old.reader) (W.contents writer.old) (G.posts gate.old.gate) (passes (guarding self.old clock reference) (G.takes gate.old.gate)))
+            (wires (R.remaining reader.new.reader) (W.contents writer.new) (G.posts gate.new.gate) (passes gate.new.guarding (G.takes gate.new.gate))) }
+    {
+        let guarding = Guarding {
+            guards: self.guards,
+            clock,
+            reference,
+        };
+        let end = run_guarded(&mut self.link, guarding, reader, writer, gate);
+        let seen = gate.take_seen();
+        self.hear(&seen, now);
+        (self.settle(end, reader.is_used_up(), now), seen)
+    }
+
+    /// The plan goes by the announcements and measurements that came.
+    fn hear(&mut self, seen: &Seen, now: Instant)
+        ensures { self.new ≡ record self.old { plan = hearing seen.now (instant_nanos now) self.old.plan } }
+    {
+        if let Some(rate) = seen.rate {
+            self.plan.announced(now, rate);
+        }
+        if seen.measured > 0 {
+            self.plan.measured(now);
+        }
+    }
+
+    /// What is left to do after its loop ended so. Where the connection ended or failed, the link starts anew.
+    fn settle(&mut self, end: End, is_used_up: bool, now: Instant) -> Turn
+        ensures line { self.new ≡ settled end (instant_nanos now) self.old }
+        ensures turn { result ≡ turn_after end is_used_up }
+    {
+        match end {
+            End::Quiet if is_used_up => Turn::More,
+            End::Quiet | End::Stalled => Turn::Waits,
+            End::Closed | End::Fault(_) => {
+                self.ended(now);
+                Turn::Ended(end)
+            }
+        }
+    }
+}
+
+/// One call of a link's loop, with its measurements guarded so.
+fn run_guarded<R: Read, W: Write, G: Gate>(
+    link: &mut Link,
+    guarding: Guarding,
+    reader: &mut Budget<R>,
+    writer: &mut W,
+    gate: &mut Watched<G>,
+) -> End
+    ensures call { IsCall result 10000 link.old link.new
+        (wires (R.remaining reader.old.reader) (W.contents writer.old) (G.posts gate.old.gate) (passes guarding (G.takes gate.old.gate)))
+        (wires (R.remaining reader.new.reader) (W.contents writer.new) (G.posts gate.new.gate) (passes gate.new.guarding (G.takes gate.new.gate))) }
+{
+    gate.guard(guarding);
+    run_link(link, reader, writer, gate, TURNS)
+}

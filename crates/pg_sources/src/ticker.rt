@@ -1,0 +1,86 @@
+//! The clock's ticks.
+
+ghost use Rattle.std.specs.Prelude.{◌≡◌};
+
+use pg_gateway::{Event, Gate};
+use pg_log::Notice;
+use pg_service::{Neighbours, Watched};
+use pg_shared::{Named, SharedGate, Work};
+use std::marker::Model;
+use std::rt::Clock;
+use std::sync::Wait;
+use std::thread;
+use std::time::{Duration, SystemTime};
+
+/// A worker that posts the ticks (own rule).
+#[derive(Drop)]
+pub struct Ticker<'a, R: Wait + Clock, N: Named> {
+    rt: &'a R,
+    gate: Watched<SharedGate<'a, R, N>>,
+    wait: Duration,
+    neighbours: Neighbours<'a>,
+}
+
+impl<'a, R: Wait + Clock, N: Named> Model for Ticker<'a, R, N> {
+    ghost use Rattle.pg_gateway.specs.declared.event.Event.{Event};
+    ghost use Rattle.pg_gateway.specs.declared.event.Reply.{Reply};
+    ghost use Rattle.pg_turn.specs.Known.{Known};
+
+    ghost Value = { Known Event Reply };
+
+    // It is seen as the seat of its gate.
+    ghost view = { λ w. w.gate.gate };
+}
+
+impl<'a, R: Wait + Clock, N: Named> Ticker<'a, R, N> {
+    /// A ticker that waits so long before each tick, and wakes the subscribers' workers where a tick made frames.
+    pub fn new(
+        rt: &'a R,
+        gate: SharedGate<'a, R, N>,
+        wait: Duration,
+        neighbours: Neighbours<'a>,
+    ) -> Ticker<'a, R, N>
+        ensures seat { result ≡ gate.entry }
+    {
+        Ticker {
+            rt,
+            gate: Watched::new(gate),
+            wait,
+            neighbours,
+        }
+    }
+
+    /// Its gate.
+    pub fn into_gate(self) -> SharedGate<'a, R, N>
+        // With its own seat.
+        ensures seat { result ≡ self.entry }
+    {
+        let Ticker { gate, .. } = self;
+        gate.into_inner()
+    }
+}
+
+/// The current SOC: seconds since 1970-01-01 00:00 UTC (C37.118.2, 6.2). None where the clock can't be read or SOC has no such
+/// number.
+fn soc_now<R: Clock>(rt: &R) -> Option<u32> {
+    let now = SystemTime::now(rt).ok()?;
+    let since = now.duration_since(SystemTime::UNIX_EPOCH).ok()?;
+    u32::try_from(since.as_secs()).ok()
+}
+
+impl<R: Wait + Clock, N: Named> Work for Ticker<'_, R, N> {
+    /// Waits for the next tick, and posts it with the current SOC. Where the clock tells none there is no tick.
+    fn turn(&mut self) -> bool {
+        thread::sleep(self.rt, self.wait);
+        match soc_now(self.rt) {
+            Some(soc) => {
+                self.gate.post(Event::Tick(soc));
+                if self.gate.take_seen().made > 0 {
+                    self.neighbours.wake_ports();
+                }
+            }
+            None => self.neighbours.journal.note(Notice::ClockFault),
+        }
+        true
+    }
+}

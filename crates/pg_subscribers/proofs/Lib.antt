@@ -1,0 +1,2 @@
+-- Lemmas of the connections of subscribers.
+pub mod Own
