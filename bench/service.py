@@ -2,8 +2,8 @@
 """Measures the running service: starts the program with sources and subscribers of its own, and prints each figure beside its
 bound.
 
-    python3 bench/service.py PROGRAM [CASE..]      CASE: direct latency idle flood hostile reader burst throughput address name descriptors;
-                                                   none: all of them
+    python3 bench/service.py PROGRAM [CASE..]      CASE: direct latency idle flood hostile reader backlog burst throughput address name
+                                                   descriptors; none: all of them
 
 A latency is from the moment before the last source's frame of a slot is written to the moment at which the kernel has the
 subscriber's frame at its socket, by the kernel's own stamp; bounds are of this one, so that it does not count when this script is
@@ -23,8 +23,11 @@ import tempfile
 import threading
 import time
 
-sys.path.insert(0, os.path.join(os.path.dirname(os.path.abspath(__file__)), "..", "tools"))
-from c37118 import BASE, command, configuration, data, frames_in, stamp  # noqa: E402
+for folder in ("tools", "tests"):
+    sys.path.insert(0, os.path.join(os.path.dirname(os.path.abspath(__file__)), "..", folder))
+import peers  # noqa: E402
+from c37118 import BASE, SEND_CONFIG_2, START, command, configuration, data, frames_in, stamp  # noqa: E402
+from test_backlog import Crowd  # noqa: E402
 
 FIRST_SOURCE_PORT = 20_100
 FIRST_PORT = 20_300
@@ -485,6 +488,143 @@ def case_idle(program):
     gateway.quit()
 
 
+# The frames that come at once where a source's link recovers: 2, 10 and 50 seconds of them.
+BACKLOGS = 60, 300, 1_500
+# Subscribers of a backlog: the reader of the other source, and the one that never reads with its stream.
+BESIDE, DEAF, DEAF_STREAM = 90, 99, 199
+# Frames between two drains of `replay`, whose rings have 64.
+DRAINED = 32
+
+
+class PacedSource(threading.Thread):
+    """A source that sends a frame for each slot of the clock, and keeps what it sent and when."""
+
+    def __init__(self, source):
+        super().__init__(daemon=True)
+        self.source, self.sent, self.is_over = source, [], False
+
+    def run(self):
+        slot = int(time.time() * self.source.rate) + 1
+        while not self.is_over:
+            time.sleep(max(0, slot / self.source.rate - time.time()))
+            got = self.source.data(slot, len(self.sent))
+            self.sent.append((got, time.monotonic()))
+            self.source.link.send(got)
+            slot += 1
+
+
+def fill(link, stream):
+    """Asks for CFG-2 without reading, until neither side takes a byte."""
+    link.socket.settimeout(0.5)
+    try:
+        while True:
+            link.socket.sendall(command(stream, SEND_CONFIG_2) * 1_000)
+    except socket.timeout:
+        pass
+
+
+class Gathered:
+    """The frames that come to subscribers, and when each was read."""
+
+    def __init__(self, readers):
+        self.chosen, self.frames = selectors.DefaultSelector(), {number: [] for number in readers}
+        for number, reader in readers.items():
+            reader.socket.setblocking(False)
+            self.chosen.register(reader.socket, selectors.EVENT_READ, (number, bytearray()))
+
+    def until(self, condition, seconds):
+        """Reads until this is so, and for so many seconds at most."""
+        end = time.monotonic() + seconds
+        while not condition() and time.monotonic() < end:
+            for key, _ in self.chosen.select(0.05):
+                number, buffer = key.data
+                piece = key.fileobj.recv(1 << 18)
+                if not piece:
+                    self.chosen.unregister(key.fileobj)
+                buffer += piece
+                self.frames[number] += [(it, time.monotonic()) for it in frames_in(buffer)]
+
+
+def replay_lines(crowd, readers, data_of):
+    """A script for `replay`: the setup of a crowd, and then the frames of each source, which are drained in pieces. The subscriber of each drain."""
+    lines, drains = ["addpmu 7", "addpmu 9"], []
+    for source in (crowd.seven, crowd.nine):
+        lines += [f"linkup {source.idcode}", f"pmu {source.idcode} {source.configuration().hex()}"]
+    for number, (source, stream) in readers.items():
+        lines += [f"addsub {number} 64", f"grant {number} {source}", f"define {number} {stream} {peers.RATE} {BASE} 1 4 none {source}",
+                  f"connect {number}", f"sub {number} {command(stream, START).hex()}"]
+    for source, frames in data_of.items():
+        for at in range(0, len(frames), DRAINED):
+            lines.append(f"pmu {source} " + b"".join(frames[at:at + DRAINED]).hex())
+            own = [number for number, (other, _) in readers.items() if other == source]
+            lines += [f"drain {number} 65535" for number in own]
+            drains += own
+    return "\n".join(lines) + "\n", drains
+
+
+def replayed(program, crowd, readers, data_of):
+    """The frames that `replay` hands out to each reader."""
+    script, drains = replay_lines(crowd, readers, data_of)
+    out = subprocess.run([program, "replay"], input=script.encode(), stdout=subprocess.PIPE, check=True).stdout.decode()
+    pieces = [bytes.fromhex(line.split()[4].replace("-", "")) for line in out.splitlines() if line.startswith("drained ")]
+    found = {number: bytearray() for number in readers}
+    for number, piece in zip(drains, pieces):
+        found[number] += piece
+    return {number: frames_in(it) for number, it in found.items()}
+
+
+def differences(came, wanted):
+    """At how many places two lists of frames differ."""
+    return sum(it != other for it, other in zip(came, wanted)) + abs(len(came) - len(wanted))
+
+
+def backlog(bench, count, subscribers):
+    """One source's frames come at once, beside another one that sends a frame for each slot, and a subscriber that never reads."""
+    port = bench.port()
+    crowd = Crowd(bench, subscribers, more=peers.subscriber(DEAF, port, ring=64, stall=0, grants=[7]) + peers.stream(DEAF_STREAM, [7]))
+    readers = {number: (9, 900) if number == BESIDE else (7, 100 + number) for number in crowd.readers}
+    deaf = bench.subscriber(port, receive=4_096)
+    deaf.start(DEAF_STREAM)
+    fill(deaf, DEAF_STREAM)
+    beside, gathered = PacedSource(crowd.nine), Gathered(crowd.readers)
+    beside.start()
+    gathered.until(lambda: len(gathered.frames[BESIDE]) >= 15, 5)
+    begun = time.monotonic()
+    first = crowd.backlog(count)
+    gathered.until(lambda: all(len(it) >= count for number, it in gathered.frames.items() if number != BESIDE), 30)
+    took = time.monotonic() - begun
+    gathered.until(lambda: time.monotonic() > begun + took + 0.5, 1)
+    beside.is_over = True
+    beside.join()
+    gathered.until(lambda: len(gathered.frames[BESIDE]) >= len(beside.sent), 5)
+    data_of = {7: [crowd.seven.data(slot, slot - first) for slot in range(first, first + count)], 9: [it for it, _ in beside.sent]}
+    wanted = replayed(bench.program, crowd, readers, data_of)
+    came = {number: [it for it, _ in frames] for number, frames in gathered.frames.items()}
+    differ = sum(differences(came[number], wanted[number]) for number in readers)
+    total, all_wanted = sum(map(len, came.values())), count * subscribers + len(beside.sent)
+    counted = [crowd.gateway.counters(f"stats {number}") for number in readers]
+    dropped = sum(it["dropped"] + it["lost"] for it in counted)
+    oldest = max((read - sent for (_, read), (_, sent) in zip(gathered.frames[BESIDE], beside.sent)), default=float("nan"))
+    left = crowd.gateway.counters(f"stats {DEAF}")["dropped"]
+    crowd.gateway.quit()
+    name = f"a backlog of {count:,} frames, S{subscribers}, beside a source at 30/s and one that never reads"
+    tell(f"{name}: came; dropped; differ", f"{total:,} of {all_wanted:,}; {dropped}; {differ}", "all, 0, 0", (total, dropped, differ) == (all_wanted, 0, 0))
+    tell("    last one read after, ms; oldest of the other source, ms; dropped of who never reads", f"{took * 1e3:.0f}; {oldest * 1e3:.1f}; {left}",
+         "its ring's rest", left == max(0, count - 64))
+
+
+def case_backlog(program):
+    """Backlogs at ring 64: each healthy reader gets all frames, and these are those of `replay`."""
+    for subscribers in (1, 16):
+        for count in BACKLOGS:
+            with tempfile.TemporaryDirectory() as folder:
+                bench = peers.Bench(os.path.abspath(program), folder)
+                try:
+                    backlog(bench, count, subscribers)
+                finally:
+                    bench.end()
+
+
 # The data frames that a source sends at once: 56 seconds at 120/s, as stamps may be 30 seconds from the clock; of 64 sources 7 seconds.
 BURST, SHORT_BURST = 56 * 120, 7 * 120
 
@@ -636,8 +776,8 @@ def case_descriptors(program):
 
 
 CASES = {"direct": case_direct, "address": case_address, "name": case_name, "descriptors": case_descriptors, "latency": case_latency, "idle": case_idle,
-         "flood": case_flood, "hostile": case_hostile, "reader": case_reader, "burst": case_burst,
-         "throughput": case_throughput}
+         "flood": case_flood, "hostile": case_hostile, "reader": case_reader, "backlog": case_backlog,
+         "burst": case_burst, "throughput": case_throughput}
 
 
 def main():

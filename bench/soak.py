@@ -35,7 +35,7 @@ RATE = 30
 WAIT = {"rate": RATE, "wait": 60, "window": 40}
 # How soon a fault has to be found, in seconds.
 SOON = 10
-# The last lines of the log that are printed with a failure.
+# The lines of the log that are printed with a failure: the last ones of a fault, the first ones of the neighbours.
 SHOWN = 12
 SIXTEEN = [[800, list(range(801, 809))], [900, list(range(901, 909))]]
 MEMBERS = [f"{source}/{it}" for source, pmus in SIXTEEN for it in pmus]
@@ -191,7 +191,7 @@ def swap(world, change):
     """A grant is swapped for one of an equally long block. Where subscriber 1 was served between two lines, CFG-2 came for each of the two."""
     world.first["grants"] = [20, 21] if 7 in world.first["grants"] else [7, 21]
     change()
-    world.logs("subscriber 1: stream 101: (disconnected, since its blocks changed|its blocks changed; CFG-2 sent unasked)")
+    world.logs("subscriber 1: stream 101: (disconnected: its layout changed|its layout changed; CFG-2 sent unasked)")
 
 
 def swap_by_lines(world):
@@ -211,7 +211,7 @@ def another_length(world):
     for line, pmus in ((f"grant 1 {other}", [7, 20, 21]), (f"revoke 1 {other}", world.first["grants"])):
         world.gateway.ask(line)
         world.readers[1].reads(101, pmus, 5, SOON)
-    world.logs("INFO subscriber 1: stream 101: its blocks changed; CFG-2 sent unasked")
+    world.logs("INFO subscriber 1: stream 101: its layout changed; CFG-2 sent unasked")
     same(world.readers[1].count("closed"), 0, "disconnected")
 
 
@@ -259,7 +259,7 @@ def behind(world):
 def redial(world):
     """A source ends its connection."""
     world.sources[7].restarts()
-    world.logs("WARN source 7: the connection ended")
+    world.logs("WARN source 7: connection lost")
     # (the pause before a call grows up to 30 s)
     world.logs("INFO source 7: announced", 35)
 
@@ -268,8 +268,8 @@ def another_fnom(world):
     """A source of subscriber 1 sends another CFG-2 in the middle of its data."""
     number = world.first["grants"][0]
     world.sources[number].announces(fnom=1 - world.sources[number].fnom)
-    world.logs(f"WARN source {number}: announced another configuration than before: it differs in FNOM")
-    world.logs("WARN subscriber 1: stream 101: disconnected, since its blocks changed")
+    world.logs(f"WARN source {number}: its configuration changed: FNOM")
+    world.logs("WARN subscriber 1: stream 101: disconnected: its layout changed")
 
 
 def mute(world):
@@ -346,7 +346,7 @@ def broken_file(world):
     """A reload of a file with a mistake changes nothing."""
     answer = world.gateway.reloads(world.text() + "[[pmu]]\nid = 0\n")
     same(answer[-1], "refused 37 BadSetup")
-    world.logs("WARN the setup was read again; nothing changes")
+    world.logs("WARN `reload` failed, nothing was changed: its answer says why")
 
 
 def dead_host(world):
@@ -356,7 +356,7 @@ def dead_host(world):
     world.line = len(world.gateway.log.lines)
     world.host.loses_power()
     try:
-        world.logs("WARN subscriber 1: (hung up|disconnected)")
+        world.logs("WARN subscriber 1: disconnected")
     finally:
         world.host.has_power()
         world.readers[1].moves(Subscriber)
@@ -462,6 +462,11 @@ def soak(world, words):
         print(f"neighbour with {name}: {frames:,} frames, {len(wrong)} wrong or missing; the oldest was read after {oldest:.3f} s")
         print("".join(f"    {it[:600]}\n" for it in wrong[:5]), end="")
         good = good and frames > 0 and not wrong
+    if not good:
+        status = world.gateway.status()
+        print("".join(f"    {status[f'source {it}']}\n" for it in (700, 800, 900)), end="")
+        logged = [it for it in world.gateway.log.lines if re.search(r" (WARN|ERROR) (source (700|800|900)|subscriber 7[12]): ", it)]
+        print("".join(f"    {it}\n" for it in logged[:SHOWN]), end="")
     for number in (71, 72):
         counts = world.gateway.counters(f"stats {number}")
         print(f"the gateway's own counts of subscriber {number}: {counts}")

@@ -51,12 +51,12 @@ def seven_is_refused(bench, aheads, text, keys=None, least=60):
     counts = members_with_data(frames)
     same({it.what for it in frames} - {"right", "filled"}, set(), "how frames are read")
     expect(counts[0] <= 60 - least and min(counts[1:]) >= least, f"of 60 frames so many have data of PMUs 7, 9, 300: {counts}")
-    line = ahead.gateway.line(r"WARN source 7: its data are refused \(21 FarClock\)")
+    line = ahead.gateway.line(r"WARN source 7: data refused \(21 FarClock\)")
     expect(any(it in line for it in text), line)
     begun = ahead.refused(7)
     until(lambda: ahead.refused(7) >= begun + 30, "frames refused under source 7 in `status`")
     same((ahead.refused(9), ahead.refused(300)), (0, 0), "refused frames of the sources whose clocks are right")
-    same(ahead.gateway.logged("source (9|300): its data are refused.*"), 0)
+    same(ahead.gateway.logged("source (9|300): data refused.*"), 0)
     ahead.second.is_whole(2000, 60)
     return ahead
 
@@ -140,7 +140,7 @@ def test_the_lower_one_of_two_sources_counts(bench):
         pair.seven.measure(slot, number, seconds_off=3)
         pair.nine.measure(slot, 900 + number)
         same(pair.second.data()[6:10], (slot // RATE).to_bytes(4, "big"), "SOC of the frame of source 9")
-    pair.gateway.line(r"WARN source 7: its data are refused \(21 FarClock\): their time is [23]\.\d* s ahead")
+    pair.gateway.line(r"WARN source 7: data refused \(21 FarClock\): their timestamps are [23]\.\d* s ahead")
     same(pair.gateway.counters("pmustats 7")["taken"], 0, "data of PMU 7 that are taken")
     same(pair.gateway.counters("pmustats 9")["taken"], 5, "data of PMU 9 that are taken")
     pair.gateway.quit()
@@ -151,7 +151,7 @@ def test_one_source_is_held_against_the_clock_alone(bench):
     source, port = bench.live(7, ahead=3), bench.port()
     gateway = bench.gateway(pmu(7, ahead_ms=None, connect=source.address) + subscriber(5, port, grants=[7]) + stream(55, [7])).serves(5)
     reader = bench.reader(port, [55])
-    gateway.line(r"WARN source 7: its data are refused \(21 FarClock\): their time is [23]\.\d* s ahead")
+    gateway.line(r"WARN source 7: data refused \(21 FarClock\): their timestamps are [23]\.\d* s ahead")
     same(reader.count("right"), 0, "frames of PMU 7")
     source.ahead = 0
     reader.reads(55, [7])

@@ -50,7 +50,7 @@ def test_chain_whose_second_is_started_first(bench):
     """The second calls until the first is there."""
     chain = Chain(bench)
     second = chain.start("second")
-    second.logs("source 101: the call failed; it is called again: connection refused")
+    second.logs("source 101: can't connect: connection refused; retrying")
     first = chain.start("first")
     chain.seven.come()
     chain.comes_through(first, second)
@@ -63,7 +63,7 @@ def test_chain_whose_first_has_no_configuration_yet(bench):
     """The first's CFG-2 lists no PMU, which the second refuses; it asks again, connects again after `silence`, and gets data all the same."""
     chain = Chain(bench)
     first, second = chain.start("first"), chain.start("second")
-    second.logs("WARN source 101: sent no data for as long as `silence` says; it is called again")
+    second.logs("WARN source 101: no data for the time that `silence` allows; connecting again")
     second.logs(r"WARN source 101: frames are ignored: 14 BadCounts.*")
     same(second.logged("source 101: announced.*"), 0)
     first.logs("subscriber 1: the connection ended: closed by the other side")
@@ -82,7 +82,7 @@ def test_chain_whose_first_is_started_again(bench):
     second = chain.start("second")
     chain.comes_through(first, second)
     first.quit()
-    second.logs("WARN source 101: the connection ended; it is called again: closed by the other side")
+    second.logs("WARN source 101: connection lost: closed by the other side; connecting again")
     first = chain.bench.gateway(chain.texts["first"], "again").serves(1)
     chain.seven.come()
     first.logs("subscriber 1: started stream 101.*", 1, 40)

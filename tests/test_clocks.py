@@ -31,14 +31,14 @@ class Three:
 
 
 def test_a_source_with_a_wrong_clock_is_named(bench):
-    """One source of three is 40 s behind: its data are refused, named in the log with the seconds, counted in `status` and metrics; its last
+    """One source of three is 40 s behind: data refused, named in the log with the seconds, counted in `status` and metrics; its last
     event grows old. The other sources are served."""
     three = Three(bench)
     for _ in range(5):
         slot = three.measure([-40, 0, 0])
         three.reader.comes(stream_frame(101, slot, slot % 1_000))
-    line = three.gateway.line("source 7: its data are refused")
-    expect(" WARN " in line and "(21 FarClock): their time is 40." in line and " s behind this machine's clock" in line, line)
+    line = three.gateway.line("source 7: data refused")
+    expect(" WARN " in line and "(21 FarClock): their timestamps are 40." in line and " s behind this machine's clock" in line, line)
     until(lambda: "FarClock=5" in three.gateway.status()["source 7"], "the refused frames in `status`")
     status = three.gateway.status()
     expect(" events 1 " in status["source 7"], status["source 7"])
@@ -56,10 +56,10 @@ def test_a_wrong_clock_of_this_machine_is_named(bench):
     for _ in range(3):
         three.measure([41, 0, 40])
     for number, seconds in ((7, 40), (300, 39)):
-        line = three.gateway.line(f"source {number}: its data are refused")
-        expect(f"their time is {seconds}." in line or f"their time is {seconds + 1}." in line, line)
+        line = three.gateway.line(f"source {number}: data refused")
+        expect(f"their timestamps are {seconds}." in line or f"their timestamps are {seconds + 1}." in line, line)
     line = three.gateway.line("this machine's clock is probably wrong")
-    expect(" ERROR " in line and " s ahead of this machine's clock" in line, line)
+    expect(" ERROR " in line and ": the timestamps of most sources are " in line and " s ahead of this machine's clock" in line, line)
     three.gateway.quit()
 
 
@@ -67,7 +67,7 @@ def test_a_source_that_measures_right_again_is_served(bench):
     """The clock of a source is set right: its data are taken, and its last event is fresh."""
     three = Three(bench)
     three.measure([0, -40, 0])
-    three.gateway.line("source 9: its data are refused")
+    three.gateway.line("source 9: data refused")
     slot = three.measure([0, 0, 0])
     three.reader.comes(stream_frame(101, slot, slot % 1_000))
     expect(three.gateway.status()["source 9"].endswith(" last 0"), three.gateway.status()["source 9"])
@@ -79,9 +79,9 @@ def test_the_clock_guard_names_the_difference(bench):
     three = Three(bench, keys={"clock_ms": 5000})
     slot = three.measure([10, 0, 0])
     three.reader.comes(stream_frame(101, slot, slot % 1_000))
-    line = three.gateway.line("source 7: its data are refused")
-    expect("their time is 9." in line or "their time is 10." in line, line)
+    line = three.gateway.line("source 7: data refused")
+    expect("their timestamps are 9." in line or "their timestamps are 10." in line, line)
     same(three.gateway.counters("pmustats 7"), {"taken": 0})
     until(lambda: '"FarClock"' in http(three.page, "/state")[1], "the refused frame on the page")
-    same(three.gateway.logged("source 9: its data are refused.*"), 0)
+    same(three.gateway.logged("source 9: data refused.*"), 0)
     three.gateway.quit()

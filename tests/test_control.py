@@ -142,7 +142,7 @@ def test_the_end_behind_a_reload(bench):
     ends the program then. Lines between reloads are answered in order. One that goes at once costs the others nothing."""
     pair, path = controlled(bench)
     gateway = pair.run()
-    done = b"reloaded: 0 edits, 0 orders\n"
+    done = b"reloaded: 0 edits, 0 changes of connections and ports\n"
     for text, answers in ((b"pmustats 7\nreload", b"pmustats taken 0\n" + done), (b"reload\n", done),
                           (b"reload\npmustats 9\nreload\nend\nstats 99\n", done + b"pmustats taken 0\n" + done + b"end\nrefused 26 NoSuchSub\n")):
         Client(bench, path).send(b"reload\n")
@@ -158,9 +158,9 @@ def test_the_end_behind_a_reload(bench):
 
 
 # Lines for `ctl`; what the other side sends; what it is sent; what `ctl` prints; the status, and what it says: `{}` is the socket's path.
-REFUSED = "{}: a line was refused; its answer tells the reason, and docs/OPERATING.md what it means\n"
+REFUSED = "{}: a command was refused; its answer has the reason, and docs/OPERATING.md says what that means\n"
 ENDED = "{{}}: the connection ended before `{}` was answered; whether it was done is not known\npdcgw: 39 ReadFault\n"
-BUSY = "{}: 8 clients are connected already; it takes one more when one of them has gone\npdcgw: 34 Busy\n"
+BUSY = "{}: 8 clients are connected already, the most possible; try again when one has left\npdcgw: 34 Busy\n"
 CONVERSATIONS = [
     (["status"], "source 7 - up\nstream 1 101 on\nend\n", "status\nend\n", "source 7 - up\nstream 1 101 on\n", 0, ""),
     # A line without an answer.
@@ -237,7 +237,7 @@ def test_ctl(bench):
     same(gateway.ctl("addpmu 8", "grant 1 8", "pmustats 8"), (0, "done 0 0\ndone 0 0\npmustats taken 0\n", ""))
     status, out, errors = gateway.ctl("stats 77", "grant 1 9")
     same((status, out), (1, "refused 26 NoSuchSub\ndone 0 0\n"))
-    expect(errors.startswith(f"{path}: a line was refused; "), errors)
+    expect(errors.startswith(f"{path}: a command was refused; "), errors)
     same(gateway.ctl("quit"), (0, "", ""))
     same(gateway.ended(3), 0)
     expect(not os.path.exists(path), "the socket goes with the service")
@@ -269,14 +269,14 @@ def test_a_ninth_client_is_refused(bench):
     clients = [Client(bench, path) for _ in range(9)]
     clients[8].gets(b"refused 34 Busy\n")
     expect(clients[8].is_closed(), "the ninth client was not closed")
-    gateway.logs(r"WARN control socket: a client was refused \(34 Busy\), since 8 are connected")
+    gateway.logs(r"WARN control socket: a client was refused \(34 Busy\): 8 are connected")
     for client in clients[:8]:
         client.send(b"pmustats 7\n")
         client.gets(b"pmustats taken 0\n")
         expect(not client.got, "more came than the answer")
     status, out, errors = gateway.ctl("status")
     same((status, out), (1, "refused 34 Busy\n"))
-    expect(errors.startswith(f"{path}: 8 clients are connected already; ") and errors.endswith("pdcgw: 34 Busy\n"), errors)
+    expect(errors.startswith(f"{path}: 8 clients are connected already, ") and errors.endswith("pdcgw: 34 Busy\n"), errors)
     clients[3].close()
     time.sleep(0.2)
     again = Client(bench, path)
@@ -304,11 +304,11 @@ def test_a_client_that_is_silent_gives_way(bench):
     ninth.send(b"pmustats 9\n")
     ninth.gets(b"pmustats taken 0\n")
     expect(silent.is_closed(), "the silent client was not closed")
-    gateway.logs("WARN control socket: a client that was silent for 60 seconds was closed for another")
+    gateway.logs("WARN control socket: a client that was silent for 60 s was disconnected to accept another")
     for client in others:
         client.send(b"pmustats 7\n")
         client.gets(b"pmustats taken 0\n")
-    same(gateway.logged("WARN control socket: a client that was silent for 60 seconds was closed for another"), 1)
+    same(gateway.logged("WARN control socket: a client that was silent for 60 s was disconnected to accept another"), 1)
     gateway.quit()
 
 

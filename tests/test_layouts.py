@@ -53,7 +53,7 @@ class Swap:
     def is_closed(self, idcode=101):
         """Subscriber 1 was disconnected once, and a WARN names it and the stream."""
         until(lambda: self.reader.count("closed") >= 1, "subscriber 1 is disconnected", 5)
-        self.gateway.line(rf" WARN subscriber 1: stream {idcode}: disconnected, since its blocks changed")
+        self.gateway.line(rf" WARN subscriber 1: stream {idcode}: disconnected: its layout changed")
 
     def end(self, closed, unfit=0):
         """Subscriber 1 was disconnected so often; so many frames at most did not fit, and none was misread. The neighbour has each frame over one
@@ -155,7 +155,7 @@ def test_a_source_announces_another_unit_unasked(bench):
         raise AssertionError(f"a frame came that is read by the old unit: {pair.first.frame(3).hex()}")
     except (Closed, ConnectionError):
         pass
-    pair.gateway.line(" WARN subscriber 1: stream 101: disconnected, since its blocks changed")
+    pair.gateway.line(" WARN subscriber 1: stream 101: disconnected: its layout changed")
     pair.first = bench.subscriber(pair.ports[0])
     same(pair.first.start(101)[62:66].hex(), bytes(config)[62:66].hex(), "PHUNIT of the CFG-2 that is asked for then")
     pair.first_is_served(2)
@@ -175,7 +175,7 @@ def test_another_length_brings_the_configuration(bench):
         came = [it.what for it in swap.reader.came[begun:]]
         same(swap.reader.count("configuration"), at + 2, "CFG-2s")
         same([it for it in came[came.index("configuration"):] if it not in ("configuration", "right")], [], "frames that do not fit behind CFG-2")
-    swap.gateway.logs("INFO subscriber 1: stream 101: its blocks changed; CFG-2 sent unasked", 3)
+    swap.gateway.logs("INFO subscriber 1: stream 101: its layout changed; CFG-2 sent unasked", 3)
     swap.end(closed=0, unfit=3 * BEFORE)
 
 
@@ -340,7 +340,7 @@ def test_a_stream_that_is_off_is_defined_anew_with_the_same_blocks(bench):
         for _ in range(5):
             same(read_by(client.data(3), layout, RATE), "right", "how a frame is read")
     except (Closed, ConnectionError):
-        swap.gateway.line(" WARN subscriber 1: stream 101: disconnected, since its blocks changed")
+        swap.gateway.line(" WARN subscriber 1: stream 101: disconnected: its layout changed")
     client.close()
     swap.reader = bench.reader(swap.ports[0], [101], rate=RATE)
     swap.reader.reads(101, [7])

@@ -60,7 +60,7 @@ def test_lines_steer_sources_and_ports(bench):
 
     does("disconnect 20")
     expect(pair.second.is_closed(3), "`disconnect 20` leaves the connection")
-    gateway.logs("INFO subscriber 20: hung up by an order")
+    gateway.logs("INFO subscriber 20: disconnected by a command")
     again = bench.subscriber(pair.ports[1])
     again.start(2000)
     port = bench.port()
@@ -79,7 +79,7 @@ def test_lines_steer_sources_and_ports(bench):
     expect(pair.nine.link.is_closed(3), "`dial` closes the connection to the old address")
     does("undial 9")
     expect(moved.link.is_closed(3) and not moved.is_called(1.2), "`undial` closes the connection, and makes no other")
-    same(gateway.logged("subscriber 1: (hung up|its port).*"), 0)
+    same(gateway.logged("subscriber 1: (disconnected|its port).*"), 0)
     gateway.quit()
 
 
@@ -87,8 +87,8 @@ def test_lines_about_sources_and_ports_are_read(bench):
     """Each line does what it says, with one space between its words or several, at the ends of the ranges of its numbers."""
     gateway = bench.gateway(pmu(7) + subscriber(65535))
     port, said = bench.port(), "INFO subscriber 65535: "
-    for line, log, times in (("dial 7 127.0.0.255:4712", r"INFO source 7: called at 127\.0\.0\.255:4712", 1),
-                             ("  undial   7 ", "INFO source 7: called no longer", 1),
+    for line, log, times in (("dial 7 127.0.0.255:4712", r"INFO source 7: connecting to 127\.0\.0\.255:4712", 1),
+                             ("  undial   7 ", "INFO source 7: no longer connected, and not connecting again", 1),
                              (f"listen 65535 {port}", rf"{said}may connect at 0\.0\.0\.0:{port}", 1),
                              ("listen 65535 65535 127.0.0.1", rf"{said}may connect at 127\.0\.0\.1:65535", 1),
                              ("unlisten 65535", f"{said}its port is closed", 2),
@@ -137,7 +137,7 @@ def test_a_subscriber_is_dropped_and_added_by_lines(bench):
     pair.first_is_served()
     refused = bench.subscriber(pair.ports[1])
     expect(refused.is_closed(3), "a dropped subscriber is let in")
-    gateway.logs("WARN subscriber 20: a connection was refused: 26 NoSuchSub")
+    gateway.logs("WARN subscriber 20: connection refused: 26 NoSuchSub")
     for line in ("addsub 20 32", "grant 20 9", "define 20 2222 15 1000000 1 4 none 9"):
         gateway.does(line, "done 0 0")
     pair.second = bench.subscriber(pair.ports[1])
@@ -202,7 +202,7 @@ def test_closed_standard_output_ends_nothing(bench):
     pair.start()
     gateway.process.stdout.close()
     gateway.say("stats 1")
-    gateway.logs("WARN answers can't be written, or lines not be read.*")
+    gateway.logs("WARN a command can't be read, or its answer can't be written.*")
     pair.first_is_served()
     same(gateway.ctl("stats 99")[:2], (1, "refused 26 NoSuchSub\n"))
     same(gateway.ctl("quit"), (0, "", ""))

@@ -59,11 +59,11 @@ PLAIN = "text/plain; charset=utf-8"
 # What is shown, by the beginning of its content; what is refused, whole.
 SHOWN = {"page": ("text/html; charset=utf-8", b"<!DOCTYPE html>\n"), "state": ("application/json", b'{"name":"'),
          "metrics": ("text/plain; version=0.0.4; charset=utf-8", b"# HELP pdcgw_info ")}
-DENIED = {"400": ("400 Bad Request", "", b"This is no request of HTTP/1.1.\n"),
-          "404": ("404 Not Found", "", b"Nothing is here. There are /, /state and /metrics.\n"),
-          "405": ("405 Method Not Allowed", "Allow: GET, HEAD\r\n", b"All here is read by GET or HEAD.\n"),
-          "431": ("431 Request Header Fields Too Large", "", b"The head of a request has at most 8192 bytes and 64 fields.\n"),
-          "503": ("503 Service Unavailable", "Retry-After: 1\r\n", b"As many connections are served as may be: ask again in a second.\n")}
+DENIED = {"400": ("400 Bad Request", "", b"This is not a request of HTTP/1.1.\n"),
+          "404": ("404 Not Found", "", b"Not found. There are /, /state and /metrics.\n"),
+          "405": ("405 Method Not Allowed", "Allow: GET, HEAD\r\n", b"Only GET and HEAD are allowed.\n"),
+          "431": ("431 Request Header Fields Too Large", "", b"The head of a request may have at most 8192 bytes and 64 fields.\n"),
+          "503": ("503 Service Unavailable", "Retry-After: 1\r\n", b"16 connections are open, the most possible: try again in a second.\n")}
 ASKED = """\
 GET / HTTP/1.1=page
 GET / HTTP/1.0=page
@@ -175,11 +175,11 @@ def test_a_seventeenth_client_is_answered(bench):
     # It asks all the same, and is not reset.
     clients[16].sendall(b"GET / HTTP/1.1\r\n\r\n")
     is_answered(read_all(clients[16]), "503")
-    gateway.logs("WARN page: a connection was answered 503, since 16 are open")
+    gateway.logs("WARN page: a connection was answered 503: 16 are open")
     time.sleep(1.2)
     expect(http(page, "/")[0].startswith("HTTP/1.1 200 OK"), "one more, once the others are idle")
     same(read_all(clients[0]), b"", "the one that was idle longest")
-    gateway.logs("WARN page: an idle connection was closed for another")
+    gateway.logs("WARN page: an idle connection was closed to accept another")
     for client in clients[1:16]:
         client.sendall(b"GET / HTTP/1.1\r\n\r\n")
         expect(read_all(client).startswith(b"HTTP/1.1 200 OK\r\n"), "one of the 16")

@@ -33,25 +33,25 @@ class Reloads(Pair):
         self.first_is_served()
 
     def end(self):
-        same(self.gateway.logged("subscriber 1: (hung up|the connection ended|its port).*"), 0)
-        same(self.gateway.logged("source 7: called at.*"), 1)
+        same(self.gateway.logged("subscriber 1: (disconnected|the connection ended|its port).*"), 0)
+        same(self.gateway.logged("source 7: connecting to.*"), 1)
         self.gateway.quit()
 
 
 def test_reload_of_the_same_file_changes_nothing(bench):
     """A file that says the same by other words, or has a mistake, changes nothing; the mistakes are the answer and the log says so."""
     pair = Reloads(bench).begin()
-    pair.change("reloaded: 0 edits, 0 orders")
-    pair.change("reloaded: 0 edits, 0 orders", nine="# a comment\n" + pair.tables["nine"] + "silence = 10\n")
-    pair.gateway.logs("INFO the setup was read again, and what changed is done", 2)
+    pair.change("reloaded: 0 edits, 0 changes of connections and ports")
+    pair.change("reloaded: 0 edits, 0 changes of connections and ports", nine="# a comment\n" + pair.tables["nine"] + "silence = 10\n")
+    pair.gateway.logs("INFO `reload`: the setup was read, and its changes are done", 2)
     text = pair.more + "".join(pair.tables.values())
     line = text.count("\n") + 2
     pair.gateway.reload(text + "[[pmu]]\nid = 0\n",
-                        f"{pair.gateway.file}:{line}: pmu.id: is the number 0; it has to be a whole number from 1 to 65534",
+                        f"{pair.gateway.file}:{line}: pmu.id: is 0; it has to be a whole number from 1 to 65534",
                         "refused 37 BadSetup")
-    pair.gateway.logs("WARN the setup was read again; nothing changes")
+    pair.gateway.logs("WARN `reload` failed, nothing was changed: its answer says why")
     pair.second_is_served()
-    pair.change("reloaded: 0 edits, 0 orders")
+    pair.change("reloaded: 0 edits, 0 changes of connections and ports")
     pair.end()
 
 
@@ -60,7 +60,7 @@ def test_reload_changes_grants_and_streams(bench):
     pair = Reloads(bench).begin()
     pair.second_is_served()
     seven = stream(2001, [7])
-    pair.change("reloaded: 2 edits, 0 orders", twenty=subscriber(20, pair.ports[1], ring=16, grants=[9, 7]),
+    pair.change("reloaded: 2 edits, 0 changes of connections and ports", twenty=subscriber(20, pair.ports[1], ring=16, grants=[9, 7]),
                 streams=pair.tables["streams"] + seven)
     pair.second_is_served()
     pair.second.start(2001)
@@ -68,17 +68,17 @@ def test_reload_changes_grants_and_streams(bench):
     pair.seven.measure(slot, number)
     pair.first.comes(stream_frame(101, slot, number))
     pair.second.comes(stream_frame(2001, slot, number))
-    pair.gateway.reload(pair.more + "".join({**pair.tables, "streams": seven + stream(2000, [9], rate=15)}.values()), "reloaded: 2 edits, 0 orders")
+    pair.gateway.reload(pair.more + "".join({**pair.tables, "streams": seven + stream(2000, [9], rate=15)}.values()), "reloaded: 2 edits, 0 changes of connections and ports")
     same(pair.second.frame()[1] >> 4, CONFIG_2, "the stream goes on behind its CFG-2")
     slot = (now_soc() + 2) * RATE
     pair.nine.measure(slot, 77)
     pair.second.comes(data_of(2000, *stamp(slot // 2, 15), [number_block(77)]))
     changed = stream(2000, [9], rate=15)
-    pair.change("reloaded: 2 edits, 0 orders", twenty=subscriber(20, pair.ports[1], ring=16, grants=[9]), streams=changed)
+    pair.change("reloaded: 2 edits, 0 changes of connections and ports", twenty=subscriber(20, pair.ports[1], ring=16, grants=[9]), streams=changed)
     expect(pair.second.is_closed(3), "a stream that is on is gone, and its connection stays")
     pair.second = bench.subscriber(pair.ports[1])
     pair.second.start(2000)
-    pair.change("reloaded: 4 edits, 0 orders", twenty=subscriber(20, pair.ports[1], ring=32, grants=[9]))
+    pair.change("reloaded: 4 edits, 0 changes of connections and ports", twenty=subscriber(20, pair.ports[1], ring=32, grants=[9]))
     expect(pair.second.is_closed(3), "a subscriber that is added anew keeps its connection")
     pair.second = bench.subscriber(pair.ports[1])
     pair.second.start(2000)
@@ -92,7 +92,7 @@ def test_reload_adds_and_drops_a_source_and_a_subscriber(bench):
     pair = Reloads(bench).begin()
     eight, port = bench.source(8, host="127.0.0.9"), bench.port()
     third = subscriber(3, port, ring=16, grants=[8]) + stream(300, [8])
-    pair.change("reloaded: 4 edits, 2 orders", eight=pmu(8, connect=eight.address), third=third)
+    pair.change("reloaded: 4 edits, 2 changes of connections and ports", eight=pmu(8, connect=eight.address), third=third)
     eight.come()
     pair.gateway.line("source 8: announced")
     client = bench.subscriber(port)
@@ -101,10 +101,10 @@ def test_reload_adds_and_drops_a_source_and_a_subscriber(bench):
     eight.measure(slot, 5)
     client.comes(stream_frame(300, slot, 5))
     # Source 8 is called no longer, though its PMU stays.
-    pair.change("reloaded: 0 edits, 1 orders", eight=pmu(8))
+    pair.change("reloaded: 0 edits, 1 change of connections and ports", eight=pmu(8))
     expect(eight.link.is_closed(3), "the connection of source 8")
-    pair.gateway.logs("source 8: called no longer")
-    pair.change("reloaded: 2 edits, 1 orders", eight="", third="")
+    pair.gateway.logs("source 8: no longer connected, and not connecting again")
+    pair.change("reloaded: 2 edits, 1 change of connections and ports", eight="", third="")
     expect(client.is_closed(3) and is_refused(port), "subscriber 3 is gone")
     pair.gateway.does("pmustats 8", "refused 23 NoSuchPmu")
     pair.second_is_served()
@@ -115,15 +115,15 @@ def test_reload_moves_a_port(bench):
     """A changed port is opened, and the old one closed with its connection; a port that is taken is reported, and the others are done."""
     pair = Reloads(bench).begin()
     port = bench.port()
-    pair.change("reloaded: 0 edits, 2 orders", twenty=subscriber(20, port, ring=16, grants=[9]))
+    pair.change("reloaded: 0 edits, 2 changes of connections and ports", twenty=subscriber(20, port, ring=16, grants=[9]))
     expect(pair.second.is_closed(3) and is_refused(pair.ports[1]), "the old port")
     pair.second = bench.subscriber(port)
     pair.second.start(2000)
     pair.second_is_served()
     third = subscriber(3, pair.ports[0], address="127.0.0.1", ring=16)
-    pair.change(f"subscriber 3: port 127.0.0.1:{pair.ports[0]}: address in use", "refused 39 ReadFault", "reloaded: 1 edits, 0 orders",
+    pair.change(f"subscriber 3: port 127.0.0.1:{pair.ports[0]}: address in use", "refused 39 ReadFault", "reloaded: 1 edit, 0 changes of connections and ports",
                 third=third)
-    pair.gateway.logs("WARN subscriber 3: its port can't be bound: address in use")
+    pair.gateway.logs("WARN subscriber 3: its port can't be bound: address in use; retrying every 30 s")
     pair.second_is_served()
     pair.end()
 
@@ -132,7 +132,7 @@ def test_reload_moves_a_port(bench):
 def test_reload_changes_the_rules_of_a_port(bench):
     """Changed rules of a port close and open it, and hold from then on."""
     pair = Reloads(bench).begin()
-    pair.change("reloaded: 0 edits, 2 orders", twenty=subscriber(20, pair.ports[1], ring=16, grants=[9], takeover=True))
+    pair.change("reloaded: 0 edits, 2 changes of connections and ports", twenty=subscriber(20, pair.ports[1], ring=16, grants=[9], takeover=True))
     expect(pair.second.is_closed(3), "the connection of a port whose rules changed")
     old = bench.subscriber(pair.ports[1])
     old.start(2000)
@@ -141,19 +141,19 @@ def test_reload_changes_the_rules_of_a_port(bench):
     pair.second.start(2000)
     expect(old.is_closed(3), "`takeover` after a reload")
     pair.second_is_served()
-    pair.change("reloaded: 0 edits, 2 orders", twenty=subscriber(20, pair.ports[1], ring=16, grants=[9], idle=1))
+    pair.change("reloaded: 0 edits, 2 changes of connections and ports", twenty=subscriber(20, pair.ports[1], ring=16, grants=[9], idle=1))
     expect(pair.second.is_closed(3), "the connection of a port whose rules changed")
     last = bench.subscriber(pair.ports[1])
     last.start(2000)
     expect(last.is_closed(3), "`idle` after a reload")
-    pair.gateway.logs("WARN subscriber 20: hung up, since nothing went either way.*")
+    pair.gateway.logs("WARN subscriber 20: disconnected: no traffic.*")
     pair.end()
 
 
 def test_reload_changes_a_source(bench):
     """A new PMU of a source, its rules or its address have it called again, and hold from then on; the other source is not."""
     pair = Reloads(bench).begin()
-    pair.change("reloaded: 1 edits, 2 orders", ten=pmu(10, source=9, silence=1))
+    pair.change("reloaded: 1 edit, 2 changes of connections and ports", ten=pmu(10, source=9, silence=1))
     expect(pair.nine.link.is_closed(3), "the connection of source 9")
     pair.nine.pmus = [9, 10]
     pair.nine.come()
@@ -164,10 +164,10 @@ def test_reload_changes_a_source(bench):
     begun = time.monotonic()
     expect(pair.nine.link.is_closed(3) and time.monotonic() - begun > 0.5, "`silence` after a reload")
     pair.nine.pmus = [9]
-    pair.change("reloaded: 1 edits, 2 orders", ten="")
+    pair.change("reloaded: 1 edit, 2 changes of connections and ports", ten="")
     pair.nine.come()
     moved = bench.source(9, host="127.0.0.11")
-    pair.change("reloaded: 0 edits, 2 orders", nine=pmu(9, connect=moved.address))
+    pair.change("reloaded: 0 edits, 2 changes of connections and ports", nine=pmu(9, connect=moved.address))
     moved.come()
     expect(pair.nine.link.is_closed(3), "the connection to the old address")
     pair.nine = moved
@@ -178,7 +178,7 @@ def test_reload_changes_a_source(bench):
 def test_reload_sets_clock_ms(bench):
     """A changed `clock_ms` holds from the reload on, for its own source."""
     pair = Reloads(bench).begin()
-    pair.change("reloaded: 0 edits, 2 orders", nine=pmu(9, connect=pair.nine.address, clock_ms=1000))
+    pair.change("reloaded: 0 edits, 2 changes of connections and ports", nine=pmu(9, connect=pair.nine.address, clock_ms=1000))
     pair.nine.come()
     pair.nine.measure(now_soc() * RATE, 1, seconds_off=-5)
     until(lambda: "ignored FarClock=1 " in pair.gateway.status()["source 9"], "FarClock=1 of source 9")
@@ -193,11 +193,11 @@ def test_an_edit_that_a_reload_can_not_do_is_reported(bench):
     """A line had done something else: that edit is reported in the answer and the log, and the others are done."""
     pair = Reloads(bench).begin()
     pair.gateway.does("revoke 20 9", "done 0 0")
-    pair.change("subscriber 20: the grant of PMU 9/9 can't be revoked: it has no such grant (35 NotGranted)", "refused 35 NotGranted",
-                "reloaded: 3 edits, 0 orders", twenty=subscriber(20, pair.ports[1], ring=16, grants=[7]),
+    pair.change("subscriber 20: the grant of PMU 9/9 can't be revoked: the PMU is not granted to it (35 NotGranted)", "refused 35 NotGranted",
+                "reloaded: 3 edits, 0 changes of connections and ports", twenty=subscriber(20, pair.ports[1], ring=16, grants=[7]),
                 streams=stream(2000, [9], header="west"))
-    pair.gateway.logs(r"WARN subscriber 20: the grant of PMU 9/9 can't be revoked: it has no such grant \(35 NotGranted\)")
-    pair.change("reloaded: 4 edits, 0 orders", twenty=subscriber(20, pair.ports[1], ring=16, grants=[9]), streams=stream(2000, [9]))
+    pair.gateway.logs(r"WARN subscriber 20: the grant of PMU 9/9 can't be revoked: the PMU is not granted to it \(35 NotGranted\)")
+    pair.change("reloaded: 4 edits, 0 changes of connections and ports", twenty=subscriber(20, pair.ports[1], ring=16, grants=[9]), streams=stream(2000, [9]))
     # Stream 2000 goes on behind each reload, by CFG-2.
     for _ in range(2):
         same(pair.second.frame()[1] >> 4, CONFIG_2)
@@ -209,9 +209,9 @@ def test_status_has_each_once_after_many_changes(bench):
     """`status` has each source, subscriber and stream once, whatever was asked of which thread before."""
     pair = Reloads(bench).begin()
     port = bench.port()
-    pair.change("reloaded: 0 edits, 2 orders", twenty=subscriber(20, port, ring=16, grants=[9]))
+    pair.change("reloaded: 0 edits, 2 changes of connections and ports", twenty=subscriber(20, port, ring=16, grants=[9]))
     moved = bench.source(9)
-    pair.change("reloaded: 0 edits, 2 orders", nine=pmu(9, connect=moved.address))
+    pair.change("reloaded: 0 edits, 2 changes of connections and ports", nine=pmu(9, connect=moved.address))
     moved.come()
     pair.gateway.does(f"listen 20 {pair.ports[1]}", "done 0 0")
     pair.gateway.does(f"dial 9 {pair.nine.address}", "done 0 0")
@@ -221,14 +221,14 @@ def test_status_has_each_once_after_many_changes(bench):
     pair.end()
 
 
-def test_keys_that_need_a_new_start_are_reported(bench):
+def test_keys_that_need_a_restart_are_reported(bench):
     """A change of `tick_ms`, `ingest`, `serve`, `control`, `status` or `name` is reported by a reload, which does the rest."""
     pair = Reloads(bench).begin()
     pair.more = f'tick_ms = 20\ncontrol = "{bench.folder}/c"\nstatus = "127.0.0.1:{bench.port()}"\nname = "other"\n'
-    answer = sorted(f"{key} needs a new start" for key in ("tick_ms", "ingest", "serve", "control", "status", "name"))
+    answer = sorted(f"{key}: takes effect at the next restart" for key in ("tick_ms", "ingest", "serve", "control", "status", "name"))
     pair.gateway.write(pair.more + "".join(pair.tables.values()))
     came = pair.gateway.ask("reload", 7)
-    same((sorted(came[:6]), came[6]), (answer, "reloaded: 0 edits, 0 orders"))
+    same((sorted(came[:6]), came[6]), (answer, "reloaded: 0 edits, 0 changes of connections and ports"))
     pair.first_is_served()
     pair.end()
 
@@ -239,7 +239,7 @@ def test_reload_sets_the_level_of_the_log(bench):
     pair = Reloads(bench).begin()
     pair.gateway.logs("subscriber 20: connected from.*")
     pair.more = 'log = "warn"\n' + pair.more
-    pair.change("reloaded: 0 edits, 0 orders")
+    pair.change("reloaded: 0 edits, 0 changes of connections and ports")
     time.sleep(0.3)
     pair.second.close()
     for _ in range(2):
@@ -247,12 +247,12 @@ def test_reload_sets_the_level_of_the_log(bench):
         again.start(2000)
         expect(bench.subscriber(pair.ports[1]).is_closed(3), "a second connection")
         again.close()
-    pair.gateway.logs(r"WARN subscriber 20: a connection was refused: \S+, since \S+ is connected \(34 Busy\)")
+    pair.gateway.logs(r"WARN subscriber 20: connection refused from \S+: \S+ is connected already \(34 Busy\)")
     # (a line that is logged again is held back for a second)
     time.sleep(1.5)
     same(pair.gateway.logged("subscriber 20: connected from.*"), 1)
     pair.more = pair.more.replace('log = "warn"\n', "")
-    pair.change("reloaded: 0 edits, 0 orders")
+    pair.change("reloaded: 0 edits, 0 changes of connections and ports")
     bench.subscriber(pair.ports[1])
     pair.gateway.logs("INFO subscriber 20: connected from.*", 2)
     pair.end()
@@ -339,13 +339,13 @@ class Taken(Reloads):
 def test_a_reload_tries_a_port_again(bench):
     """A port that is taken is tried again by each reload, also of the same file; once it is free the next reload opens it."""
     taken = Taken(bench)
-    same(taken.reloads(), ["reloaded: 0 edits, 0 orders"], "the answer to `reload`")
+    same(taken.reloads(), ["reloaded: 0 edits, 0 changes of connections and ports"], "the answer to `reload`")
     same(taken.gateway.logged("subscriber 3: may connect.*"), 0)
     taken.holder.close()
-    same(taken.reloads(), ["reloaded: 0 edits, 0 orders"], "the answer to `reload`")
+    same(taken.reloads(), ["reloaded: 0 edits, 0 changes of connections and ports"], "the answer to `reload`")
     taken.gateway.logs(rf"subscriber 3: may connect at 0\.0\.0\.0:{taken.port}")
     taken.is_open()
-    same(taken.gateway.logged("WARN subscriber 3: its port can't be bound: address in use"), 1)
+    same(taken.gateway.logged("WARN subscriber 3: its port can't be bound: address in use; retrying every 30 s"), 1)
 
 
 @takes(36)
@@ -434,8 +434,8 @@ def test_a_reload_keeps_nothing_waiting(bench):
     beside.other.send(b"reload\nstatus\nend\n")
     os.write(pipe, text)
     os.close(pipe)
-    beside.asking.gets(b"reloaded: 0 edits, 0 orders\nrefused 23 NoSuchPmu\n")
-    beside.other.gets(b"reloaded: 1 edits, 0 orders\nsource 7 ")
+    beside.asking.gets(b"reloaded: 0 edits, 0 changes of connections and ports\nrefused 23 NoSuchPmu\n")
+    beside.other.gets(b"reloaded: 1 edit, 0 changes of connections and ports\nsource 7 ")
     beside.gateway.quit()
 
 
@@ -448,7 +448,7 @@ def test_a_reload_of_a_large_file_keeps_nothing_waiting(bench):
     beside.asking.socket.shutdown(socket.SHUT_WR)
     beside.goes_on(0.5)
     lines = read_all(beside.asking.socket).decode().splitlines()
-    same((len(lines), lines[100].split(": ")[1], lines[101]), (102, "99900 more faults", "refused 37 BadSetup"))
+    same((len(lines), lines[100].split(": ")[1], lines[101]), (102, "99900 more mistakes", "refused 37 BadSetup"))
     beside.gateway.quit()
 
 

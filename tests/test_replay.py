@@ -9,7 +9,7 @@ from peers import PATIENCE, same
 
 NOT_READ = "pdcgw: input can't be read; it has to be a file, a pipe or a terminal that is open\npdcgw: 39 ReadFault\n"
 NOT_WRITTEN = "pdcgw: output can't be written; it has to be a file, a pipe or a terminal that takes it\npdcgw: 40 WriteFault\n"
-NO_MEMORY = "pdcgw: memory ran out; the system has to give more, or the setup to ask for less\npdcgw: 1 NoMemory\n"
+NO_MEMORY = "pdcgw: out of memory; give this machine more, or let the setup need less\npdcgw: 1 NoMemory\n"
 
 
 def replayed(bench, stdin, stdout=subprocess.PIPE, **keys):

@@ -20,7 +20,7 @@ id = 7
 id = 1
 ring = 64
 =>
-1: tick_ms: is the number 0; it has to be a whole number from 1 to 1000
+1: tick_ms: is 0; it has to be a whole number from 1 to 1000
 ----
 [[pmu]]
 id = 7
@@ -36,7 +36,7 @@ conect = "10.0.0.1:4712"
 id = 1
 ring = 64
 =>
-3: pmu.conect: is no key here; the keys here are id, source, connect, silence, clock_ms, ahead_ms
+3: pmu.conect: unknown key; known keys: id, source, connect, silence, clock_ms, ahead_ms
 ----
 [[pmu]]
 id = 7
@@ -67,7 +67,7 @@ connect = "10.0.0.2:4712"
 id = 1
 ring = 64
 =>
-8: pmu.connect: is given twice for the source 7; one table of a source gives it
+8: pmu.connect: is given twice for source 7; only one of its tables may have it
 ----
 [[pmu]]
 id = 7
@@ -91,9 +91,9 @@ ahead_ms = 200
 id = 1
 ring = 64
 =>
-7: pmu.silence: differs from that in another table of the source 7; they have to say the same
-12: pmu.clock_ms: differs from that in another table of the source 7; they have to say the same
-18: pmu.ahead_ms: differs from that in another table of the source 7; they have to say the same
+7: pmu.silence: differs from another table of source 7; all its tables have to agree
+12: pmu.clock_ms: differs from another table of source 7; all its tables have to agree
+18: pmu.ahead_ms: differs from another table of source 7; all its tables have to agree
 ----
 [[subscriber]]
 id = 1
@@ -116,7 +116,7 @@ id = 1
 ring = 64
 allow = ["10.0.0.0/8", "10.0.0.0/33"]
 =>
-6: subscriber.allow: has as item 2 the text "10.0.0.0/33"; it has to be a list of texts "A.B.C.D" or "A.B.C.D/BITS"
+6: subscriber.allow: item 2 is the text "10.0.0.0/33"; it has to be a list of texts "A.B.C.D" or "A.B.C.D/BITS"
 ----
 [[pmu]]
 id = 7
@@ -125,7 +125,7 @@ id = 1
 ring = 64
 takeover = 1
 =>
-6: subscriber.takeover: is the number 1; it has to be true or false
+6: subscriber.takeover: is 1; it has to be true or false
 ----
 [[pmu]]
 id = 7
@@ -143,7 +143,7 @@ id = 1
 ring = 64
 grants = [7, "7/70000"]
 =>
-6: subscriber.grants: has as item 2 the text "7/70000"; it has to be a list of PMUs, each a number or a text "SOURCE/PMU", from 1 to 65534
+6: subscriber.grants: item 2 is the text "7/70000"; it has to be a list of PMUs, each a number from 1 to 65534 or a text "SOURCE/PMU" of two
 ----
 [[pmu]]
 id = 7
@@ -158,7 +158,7 @@ wait = 2
 window = 4
 members = []
 =>
-12: subscriber.stream.members: is a list with 0 items; it has to be a list of 1 to 32 PMUs, each a number or a text "SOURCE/PMU", from 1 to 65534
+12: subscriber.stream.members: is a list with 0 items; it has to be a list of 1 to 32 PMUs, each a number from 1 to 65534 or a text "SOURCE/PMU" of two
 ----
 [[pmu]]
 id = 7
@@ -175,7 +175,7 @@ header = 5
 =>
 6: subscriber.stream.window: is missing; it has to be a whole number from 1 to 64
 8: subscriber.stream.rate: is a number with a fraction, a date or a time; it has to be a whole number from 1 to 120
-12: subscriber.stream.header: is the number 5; it has to be a text
+12: subscriber.stream.header: is 5; it has to be a text
 ----
 [[pmu]]
 id = 7
@@ -191,11 +191,11 @@ window = 65
 members = [7]
 rat = 30
 =>
-8: subscriber.stream.rate: is the number 121; it has to be a whole number from 1 to 120
-9: subscriber.stream.base: is the number 16777216; it has to be a whole number from 1 to 16777215
-10: subscriber.stream.wait: is the number 60001; it has to be a whole number from 0 to 60000
-11: subscriber.stream.window: is the number 65; it has to be a whole number from 1 to 64
-13: subscriber.stream.rat: is no key here; the keys here are id, rate, base, wait, window, header, members
+8: subscriber.stream.rate: is 121; it has to be a whole number from 1 to 120
+9: subscriber.stream.base: is 16777216; it has to be a whole number from 1 to 16777215
+10: subscriber.stream.wait: is 60001; it has to be a whole number from 0 to 60000
+11: subscriber.stream.window: is 65; it has to be a whole number from 1 to 64
+13: subscriber.stream.rat: unknown key; known keys: id, rate, base, wait, window, header, members
 ----
 tick_ms = = 10
 [[pmu]]
@@ -232,9 +232,9 @@ grants = [
 ]
 port = 70000
 =>
-14: subscriber.ring: is the number 2000; it has to be a whole number from 1 to 1024
-15: subscriber.grants: has as item 2 true; it has to be a list of PMUs, each a number or a text "SOURCE/PMU", from 1 to 65534
-19: subscriber.port: is the number 70000; it has to be a whole number from 1 to 65535
+14: subscriber.ring: is 2000; it has to be a whole number from 1 to 1024
+15: subscriber.grants: item 2 is true; it has to be a list of PMUs, each a number from 1 to 65534 or a text "SOURCE/PMU" of two
+19: subscriber.port: is 70000; it has to be a whole number from 1 to 65535
 ----
 logging = "info"
 serve = 9
@@ -249,13 +249,13 @@ stall = 3601
 [[subscriber.streams]]
 id = 101
 =>
-1: logging: is no key here; the keys here are tick_ms, ingest, serve, log, control, status, name, pmu, subscriber
-2: serve: is the number 9; it has to be a whole number from 1 to 8
+1: logging: unknown key; known keys: tick_ms, ingest, serve, log, control, status, name, pmu, subscriber
+2: serve: is 9; it has to be a whole number from 1 to 8
 3: pmu.id: is missing; it has to be a whole number from 1 to 65534
-6: pmu.id: is the number 0; it has to be a whole number from 1 to 65534
-8: subscriber.id: is the number 65536; it has to be a whole number from 1 to 65535
-10: subscriber.stall: is the number 3601; it has to be a whole number from 0 to 3600
-11: subscriber.streams: is no key here; the keys here are id, port, ring, bytes, grants, stream, address, allow, takeover, stall, idle, change
+6: pmu.id: is 0; it has to be a whole number from 1 to 65534
+8: subscriber.id: is 65536; it has to be a whole number from 1 to 65535
+10: subscriber.stall: is 3601; it has to be a whole number from 0 to 3600
+11: subscriber.streams: unknown key; known keys: id, port, ring, bytes, grants, stream, address, allow, takeover, stall, idle, change
 ----
 pmu = [{ id = 7 }, 5]
 [[subscriber]]
@@ -263,14 +263,14 @@ id = 1
 ring = 64
 bytes = 15
 =>
-1: pmu: has as item 2 the number 5; it has to be one table or more, each under [[pmu]]
-5: subscriber.bytes: is the number 15; it has to be a whole number from 16 to 16777216
+1: pmu: item 2 is 5; it has to be one table or more, each under [[pmu]]
+5: subscriber.bytes: is 15; it has to be a whole number from 16 to 16777216
 ----
 pmu = 7
 subscriber = [{ id = 1, ring = 64, idle = -1 }]
 =>
-1: pmu: is the number 7; it has to be one table or more, each under [[pmu]]
-2: subscriber.idle: is the number -1; it has to be a whole number from 0 to 3600
+1: pmu: is 7; it has to be one table or more, each under [[pmu]]
+2: subscriber.idle: is -1; it has to be a whole number from 0 to 3600
 ----
 [[pmu]]
 id = 7
@@ -284,7 +284,7 @@ id = 2
 ring = 64
 change = true
 =>
-3: pmu.ahead_ms: is the number 30001; it has to be a whole number from 0 to 30000
+3: pmu.ahead_ms: is 30001; it has to be a whole number from 0 to 30000
 7: subscriber.change: is the text "hang up"; it has to be "safe", "hangup" or "keep"
 11: subscriber.change: is true; it has to be "safe", "hangup" or "keep"
 ----
@@ -322,7 +322,7 @@ id = 7
 id = 1
 ring = 64
 =>
-1: status: is the number 9100; it has to be a text "A.B.C.D:PORT"
+1: status: is 9100; it has to be a text "A.B.C.D:PORT"
 4: control: is the text "/run/012345678901234567890123456789012345678901234567890123456789012345678901234567890123456789012345678901x"; it has to be the path of a socket, a text of 1 to 107 bytes without a zero byte
 5: log: is true; it has to be "error", "warn", "info" or "debug"
 ----
@@ -346,8 +346,8 @@ rat = 1 # '
 id = 0
 ring = 64
 =>
-16: subscriber.stream.rat: is no key here; the keys here are id, rate, base, wait, window, header, members
-18: subscriber.id: is the number 0; it has to be a whole number from 1 to 65535
+16: subscriber.stream.rat: unknown key; known keys: id, rate, base, wait, window, header, members
+18: subscriber.id: is 0; it has to be a whole number from 1 to 65535
 ----
 [[pmu]]
 id = 7
@@ -375,10 +375,10 @@ wait = 2
 window = 4
 members = [7]
 =>
-6: subscriber.stream.rate: is the number 600; it has to be a whole number from 1 to 120
-12: subscriber.stream.rate: is the number 600; it has to be a whole number from 1 to 120
-17: subscriber.stream.x: is no key here; the keys here are id, rate, base, wait, window, header, members
-20: subscriber.stream.id: is the number 0; it has to be a whole number from 1 to 65534
+6: subscriber.stream.rate: is 600; it has to be a whole number from 1 to 120
+12: subscriber.stream.rate: is 600; it has to be a whole number from 1 to 120
+17: subscriber.stream.x: unknown key; known keys: id, rate, base, wait, window, header, members
+20: subscriber.stream.id: is 0; it has to be a whole number from 1 to 65534
 """
 
 # Lines that end as on Windows.
@@ -392,8 +392,8 @@ id = 7
 id = 1
 ring = 0
 =>
-3: serve: is the number 9; it has to be a whole number from 1 to 8
-8: subscriber.ring: is the number 0; it has to be a whole number from 1 to 1024
+3: serve: is 9; it has to be a whole number from 1 to 8
+8: subscriber.ring: is 0; it has to be a whole number from 1 to 1024
 ----
 tick_ms = 10
 [[pmu]]
@@ -418,7 +418,7 @@ id = 1
 ring = 64
 =>
 6: log: is the text "[[subscriber]]\\n'"; it has to be "error", "warn", "info" or "debug"
-10: pmu.id: is the number 0; it has to be a whole number from 1 to 65534
+10: pmu.id: is 0; it has to be a whole number from 1 to 65534
 ----
 "serve" = 9
 log = """[""""
@@ -437,13 +437,13 @@ ring = 0
 [subscriber.more.steep]
 ring = 0
 =>
-1: serve: is the number 9; it has to be a whole number from 1 to 8
+1: serve: is 9; it has to be a whole number from 1 to 8
 2: log: is the text "[\\""; it has to be "error", "warn", "info" or "debug"
-3: ingest: is the number 9; it has to be a whole number from 1 to 8
-6: pmu.silenc: is no key here; the keys here are id, source, connect, silence, clock_ms, ahead_ms
-7: pmu.extra: is no key here; the keys here are id, source, connect, silence, clock_ms, ahead_ms
-12: subscriber.other: is no key here; the keys here are id, port, ring, bytes, grants, stream, address, allow, takeover, stall, idle, change
-13: subscriber.more: is no key here; the keys here are id, port, ring, bytes, grants, stream, address, allow, takeover, stall, idle, change
+3: ingest: is 9; it has to be a whole number from 1 to 8
+6: pmu.silenc: unknown key; known keys: id, source, connect, silence, clock_ms, ahead_ms
+7: pmu.extra: unknown key; known keys: id, source, connect, silence, clock_ms, ahead_ms
+12: subscriber.other: unknown key; known keys: id, port, ring, bytes, grants, stream, address, allow, takeover, stall, idle, change
+13: subscriber.more: unknown key; known keys: id, port, ring, bytes, grants, stream, address, allow, takeover, stall, idle, change
 '''
 
 # Keys of a stream, from line 7 of the file on, and what is said of them.
@@ -481,7 +481,7 @@ wait = 2
 window = 4
 members = [7,8,7]
 =>
-s.toml:11: subscriber 1: stream 101: refused BadDefinition: members has PMU 7/7 twice; each may be in it once
+s.toml:11: subscriber 1: stream 101: refused BadDefinition: members has PMU 7/7 twice; once is allowed
 ----
 rate = 30
 base = 1000000
@@ -513,9 +513,9 @@ id = 3
 ring = 1
 port = 4800
 =>
-s.toml:1: warning: status: 10.0.0.4:4800 has the port of subscriber 1, and one of them can't be bound; the page has a port of its own
-s.toml:1: warning: status: 10.0.0.4:4800 has the port of subscriber 3, and one of them can't be bound; the page has a port of its own
-s.toml:18: warning: subscriber 3: port 4800 on 0.0.0.0 is that of subscriber 1 too, and one of them can't be bound; each subscriber has a port of its own
+s.toml:1: warning: status: 10.0.0.4:4800 is the port of subscriber 1 too, so one of them can't be bound; give the page its own port
+s.toml:1: warning: status: 10.0.0.4:4800 is the port of subscriber 3 too, so one of them can't be bound; give the page its own port
+s.toml:18: warning: subscriber 3: port 4800 on 0.0.0.0 is the port of subscriber 1 too, so one of them can't be bound; give each its own port
 ----
 [[pmu]]
 id = 7
@@ -531,8 +531,8 @@ id = 1
 ring = 1
 port = 4800
 =>
-s.toml:3: warning: source 7: 127.0.0.1:4800 is the port of subscriber 1 of this gateway; a source is elsewhere
-s.toml:9: warning: source 9: 10.0.0.1:4712 is the address of source 8 too; each source has an address of its own
+s.toml:3: warning: source 7: 127.0.0.1:4800 is the port of subscriber 1 of this gateway itself; give the address of the PMU or PDC
+s.toml:9: warning: source 9: 10.0.0.1:4712 is the address of source 8 too; give each source its own
 ----
 [[pmu]]
 id = 7
@@ -555,8 +555,8 @@ members = [
     8,
 ]
 =>
-s.toml:17: warning: subscriber 1: stream 101: member 7/8: it is not granted, so it is never in a frame; it has to be in grants, or it is another PMU
-s.toml:17: warning: subscriber 1: stream 101: member 8/8: no table [[pmu]] has it, so it is never in a frame; its table is missing, or it is another PMU
+s.toml:17: warning: subscriber 1: stream 101: member 7/8: it is not granted, so it is never in a frame; add it to grants, or correct the member
+s.toml:17: warning: subscriber 1: stream 101: member 8/8: no table [[pmu]] has it, so it is never in a frame; add the table, or correct the member
 ----
 # 30 x 10 x 20 / 1000 is 6.
 tick_ms = 20
@@ -589,8 +589,8 @@ wait = 50
 window = 64
 members = [7]
 =>
-s.toml:22: warning: subscriber 2: stream 101: window 5 is below rate x wait x tick_ms / 1000, 6 frames, so frames are sent before wait is over; at least as many
-s.toml:29: warning: subscriber 2: stream 102: window 64 is below rate x wait x tick_ms / 1000, 100 frames, so frames are sent before wait is over; at most 64 is possible, so a shorter wait
+s.toml:22: warning: subscriber 2: stream 101: window 5 is below rate x wait x tick_ms / 1000, 6 frames, so frames are sent before wait is over; at least as many are needed
+s.toml:29: warning: subscriber 2: stream 102: window 64 is below rate x wait x tick_ms / 1000, 100 frames, so frames are sent before wait is over; 64 is the most possible, so shorten wait
 ----
 # The wait is 100 ms, the window 133 ms.
 [[pmu]]
@@ -613,7 +613,7 @@ wait = 10
 window = 4
 members = [7, 8]
 =>
-s.toml:5: warning: source 7: clock_ms 101 is above the 100 ms that stream 101 of subscriber 1 holds a frame, the less of wait x tick_ms and window x 1000 / rate; where its time is further ahead, data of the others come late; a lower clock_ms, or a longer wait and window
+s.toml:5: warning: source 7: clock_ms 101 is above the 100 ms that stream 101 of subscriber 1 holds a frame (the less of wait x tick_ms and window x 1000 / rate), so its clock can be so far ahead that the data of others come late; lower clock_ms, or raise wait and window
 ----
 # A frame of one block has 22 bytes or more.
 [[pmu]]
@@ -651,9 +651,9 @@ wait = 2
 window = 4
 members = [7]
 =>
-s.toml:19: warning: subscriber 2: ring 1 is below its 2 streams, whose frames of one timestamp do not fit; at least 2
-s.toml:20: warning: subscriber 2: bytes 21 is below a frame of stream 101, which has 22 bytes or more where all its members have data, and is dropped; at least 22
-s.toml:20: warning: subscriber 2: bytes 21 is below a frame of stream 102, which has 22 bytes or more where all its members have data, and is dropped; at least 22
+s.toml:19: warning: subscriber 2: ring 1 is too small for one frame of each of its 2 streams; at least 2
+s.toml:20: warning: subscriber 2: bytes 21 is below one full frame of stream 101 (22 bytes or more), so its frames are dropped; at least 22
+s.toml:20: warning: subscriber 2: bytes 21 is below one full frame of stream 102 (22 bytes or more), so its frames are dropped; at least 22
 """
 # A file that is right, and what would run by it.
 RIGHT = """
@@ -668,6 +668,7 @@ source = 7
 [[pmu]]
 id = 9
 clock_ms = 500
+ahead_ms = 50
 [[subscriber]]
 id = 1
 port = 4800
@@ -692,13 +693,13 @@ id = 30
 ring = 1
 """
 REPORT = """
-2 sources, 2 ports; a tick each 20 ms; threads: 1 for sources, 2 for subscribers
-source 7: PMUs: 2; called at 10.0.0.1:4712, again after 10 s of silence
-source 9: PMUs: 1; not called, within 500 ms of this clock
+2 sources, 2 ports; a tick every 20 ms; threads: 1 for sources, 2 for subscribers
+source 7: 2 PMUs; connect 10.0.0.1:4712; silence 10 s, ahead_ms 200
+source 9: 1 PMU; no connect; silence 10 s, clock_ms 500, ahead_ms 50
 subscriber 1: port 4800 on 0.0.0.0, from any host; ring of 64 frames, 16777216 bytes
 subscriber 1: stream 101: 30 frames/s of 7/7 7/8
-subscriber 20: port 4801 on 10.0.0.9, from the hosts that it allows; ring of 2 frames, 1000 bytes
-subscriber 30: no port; ring of 1 frames, 16777216 bytes
+subscriber 20: port 4801 on 10.0.0.9, from the hosts in allow; ring of 2 frames, 1000 bytes
+subscriber 30: no port; ring of 1 frame, 16777216 bytes
 """
 # A file with edits that are refused, and why.
 REFUSED = """
@@ -722,10 +723,10 @@ id = 1
 ring = 64
 """
 REASONS = """
-s.toml:4: PMU 7/7: refused PmuExists: a table before it has this source and number; each PMU has one
-s.toml:8: subscriber 1: grant of PMU 8/8: refused NoSuchPmu: no table [[pmu]] has it; one has to
+s.toml:4: PMU 7/7: refused PmuExists: an earlier table has the same source and id; each PMU has one table
+s.toml:8: subscriber 1: grant of PMU 8/8: refused NoSuchPmu: no table [[pmu]] has it; add one, or remove the grant
 s.toml:11: subscriber 1: stream 101: refused BadDefinition: rate is 121; it has to be a whole number from 1 to 120
-s.toml:17: subscriber 1: refused SubExists: a table before it has this number; each subscriber has its own
+s.toml:17: subscriber 1: refused SubExists: an earlier table has the same id; each subscriber has its own
 """
 
 
@@ -760,9 +761,13 @@ def test_each_fault_of_a_setup(bench):
 
 def test_what_would_run_by_a_setup(bench):
     """Sources, ports, streams and threads of a file, each with its numbers."""
-    uncalled = "s.toml:9: warning: source 9: no table of it has connect, so it is not called and has no data; one of them has to have it\n"
+    uncalled = "s.toml:9: warning: source 9: none of its tables has connect, so no connection is made; add connect to one\n"
     is_checked(bench, RIGHT[1:], 0, REPORT[1:], uncalled)
-    tick = "s.toml:1: tick_ms: is the number 0; it has to be a whole number from 1 to 1000\n"
+    text = '[[pmu]]\nid = 7\nconnect = "h:1"\nsilence = 0\nclock_ms = 1\nahead_ms = 0\n[[subscriber]]\nid = 1\nport = 1\nring = 1\n'
+    is_checked(bench, text, 0, "1 source, 1 port; a tick every 10 ms; threads: 1 for sources, 1 for subscribers\n"
+               "source 7: 1 PMU; connect h:1; silence 0 (never), clock_ms 1, ahead_ms 0 (never)\n"
+               "subscriber 1: port 1 on 0.0.0.0, from any host; ring of 1 frame, 16777216 bytes\n", "")
+    tick = "s.toml:1: tick_ms: is 0; it has to be a whole number from 1 to 1000\n"
     is_checked(bench, "tick_ms = 0\npmu = []\nsubscriber = []\n", 1, "", tick + "pdcgw: 37 BadSetup\n")
 
 
@@ -784,9 +789,9 @@ def test_what_is_seldom_meant(bench):
 def test_more_faults_than_are_told(bench):
     """The first 100 faults or refused edits of a file are told, and the others counted."""
     for text, last, rest, name in (
-            ("[[pmu]]\nid = 0\n", "s.toml:201: pmu.id: is the number 0; it has to be a whole number from 1 to 65534",
-             "s.toml: 901 more faults", "37 BadSetup"),
-            ("[[pmu]]\nid = 7\n", "s.toml:203: PMU 7/7: refused PmuExists: a table before it has this source and number; each PMU has one",
+            ("[[pmu]]\nid = 0\n", "s.toml:201: pmu.id: is 0; it has to be a whole number from 1 to 65534",
+             "s.toml: 901 more mistakes", "37 BadSetup"),
+            ("[[pmu]]\nid = 7\n", "s.toml:203: PMU 7/7: refused PmuExists: an earlier table has the same source and id; each PMU has one table",
              "s.toml: 900 more refused edits", "24 PmuExists")):
         status, out, errors = printed(bench, "subscriber = []\n" + 1001 * text, "check", "s")
         lines = errors.splitlines()

@@ -23,28 +23,28 @@ ONE, TWO = 'subscriber="1"', 'subscriber="65535"'
 # Name, type and text of each metric, and its value by its labels.
 METRICS = [
     ("info", "gauge", "The gateway's name.", {r'name="North \"7\" \\ PDC"': 1}),
-    ("source_up", "gauge", "Whether the source is connected.", {7: 1, 8: 1, 9: 0, 300: 0, 65534: 0}),
-    ("source_pause_seconds", "gauge", "Time until the source is called again, 0 where no pause runs.", {7: 0, 8: 0, 9: "N", 300: 0, 65534: 0}),
-    ("source_frames_total", "counter", "Whole frames that came from the source.", {7: 10, 8: 2, 9: 0, 300: 0, 65534: 0}),
-    ("source_events_total", "counter", "Announcements and measurements that came from the source.", {7: 7, 8: 2, 9: 0, 300: 0, 65534: 0}),
-    ("source_since_event_seconds", "gauge", "Time since the last event of the source.", {7: "N", 8: "N"}),
-    ("source_ignored_total", "counter", "Frames and breaks of the source that were ignored, by reason.",
+    ("source_up", "gauge", "1 if the source is connected, else 0.", {7: 1, 8: 1, 9: 0, 300: 0, 65534: 0}),
+    ("source_pause_seconds", "gauge", "Seconds until the next attempt to connect to the source, 0 if none is due.", {7: 0, 8: 0, 9: "N", 300: 0, 65534: 0}),
+    ("source_frames_total", "counter", "Frames received from the source.", {7: 10, 8: 2, 9: 0, 300: 0, 65534: 0}),
+    ("source_events_total", "counter", "Configurations and data frames taken from the source.", {7: 7, 8: 2, 9: 0, 300: 0, 65534: 0}),
+    ("source_since_event_seconds", "gauge", "Seconds since the last configuration or data frame taken from the source.", {7: "N", 8: "N"}),
+    ("source_ignored_total", "counter", "Frames of the source that were ignored, and bytes that begin no frame, by reason.",
      {'source="7",reason="BadCheck"': 2, 'source="7",reason="WrongId"': 1}),
-    ("subscriber_connected", "gauge", "Whether the subscriber is connected.", {ONE: 1, TWO: 0}),
-    ("subscriber_waiting_seconds", "gauge", "Time since the subscriber was connected last, 0 while it is.", {ONE: 0, TWO: "N"}),
+    ("subscriber_connected", "gauge", "1 if the subscriber is connected, else 0.", {ONE: 1, TWO: 0}),
+    ("subscriber_waiting_seconds", "gauge", "Seconds since the subscriber was last connected, 0 while it is.", {ONE: 0, TWO: "N"}),
     ("subscriber_made_frames_total", "counter", "Data frames made for the subscriber.", {ONE: 9, TWO: 0}),
-    ("subscriber_dropped_frames_total", "counter", "Data frames dropped, for the subscriber's ring was full.", {ONE: 3, TWO: 0}),
-    ("subscriber_lost_frames_total", "counter", "Data frames not made, for want of memory.", {ONE: 0, TWO: 0}),
-    ("subscriber_late_blocks_total", "counter", "Blocks that came for a slot that had left.", {ONE: 6, TWO: 0}),
-    ("subscriber_twice_blocks_total", "counter", "Blocks that came a second time.", {ONE: 3, TWO: 0}),
-    ("subscriber_handed_bytes_total", "counter", "Bytes handed out to the subscriber.", {ONE: 528, TWO: 0}),
-    ("subscriber_handed_frames_total", "counter", "Data frames handed out to the subscriber.", {ONE: 6, TWO: 0}),
-    ("subscriber_gap_frames_total", "counter", "Data frames that are missing before one that was handed out to the subscriber.", {ONE: 2, TWO: 0}),
-    ("subscriber_queue_frames", "gauge", "Frames that wait for the subscriber.", {ONE: 0, TWO: 0}),
-    ("subscriber_queue_bytes", "gauge", "Bytes that wait for the subscriber.", {ONE: 0, TWO: 0}),
-    ("stream_on", "gauge", "Whether the subscriber has started the stream.",
+    ("subscriber_dropped_frames_total", "counter", "Data frames dropped from the subscriber's full queue.", {ONE: 3, TWO: 0}),
+    ("subscriber_lost_frames_total", "counter", "Data frames lost because memory ran out.", {ONE: 0, TWO: 0}),
+    ("subscriber_late_blocks_total", "counter", "Data blocks that came after their frame was sent.", {ONE: 6, TWO: 0}),
+    ("subscriber_twice_blocks_total", "counter", "Data blocks that came a second time for one frame.", {ONE: 3, TWO: 0}),
+    ("subscriber_handed_bytes_total", "counter", "Bytes sent to the subscriber.", {ONE: 528, TWO: 0}),
+    ("subscriber_handed_frames_total", "counter", "Data frames sent to the subscriber.", {ONE: 6, TWO: 0}),
+    ("subscriber_gap_frames_total", "counter", "Data frames dropped or lost before one that was sent to the subscriber.", {ONE: 2, TWO: 0}),
+    ("subscriber_queue_frames", "gauge", "Data frames in the subscriber's queue.", {ONE: 0, TWO: 0}),
+    ("subscriber_queue_bytes", "gauge", "Bytes in the subscriber's queue.", {ONE: 0, TWO: 0}),
+    ("stream_on", "gauge", "1 if the subscriber has started the stream, else 0.",
      {f'{ONE},stream="101"': 1, f'{ONE},stream="102"': 1, f'{ONE},stream="103"': 1, f'{TWO},stream="7"': 0}),
-    ("stream_effective_members", "gauge", "Members of the stream that its frames carry.",
+    ("stream_effective_members", "gauge", "Members of the stream that are granted and announced.",
      {f'{ONE},stream="101"': 1, f'{ONE},stream="102"': 2, f'{ONE},stream="103"': 1, f'{TWO},stream="7"': 0}),
     ("stream_members", "gauge", "Members of the stream.",
      {f'{ONE},stream="101"': 1, f'{ONE},stream="102"': 3, f'{ONE},stream="103"': 1, f'{TWO},stream="7"': 1}),
@@ -79,7 +79,7 @@ def metrics_text():
             labels = key if isinstance(key, str) else f'source="{key}"'
             lines.append(f"pdcgw_{name}{{{labels}}} {value}")
     name = "pdcgw_frame_age_seconds"
-    lines += [f"# HELP {name} Age of data frames as they are written: this machine's clock less the frame's time.", f"# TYPE {name} histogram"]
+    lines += [f"# HELP {name} This machine's clock minus the timestamp of a data frame, when it is sent.", f"# TYPE {name} histogram"]
     lines += [f'{name}_bucket{{le="{bound}"}} {count}' for bound, count in AGES]
     return "\n".join([*lines, f"{name}_sum SUM", f"{name}_count 6", ""])
 

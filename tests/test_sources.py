@@ -52,7 +52,7 @@ def test_a_new_pmu_has_its_source_called_again(bench):
     pair.seven.come()
     gateway.logs("source 7: announced its configuration, DATA_RATE 30, PMUs 7 70")
     stays(pair.nine)
-    same(gateway.logged("source 9: called at .*"), 1)
+    same(gateway.logged("source 9: connecting to .*"), 1)
     gateway.quit()
 
 
@@ -68,7 +68,7 @@ def test_a_source_rests_without_a_pmu(bench):
     pair.seven.come(3)
     gateway.does("undial 7", "done 0 0")
     ends(pair.seven)
-    gateway.logs("source 7: called no longer")
+    gateway.logs("source 7: no longer connected, and not connecting again")
     gateway.does("addpmu 7/71", "done 0 0")
     expect(not pair.seven.is_called(1.5), "source 7 is called no longer, and was called")
     stays(pair.nine)
@@ -101,7 +101,7 @@ def test_silence_of_each_source(bench):
     gateway = pair.run()
     took = silent_for(pair.nine)
     expect(0.5 <= took <= 2, f"`silence` of source 9 is 1, and it took {took:.1f} s")
-    gateway.logs("WARN source 9: sent no data for as long as `silence` says; it is called again")
+    gateway.logs("WARN source 9: no data for the time that `silence` allows; connecting again")
     pair.nine.come()
     took = silent_for(pair.nine)
     expect(0.8 <= took <= 2, f"`silence` of source 9 is 1, and it took {took:.1f} s")
@@ -123,7 +123,7 @@ def test_silence_ends_with_data_alone(bench):
         pair.nine.link.send(wrong)
     expect(time.monotonic() - begun < 2, "source 9 sends wrong frames alone, and was not called again")
     stays(pair.seven)
-    same(gateway.logged("source 7: called at .*"), 1)
+    same(gateway.logged("source 7: connecting to .*"), 1)
     gateway.quit()
 
 
@@ -157,8 +157,8 @@ def clocks(pair, guarded, other):
     until(lambda: "ignored FarClock=3 " in gateway.status()[f"source {guarded.idcode}"], "FarClock=3 in `status`")
     same(gateway.counters(f"pmustats {guarded.idcode}"), {"taken": 0}, "data of the guarded source")
     expect(" ignored - " in gateway.status()[f"source {other.idcode}"], "the other source has no such frames")
-    gateway.logs(rf"WARN source {guarded.idcode}: its data are refused \(21 FarClock\): their time is \d\.\d+ s behind this machine's clock.*")
-    same(gateway.logged(f"source {other.idcode}: its data are refused.*"), 0)
+    gateway.logs(rf"WARN source {guarded.idcode}: data refused \(21 FarClock\): their timestamps are \d\.\d+ s behind this machine's clock.*")
+    same(gateway.logged(f"source {other.idcode}: data refused.*"), 0)
     guarded.measure(now_soc() * RATE, 3)
     until(lambda: gateway.counters(f"pmustats {guarded.idcode}")["taken"] == 1, "data of the guarded source with a right clock")
     gateway.quit()
@@ -214,7 +214,7 @@ def test_bytes_that_begin_no_frame_end_a_source(bench):
     pair.start()
     pair.nine.link.send(b"SSH-2.0-OpenSSH_9.6\r\n")
     ends(pair.nine)
-    gateway.logs(r"WARN source 9: the connection ended; it is called again: its bytes begin no frame \(2 BadFirst\)")
+    gateway.logs(r"WARN source 9: connection lost: not C37.118: no frame begins here \(2 BadFirst\); connecting again")
     pair.first_is_served()
     pair.nine.come()
     pair.second_is_served()
@@ -227,16 +227,16 @@ def test_the_pause_after_a_call_that_failed_is_doubled(bench):
     pair = Pair(bench)
     pair.nine.listener.close()
     gateway = bench.gateway(pair.text).serves(1, 20)
-    gateway.logs("WARN source 9: the call failed; it is called again: connection refused")
+    gateway.logs("WARN source 9: can't connect: connection refused; retrying")
     expect(f"source 9 {pair.nine.address} pause 1 " in gateway.status()["source 9"], "the pause is in `status`")
-    gateway.logs("source 9: called at .*", 4)
-    times = [time.strptime(it.split(".")[0], "%Y-%m-%dT%H:%M:%S") for it in gateway.log.lines if "source 9: called at" in it]
+    gateway.logs("source 9: connecting to .*", 4)
+    times = [time.strptime(it.split(".")[0], "%Y-%m-%dT%H:%M:%S") for it in gateway.log.lines if "source 9: connecting to" in it]
     gaps = [time.mktime(later) - time.mktime(earlier) for earlier, later in zip(times, times[1:])]
     expect(all(abs(gap - pause) <= 1 for gap, pause in zip(gaps, (1, 2, 4))), f"pauses of 1, 2 and 4 s were {gaps}")
     again = bench.source(9, host="127.0.0.6")
     gateway.does(f"dial 9 {again.address}", "done 0 0")
     again.come(2)
-    same(gateway.logged("source 7: the call failed.*"), 0)
+    same(gateway.logged("source 7: can't connect.*"), 0)
     gateway.quit()
 
 
@@ -259,9 +259,9 @@ def test_a_call_that_hangs_is_given_up(bench):
     gateway.line("source 7: announced")
     pair.first = bench.subscriber(pair.ports[0])
     pair.first.start(101)
-    expect(f"source 9 {full.address} calling " in gateway.status()["source 9"], "`status` says that it is being called")
+    expect(f"source 9 {full.address} calling " in gateway.status()["source 9"], "`status` says that it is being connected to")
     pair.first_is_served()
-    gateway.line("WARN source 9: did not answer the call within 10 seconds; it is called again")
+    gateway.line("WARN source 9: can't connect: no answer within 10 s; retrying")
     took = time.monotonic() - begun
     expect(9 <= took <= 13, f"it was given up after {took:.1f} s")
     for made in held:
@@ -306,7 +306,7 @@ def test_a_name_without_an_address_is_looked_up_again(bench):
     pair.first = bench.subscriber(pair.ports[0])
     pair.first.start(101)
     pair.first_is_served()
-    gateway.logs("WARN source 9: its name has no address; it is looked up again.*", 2, 30)
+    gateway.logs("WARN source 9: the name in `connect` has no address; retrying.*", 2, 30)
     pair.first_is_served()
     gateway.quit()
 

@@ -5,6 +5,7 @@ import resource
 import signal
 import socket
 import subprocess
+import sys
 import time
 
 from peers import PATIENCE, Pair, expect, metrics, pmu, same, stream, subscriber, takes
@@ -34,12 +35,12 @@ def taken_port(bench, host="127.0.0.1"):
 def test_mistakes_of_a_setup(bench):
     """Each mistake stands on standard error with its line, and the program ends with 37 and status 1."""
     text = 'tick_ms = 0\n[[pmu]]\nid = 0\nconect = "a"\n[[subscriber]]\nid = 1\nring = 0\n'
-    wanted = ("setup.toml:1: tick_ms: is the number 0; it has to be a whole number from 1 to 1000\n"
-              "setup.toml:3: pmu.id: is the number 0; it has to be a whole number from 1 to 65534\n")
+    wanted = ("setup.toml:1: tick_ms: is 0; it has to be a whole number from 1 to 1000\n"
+              "setup.toml:3: pmu.id: is 0; it has to be a whole number from 1 to 65534\n")
     status, out, errors = printed(bench, text)
     same((status, out, errors[:len(wanted)]), (1, "", wanted))
-    expect(re.search(r"(?m)^setup\.toml:4: pmu\.conect: is no key here; ", errors), errors)
-    expect(errors.endswith("setup.toml:7: subscriber.ring: is the number 0; it has to be a whole number from 1 to 1024\npdcgw: 37 BadSetup\n"),
+    expect(re.search(r"(?m)^setup\.toml:4: pmu\.conect: unknown key; ", errors), errors)
+    expect(errors.endswith("setup.toml:7: subscriber.ring: is 0; it has to be a whole number from 1 to 1024\npdcgw: 37 BadSetup\n"),
            errors)
     same(printed(bench, text, "check")[2].splitlines()[0], wanted.splitlines()[0], "check:")
 
@@ -47,12 +48,12 @@ def test_mistakes_of_a_setup(bench):
 @takes(4)
 def test_a_setup_of_many_mistakes(bench):
     """Of 100,000 tables with a mistake each `check` and `run` print the first 100 and the count of the others, within 5 seconds."""
-    wanted = [f"setup.toml:{2 * at}: pmu.id: is the number 0; it has to be a whole number from 1 to 65534" for at in range(1, 101)]
+    wanted = [f"setup.toml:{2 * at}: pmu.id: is 0; it has to be a whole number from 1 to 65534" for at in range(1, 101)]
     for word in ("check", "run"):
         begun = time.monotonic()
         status, out, errors = printed(bench, "[[pmu]]\nid = 0\n" * 100_000 + subscriber(20), word)
         took, lines = time.monotonic() - begun, errors.splitlines()
-        same((status, out, lines), (1, "", [*wanted, "setup.toml: 99900 more faults", "pdcgw: 37 BadSetup"]), f"{word}:")
+        same((status, out, lines), (1, "", [*wanted, "setup.toml: 99900 more mistakes", "pdcgw: 37 BadSetup"]), f"{word}:")
         expect(took < 5, f"{word} took {took:.1f} s")
 
 
@@ -72,7 +73,7 @@ def test_a_reload_of_many_mistakes(bench):
         expect(time.monotonic() - at < 1, f"amid a reload it took {time.monotonic() - at:.1f} s")
     answer = gateway.lines(102)
     took = time.monotonic() - begun
-    same((answer[100].split(": ")[1], answer[101]), ("3900 more faults", "refused 37 BadSetup"), "the end of the answer")
+    same((answer[100].split(": ")[1], answer[101]), ("3900 more mistakes", "refused 37 BadSetup"), "the end of the answer")
     expect(took < 2, f"the reload took {took:.1f} s")
     pair.second_is_served()
     gateway.quit()
@@ -123,7 +124,7 @@ def test_what_can_not_be_bound(bench):
     came = printed(bench, f'status = "127.0.0.1:{page}"\n' + rest)
     same(came, (1, "", f"setup.toml:1: status: 127.0.0.1:{page}: address in use\npdcgw: 39 ReadFault\n"))
     came = printed(bench, 'ingest = 1\ncontrol = "/no/such/folder"\n' + rest)
-    same(came, (1, "", "setup.toml:2: control: there is no such file\npdcgw: 39 ReadFault\n"))
+    same(came, (1, "", "setup.toml:2: control: its folder does not exist\npdcgw: 39 ReadFault\n"))
 
 
 def line_of(before, text, key):
@@ -136,7 +137,7 @@ def test_check_prints_what_would_run(bench):
     text = pmu(7, connect="10.0.0.1:4712", silence=3) + subscriber(4, taken_port(bench), address="127.0.0.1", ring=9, grants=[7])
     status, out, errors = printed(bench, text + stream(44, [7], rate=25), "check")
     same((status, errors), (0, ""))
-    expect("source 7: PMUs: 1; called at 10.0.0.1:4712, again after 3 s of silence\n" in out, out)
+    expect("source 7: 1 PMU; connect 10.0.0.1:4712; silence 3 s, ahead_ms 0 (never)\n" in out, out)
     expect("subscriber 4: stream 44: 25 frames/s of 7/7\n" in out, out)
 
 
@@ -150,7 +151,56 @@ def test_names_of_a_gateway(bench):
     for value in ('""', '"' + "x" * 65 + '"', '"N\\u00f6rd"', '"a\\tb"', '"\\u007f"', "7"):
         status, _, errors = printed(bench, f"name = {value}\n" + pmu(7) + subscriber(1), "check")
         same(status, 1)
-        expect(re.match(r"setup\.toml:1: name: is .*; it has to be a text of 1 to 64 characters of ASCII that can be printed\n", errors), errors)
+        expect(re.match(r"setup\.toml:1: name: is .*; it has to be a text of 1 to 64 printable ASCII characters\n", errors), errors)
+
+
+def test_the_name_of_a_gateway_whose_host_has_none(bench):
+    """Without the key `name` it is the host's name; `pdcgw`, where that can be no gateway's name."""
+    made = subprocess.run(["unshare", "--uts", "true"], stdin=subprocess.DEVNULL, stdout=subprocess.DEVNULL, stderr=subprocess.DEVNULL)
+    if made.returncode != 0:
+        print("skipped: only root can give a host another name")
+        return
+    text = pmu(7) + subscriber(1, bench.port(), grants=[7])
+    for host, name in (("bay-7", "bay-7"), ("x" * 64, "x" * 64), ("N\u00f6rd", "pdcgw"), ("a\tb", "pdcgw"), ("", "pdcgw")):
+        naming = "import os, socket, sys; socket.sethostname(os.fsencode(sys.argv[1])); os.execv(sys.argv[2], sys.argv[2:])"
+        gateway = bench.gateway(text, words=["unshare", "--uts", sys.executable, "-c", naming, host])
+        gateway.line("INFO the gateway starts: ")
+        expect(f", name {name}, setup " in gateway.log.lines[0], f"{host!r}: {gateway.log.lines[0]}")
+        gateway.quit()
+
+
+# A setup with two warnings: no `connect`, and a `bytes` below a frame.
+def warned(bench):
+    return pmu(7) + subscriber(1, bench.port(), bytes=21, grants=[7]) + stream(101, [7])
+
+
+def test_warnings_are_logged_at_the_start(bench):
+    """What `check` warns of is in the log once, behind its first line; with `log = "error"` it is not, and without warnings there is none."""
+    text = warned(bench)
+    _, _, errors = printed(bench, text, "check")
+    same(len(errors.splitlines()), 2, errors)
+    gateway = bench.gateway(text).serves(1)
+    wanted = [f"{bench.folder}/{it}" for it in errors.splitlines()]
+    same([it.split(" ", 1)[1] for it in gateway.log.lines[1:3]], [f"WARN {it}" for it in wanted], "the log's second and third lines")
+    same(gateway.logged(".* warning: .*"), 2)
+    gateway.quit()
+    gateway = bench.gateway('log = "error"\n' + text)
+    same(gateway.status()["subscriber 1"].split()[3], "waiting")
+    same(list(gateway.log.lines), [])
+    gateway.quit()
+
+
+def test_warnings_after_a_reload(bench):
+    """After a `reload` of a file with warnings the log says that there are some; after one without it does not."""
+    pair = Pair(bench)
+    gateway = pair.run()
+    gateway.reload(pair.text + subscriber(3, ring=1) + stream(5, [7]), "reloaded: 2 edits, 0 changes of connections and ports")
+    gateway.logs("WARN the setup has warnings, which `pdcgw check` lists")
+    gateway.reload(pair.text, "reloaded: 1 edit, 0 changes of connections and ports")
+    gateway.logs("INFO `reload`: the setup was read, and its changes are done", 2)
+    time.sleep(0.3)
+    same(gateway.logged(".*warning.*"), 1)
+    gateway.quit()
 
 
 def test_the_level_of_the_log_at_the_start(bench):
@@ -160,7 +210,7 @@ def test_the_level_of_the_log_at_the_start(bench):
     pair.seven.come()
     pair.nine.come()
     pair.nine.link.send(b"no frame at all")
-    gateway.line("WARN source 9: the connection ended")
+    gateway.line("WARN source 9: connection lost")
     time.sleep(0.3)
     same([it for it in gateway.log.lines if " WARN " not in it], [])
     gateway.quit()

@@ -121,10 +121,10 @@ def test_a_second_connection_is_refused(bench):
     pair.start()
     busy = bench.subscriber(pair.ports[1], own="127.0.0.3")
     expect(busy.is_closed(), "a second connection of subscriber 20 was not closed")
-    gateway.logs(r"WARN subscriber 20: a connection was refused: 127\.0\.0\.3:\d+, since \S+ is connected \(34 Busy\)")
+    gateway.logs(r"WARN subscriber 20: connection refused from 127\.0\.0\.3:\d+: \S+ is connected already \(34 Busy\)")
     pair.second_is_served()
     pair.first_is_served()
-    same(gateway.logged("subscriber 1: a connection was refused.*"), 0)
+    same(gateway.logged("subscriber 1: connection refused.*"), 0)
     gateway.quit()
 
 
@@ -162,7 +162,7 @@ def test_bytes_that_begin_no_frame_end_the_connection(bench):
     pair.start()
     pair.second.send(b"GET / HTTP/1.1\r\n\r\n")
     expect(pair.second.is_closed(3), "it was not closed")
-    gateway.logs(r"subscriber 20: the connection ended: its bytes begin no frame \(2 BadFirst\)")
+    gateway.logs(r"subscriber 20: the connection ended: not C37.118: no frame begins here \(2 BadFirst\)")
     pair.first_is_served()
     gateway.quit()
 
@@ -188,7 +188,7 @@ def allows(bench, gateway, ports, wanted):
     for host, may_first, may_second in wanted:
         for number, port, idcode, may in ((1, ports[0], 101, may_first), (20, ports[1], 2000, may_second)):
             same(is_let_in(bench, port, host, idcode), may, f"{host} at subscriber {number}")
-            what = f"WARN subscriber {number}: turned away, since `allow` does not name the host: {host}:.*"
+            what = f"WARN subscriber {number}: refused: `allow` does not list this host: {host}:.*"
             if may:
                 gateway.logs(f"INFO subscriber {number}: the connection ended.*")
                 same(gateway.logged(what), 0, "the log of a host that may connect")
@@ -217,7 +217,7 @@ def test_allow_after_a_reload(bench):
     gateway = pair.run()
     changed = pair.tables[:2] + [pair.tables[2].replace('["127.0.0.9"]', '["127.0.0.2"]'),
                                  pair.tables[3].replace("allow = []", 'allow = ["127.0.0.3", "127.0.1.0/24"]')]
-    gateway.reload("".join(changed), "reloaded: 0 edits, 4 orders")
+    gateway.reload("".join(changed), "reloaded: 0 edits, 4 changes of connections and ports")
     gateway.logs("subscriber 20: may connect.*", 2)
     allows(bench, gateway, pair.ports, [WANTED[0], WANTED[2]])
     gateway.quit()
@@ -251,7 +251,7 @@ def test_a_port_is_bound_on_its_address(bench):
     gateway.logs(f"subscriber 20: may connect at 127.0.0.2:{pair.ports[1]}")
     gateway.logs(f"subscriber 1: may connect at 0.0.0.0:{pair.ports[0]}")
     changed = pair.text.replace('"127.0.0.2"\n', '"127.0.0.3"\n')
-    gateway.reload(changed, "reloaded: 0 edits, 2 orders")
+    gateway.reload(changed, "reloaded: 0 edits, 2 changes of connections and ports")
     until(lambda: not is_refused(pair.ports[1], "127.0.0.3"), "the port at its new address")
     reached([True, True, True, False, False, True], pair.ports)
     other = bench.port()
@@ -272,11 +272,11 @@ def test_takeover(bench):
     pair.second = new = bench.subscriber(pair.ports[1], own="127.0.0.4")
     new.start(2000)
     expect(old.is_closed(3), "the old connection was not closed")
-    gateway.logs(f"INFO subscriber 20: hung up, since another connection takes its place: {old.name}")
+    gateway.logs(f"INFO subscriber 20: disconnected: replaced by a new connection from {old.name}")
     pair.second_is_served()
     expect(bench.subscriber(pair.ports[0]).is_closed(3), "subscriber 1 has no `takeover`, and a second connection stands")
     pair.first_is_served()
-    same(gateway.logged("subscriber 20: a connection was refused.*"), 0)
+    same(gateway.logged("subscriber 20: connection refused.*"), 0)
     gateway.quit()
 
 
@@ -286,9 +286,9 @@ def test_a_host_that_may_not_connect_replaces_nobody(bench):
     gateway = pair.run()
     pair.start()
     expect(bench.subscriber(pair.ports[1], own="127.0.0.9").is_closed(3), "a host that `allow` does not name is let in")
-    gateway.logs("WARN subscriber 20: turned away, since `allow` does not name the host: 127.0.0.9:.*")
+    gateway.logs("WARN subscriber 20: refused: `allow` does not list this host: 127.0.0.9:.*")
     pair.second_is_served()
-    same(gateway.logged("subscriber 20: hung up.*"), 0)
+    same(gateway.logged("subscriber 20: disconnected.*"), 0)
     gateway.quit()
 
 
@@ -306,7 +306,7 @@ def test_listen_keeps_the_rules_of_the_subscriber(bench):
     pair.second.start(2000)
     expect(old.is_closed(3), "`takeover` of subscriber 20")
     expect(first.is_closed(1), "`idle` of subscriber 1")
-    gateway.logs("WARN subscriber 1: hung up, since nothing went either way.*")
+    gateway.logs("WARN subscriber 1: disconnected: no traffic.*")
     pair.second_is_served()
     gateway.quit()
 
@@ -319,8 +319,8 @@ def test_stall_of_each_subscriber(bench):
     gateway = pair.run()
     first, second = pair.start(receive=4096)
     pair.fill()
-    gateway.logs("WARN subscriber 20: hung up, since its (socket took|host acknowledged) nothing for as long as `stall` says")
-    same(gateway.logged("subscriber 1: hung up.*"), 0)
+    gateway.logs("WARN subscriber 20: disconnected: its? (accepted|host acknowledged) no data for the time that `stall` allows")
+    same(gateway.logged("subscriber 1: disconnected.*"), 0)
     pair.slot = now_soc() * RATE
     pair.first_is_served()
     gateway.quit()
@@ -335,7 +335,7 @@ def test_idle_of_each_subscriber(bench):
     begun = time.monotonic()
     expect(pair.second.is_closed(4), "subscriber 20 is idle, and was not hung up")
     expect(0.8 <= time.monotonic() - begun <= 3, f"`idle` is 1, and it was hung up after {time.monotonic() - begun:.1f} s")
-    gateway.logs("WARN subscriber 20: hung up, since nothing went either way for as long as `idle` says")
+    gateway.logs("WARN subscriber 20: disconnected: no traffic for the time that `idle` allows")
     pair.first_is_served()
     gateway.quit()
 
@@ -349,7 +349,7 @@ def test_accept_is_tried_again(bench):
     resource.prlimit(gateway.process.pid, resource.RLIMIT_NOFILE, (max(used) + 2, resource.getrlimit(resource.RLIMIT_NOFILE)[1]))
     first, second = bench.subscriber(pair.ports[0]), bench.subscriber(pair.ports[1])
     first.start(101)
-    gateway.logs("WARN subscriber 20: who wants to connect can't be accepted; tried again in a second: .*")
+    gateway.logs("WARN subscriber 20: a connection can't be accepted: .*out of file descriptors.*; retrying in 1 s")
     first.close()
     # Its command came before it was accepted.
     second.start(2000)

@@ -4,11 +4,12 @@ import re
 import socket
 import struct
 import subprocess
+import threading
 import time
 
 from c37118 import (BASE, COMMAND, CONFIG_1, CONFIG_2, DATA, HEADER, SEND_CONFIG_1, SEND_CONFIG_2, SEND_HEADER, START, STOP, command, configuration, frame,
                     frames_in)
-from peers import (PATIENCE, RATE, Lines, Subscriber, expect, pmu, read_all, same, slot_of, stream, subscriber, takes, until,
+from peers import (PATIENCE, RATE, Lines, PassedBy, Subscriber, expect, pmu, read_all, same, slot_of, stream, subscriber, takes, until,
                    with_wrong_check)
 
 COUNTED = re.compile(r"(\d+) frames, (\d+) missing, (\d+) fillers, (\d+) troubles \((\d+) CHK, (\d+) order, (\d+) misfit\)")
@@ -131,6 +132,25 @@ def test_simulate_obeys_nothing_that_is_no_command(bench):
     client = bench.subscriber(source.port)
     client.command(7, SEND_CONFIG_2)
     same(client.frame()[1] >> 4, CONFIG_2)
+
+
+def test_simulate_serves_at_once_behind_those_that_left(bench):
+    """500 clients connect and leave at once; the next one is answered within 2 seconds. So is one that connected while another was served, once that one
+    leaves, and one that sends 400 kB of commands."""
+    source = Simulated(bench)
+    for _ in range(500):
+        Subscriber(source.port).close()
+    begun, client = time.monotonic(), bench.subscriber(source.port)
+    client.command(7, SEND_HEADER)
+    same(client.frame(2)[1] >> 4, HEADER)
+    second = bench.subscriber(source.port)
+    second.command(7, SEND_HEADER)
+    expect(second.is_quiet(0.2), "two are served at a time")
+    client.close()
+    same(second.frame(0.8)[1] >> 4, HEADER)
+    second.send(command(7, STOP) * 22_000 + command(7, SEND_CONFIG_2))
+    same(second.frame(2)[1] >> 4, CONFIG_2)
+    expect(time.monotonic() - begun < 5, f"it took {time.monotonic() - begun:.1f} s")
 
 
 def test_simulate_keeps_back_a_configuration(bench):
@@ -418,6 +438,74 @@ def test_what_is_not_answered_is_asked_again(bench):
     status, out, errors = end_watch(unanswered)
     same((status, errors.splitlines()),
          (1, ["pdcgw: no configuration came; is the stream's number right?", "pdcgw: no data frame came"]))
+
+
+@takes(4)
+def test_a_flood_of_troubles_at_watch(bench):
+    """A source sends frames with one timestamp without end: of these 50 lines a second stand on standard error, and how many more there were. All of them are
+    counted, and `--seconds 2` ends it."""
+    source, second = bench.source(7), int(time.time())
+    process = begin_watch(bench, source.address, 7, "--seconds", "2")
+    begun, link = time.monotonic(), source.accept()
+    is_asked(link, SEND_CONFIG_2, SEND_HEADER)
+    link.send(source.configuration())
+    is_asked(link, START, SEND_HEADER)
+    same_frames = frame(DATA, 7, second, 0, bytes(10)) * 1_000
+    flood = threading.Thread(target=send_until_closed, args=(link, same_frames), daemon=True)
+    flood.start()
+    status, out, errors = end_watch(process)
+    took, lines = time.monotonic() - begun, errors.splitlines()
+    text = f"pdcgw: a stamp does not rise: {second}+0 comes after {second}+0"
+    more = [re.fullmatch(r"pdcgw: (\d+) troubles more; the last: (.*)", it) for it in lines]
+    told = [it for it in lines if it == text]
+    expect(50 <= len(told) <= 200 and len(told) + sum(map(bool, more)) == len(lines), f"{len(told)} of {len(lines)} lines: {lines[-3:]}")
+    same({it[2] for it in more if it}, {text.removeprefix("pdcgw: ")})
+    _, _, _, troubles, _, order, _ = counted(out)
+    same((status, troubles, order), (1, len(told) + sum(int(it[1]) for it in more if it), troubles))
+    expect(troubles > 1_000 and took < 6, f"{troubles} troubles, and it took {took:.1f} s")
+
+
+def send_until_closed(link, what):
+    try:
+        while True:
+            link.send(what)
+    except OSError:
+        pass
+
+
+def test_watch_of_a_name(bench):
+    """`watch` takes a host's name: it is looked up. Where it has no address that is printed, with what would be right; a mistyped address is no name."""
+    source = Simulated(bench)
+    status, out, errors = end_watch(begin_watch(bench, f"localhost:{source.port}", 7, "--frames", "5"))
+    same((status, errors, counted(out)), (0, "", (5, 0, 0, 0, 0, 0, 0)))
+    # (a label of 64 letters is too long for any name server to be asked)
+    nameless = "a" * 64 + ".test:4712"
+    status, errors = said(bench, "watch", nameless, "--stream", "7")
+    begin, end = (f"pdcgw: {nameless} can't be reached: no address of this name is found (",
+                  "); it has to be in /etc/hosts or known to a name server, else give A.B.C.D:PORT\n")
+    expect(status == 1 and errors.startswith(begin) and errors.endswith(end) and len(errors) > len(begin + end) + 3, f"{status}, {errors}")
+    status, errors = said(bench, "watch", f"localhost:{bench.port()}", "--stream", "7")
+    expect(status == 1 and " can't be reached: " in errors, f"{status}, {errors}")
+    for word in ("localhost", "localhost:", "localhost:0", "localhost:65536", ":4712", "127.0.0.300:4712", "a.1:4712", "two words:4712", "under_score:4712",
+                 "a" * 254 + ":4712"):
+        status, errors = said(bench, "watch", word, "--stream", "7")
+        expect(status == 2 and "ADDRESS takes an address A.B.C.D:PORT or NAME:PORT, as 127.0.0.1:4712 or localhost:4712" in errors, f"{word}: {status}, {errors}")
+
+
+def test_watch_of_a_name_with_two_addresses(bench):
+    """Of two addresses of a name the one where a source listens is taken. (The system sorts them, so that each of the two is the one. Where this user may not
+    set names, nothing is tried.)"""
+    hosts, file = ("127.0.0.1", "127.0.0.4"), f"{bench.folder}/hosts"
+    with open(file, "w") as f:
+        f.write("".join(f"{it} two-addresses.test\n" for it in hosts))
+    words = ["unshare", "--mount", "sh", "-c", f'mount --bind {file} /etc/hosts && exec "$@"', "sh"]
+    if subprocess.run([*words, "true"], stdout=subprocess.DEVNULL, stderr=subprocess.DEVNULL).returncode:
+        raise PassedBy("no names can be set in a mount namespace")
+    for host in hosts:
+        port = bench.live(7, host=host).address.split(":")[1]
+        done = subprocess.run([*words, bench.program, "watch", f"two-addresses.test:{port}", "--stream", "7", "--frames", "3"], stdin=subprocess.DEVNULL,
+                              stdout=subprocess.PIPE, stderr=subprocess.PIPE, timeout=PATIENCE)
+        same((done.returncode, done.stderr.decode(), counted(done.stdout.decode())[0]), (0, "", 3), f"a source at {host}")
 
 
 WORDS = """\

@@ -135,10 +135,10 @@ def log():
     table_rows = rows(section("docs/OPERATING.md", "## The log"))
     levels = {}
     arms = between(source("pg_log", "journal"), "fn level(", "\n    }")
-    for arm, level in re.findall(r"((?:Notice::\w+[\s|{]*)+)(?:=> )?\{?\s*(?:=>\s*\{?\s*)?Level::(\w+)", arms):
-        levels.update({name: level.upper() for name in re.findall(r"Notice::(\w+)", arm)})
-    words = source("pg_log", "words")
-    texts = re.findall(r'Notice::(\w+) =>\s*"([^"]+)"', between(words, "fn said(", "\n    }"))
+    for arm, level in re.findall(r"((?:LogEvent::\w+[\s|{]*)+)(?:=> )?\{?\s*(?:=>\s*\{?\s*)?Level::(\w+)", arms):
+        levels.update({name: level.upper() for name in re.findall(r"LogEvent::(\w+)", arm)})
+    words = source("pg_log", "messages")
+    texts = re.findall(r'LogEvent::(\w+) =>\s*"([^"]+)"', between(words, "fn said(", "\n    }"))
     for notice, text in texts:
         expect(notice in levels, f"pg_log journal.rt: no level of {notice} was found")
         # What is known beside may follow: an address, a stream, a reason.
@@ -229,7 +229,7 @@ def definitions():
 def quoted():
     """The contract that PROOFS.md quotes, beside its source."""
     block = between(text_of("docs/PROOFS.md"), "Quoted:\n\n```\n", "```")
-    real = re.sub(r"\s+", "", source("pg_serve", "world") + text_of("crates/pg_serve/specs/Full.antt"))
+    real = re.sub(r"\s+", "", source("pg_serve", "world") + text_of("crates/pg_serve/specs/Headline.antt"))
     for line in block.splitlines():
         expect(re.sub(r"\s+", "", line) in real, f"docs/PROOFS.md: the contract has no {line.strip()!r}")
 

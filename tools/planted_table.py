@@ -34,14 +34,15 @@ class Edit:
         refused = self.said("refused")
         return refused.removeprefix(BY_TEST).split(", ") if refused.startswith(BY_TEST) else []
 
-    def misfit(self):
-        """Why it can't be applied: each `old:` has to be in its file exactly once."""
-        texts, path, old, pairs = {}, None, None, 0
+    def plant(self, top, texts):
+        """Plants the bug in the texts of files by their paths, which are read below `top` where they are not there yet. The result is why
+        that can't be done, and else None: each `old:` has to be in its file exactly once."""
+        path, old, pairs = None, None, 0
         for line in self.lines:
             word, _, text = line.partition(":")
             text = text.removeprefix(" ")
             if word == "file":
-                path = f"{ROOT}/crates/{self.crate}/{text.strip()}"
+                path = f"{top}/crates/{self.crate}/{text.strip()}"
                 if not os.path.exists(path):
                     return f"there is no {text}"
             elif word == "old":
@@ -57,6 +58,10 @@ class Edit:
                     return f"{old.strip()!r} is in its file {found} times"
                 texts[path], old, pairs = texts[path].replace(old, text), None, pairs + 1
         return None if pairs else "it has no pair of `old:` and `new:`"
+
+    def misfit(self):
+        """Why it can't be applied, if it can't."""
+        return self.plant(ROOT, {})
 
 
 def edits():

@@ -1,11 +1,11 @@
-//! The word `ctl`: lines for a gateway that runs.
+//! The subcommand `ctl`: commands for a running gateway.
 
 use crate::setup::unfit;
 use crate::{Outcome, help};
 use clap::{Arg, ArgAction, ArgMatches, Command};
+use pg_admin::ask;
 use pg_log::system_words;
 use pg_status::Answered;
-use pg_window::ask;
 use pg_wire::Refusal;
 use pg_words::{not_answered, not_reached};
 use std::alloc::{AllocError, Global};
@@ -15,7 +15,7 @@ use std::io::BufWriter;
 /// The words of `ctl`.
 pub fn words<'a>(alloc: Global) -> Result<Command<'a>, AllocError> {
     Command::new(alloc, "ctl")
-        .about("Sends lines to a gateway that runs, and prints the answers")
+        .about("Sends commands to a running gateway, and prints the answers")
         .after_help(help::CTL)
         .arg(
             Arg::new(alloc, "control")
@@ -27,7 +27,7 @@ pub fn words<'a>(alloc: Global) -> Result<Command<'a>, AllocError> {
         .arg(
             Arg::new(alloc, "line")
                 .value_name("LINE")
-                .help("A line, in quotes where it has spaces")
+                .help("A command, in quotes if it has spaces")
                 .num_args(1..)
                 .action(ArgAction::Append)
                 .required(true),

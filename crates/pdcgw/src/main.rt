@@ -11,7 +11,7 @@ use clap::{Arg, ArgMatches, Command};
 use pg_check::{Checked, Trouble};
 use pg_replay::{Fault, replay};
 use pg_run::{Runtime, Start};
-use pg_tools::Misword;
+use pg_tools::BadOption;
 use pg_wire::Refusal;
 use pg_words::{Signed, say};
 use std::alloc::{AllocError, Global};
@@ -53,7 +53,7 @@ fn run_words<'a>(alloc: Global) -> Result<Command<'a>, AllocError> {
 /// The words of `check`.
 fn check_words<'a>(alloc: Global) -> Result<Command<'a>, AllocError> {
     Command::new(alloc, "check")
-        .about("Tells what is wrong with a setup, or what would run by it")
+        .about("Lists the mistakes of a setup, or prints what would run by it")
         .after_help(help::CHECK)
         .arg(setup_word(alloc))
 }
@@ -87,7 +87,7 @@ enum Outcome {
     /// `clap` refuses the words, and says why.
     Misused(clap::Error),
     /// The value of an option is none that it takes.
-    Misworded(Misword),
+    Misworded(BadOption),
     /// Something was wrong with what `watch` saw, which has been told, or a line of `ctl` was refused, of which this is told.
     Troubled(String),
     /// A tool has ended by this.
@@ -229,7 +229,7 @@ fn main(rt: HostRuntime) -> ExitCode {
             ExitCode::from(2)
         }
         Outcome::Misworded(misword) => {
-            let _ = eprintln!(rt; "pdcgw: {misword}; `pdcgw help` tells the words");
+            let _ = eprintln!(rt; "pdcgw: {misword}; `pdcgw help` lists the options");
             ExitCode::from(2)
         }
         Outcome::Troubled(told) => {

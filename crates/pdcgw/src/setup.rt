@@ -8,6 +8,7 @@ use pg_wire::Refusal;
 use pg_words::{Bound, not_bound, not_read};
 use std::alloc::{AllocError, Global};
 use std::fs;
+use std::io::ErrorKind;
 use std::rt::Files;
 
 /// What would run by a setup file, or why it can't. Nothing is bound or called.
@@ -53,7 +54,11 @@ pub fn why<R: Files + Alloc<A = Global>>(rt: &R, file: &str, failure: Failure) -
         Failure::Unfit(trouble) => String::from_str(alloc, trouble.told.as_str()),
         Failure::NotBound { by, address, kind } => {
             let line = line_in(rt, file, *by);
-            let why = system_words(*kind);
+            let why = match (by, kind) {
+                // The socket itself is made; what is not there is where.
+                (BoundBy::Control, ErrorKind::NotFound) => "its folder does not exist",
+                _ => system_words(*kind),
+            };
             not_bound(alloc, file, line, bound(*by), *address, why)
         }
     };

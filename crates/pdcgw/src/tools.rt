@@ -4,7 +4,7 @@ use crate::{Outcome, help};
 use clap::{Arg, ArgAction, ArgMatches, Command};
 use pg_demo::Asked;
 use pg_demo_core::Verdict;
-use pg_tools::{Misword, SimulateWords, Style, WatchWords, number, read_settings, read_watched};
+use pg_tools::{BadOption, SimulateWords, Style, WatchWords, number, read_settings, read_watched};
 use std::alloc::{AllocError, Global};
 use std::io::StdinLock;
 use std::net::{Net, TcpListener, TcpStream};
@@ -130,8 +130,10 @@ pub fn watch_words<'a>(alloc: Global) -> Result<Command<'a>, AllocError> {
         .after_help(help::WATCH)
         .arg(
             Arg::new(alloc, "address")
-                .value_name("A.B.C.D:PORT")
-                .help("The address of a gateway's subscriber, or of a source")
+                .value_name("ADDRESS")
+                .help(
+                    "Where a gateway's subscriber connects, or a source listens: A.B.C.D:PORT or NAME:PORT",
+                )
                 .required(true),
         )?
         .arg(valued(
@@ -215,7 +217,7 @@ where
         Some(word) => match number(word, 1, 86_400) {
             Some(seconds) => Some(seconds),
             None => {
-                return Outcome::Misworded(Misword {
+                return Outcome::Misworded(BadOption {
                     option: "--seconds",
                     takes: "a number of 1 to 86400",
                 });

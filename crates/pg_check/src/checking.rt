@@ -39,7 +39,7 @@ fn bare(alloc: Global, refusal: Refusal) -> Trouble {
     }
 }
 
-/// What would run by the setup of this text, and what in it is seldom meant (own rule). Nothing is bound or called. The time that it takes
+/// What would run by the setup of this text, and what in it is seldom meant. Nothing is bound or called. The time that it takes
 /// to refuse a text grows with its length alone.
 ///
 /// # Errors
@@ -89,7 +89,7 @@ fn fault_lines(alloc: Global, file: &str, faults: &[Fault]) -> Result<String, Al
         let line = format!(in alloc; "{file}:{fault}\n")?;
         told.push_str(line.as_str())?;
     }
-    let others = others(alloc, file, faults.len(), "fault")?;
+    let others = others(alloc, file, faults.len(), "mistake")?;
     told.push_str(others.as_str())?;
     Ok(told)
 }

@@ -1,4 +1,5 @@
 //! What is wrong with a setup, or what would run by it, for a person.
+//! What no clause of IEEE C37.118.2 is named for is a rule of this project.
 #![tactic(auto)]
 
 mod checking;

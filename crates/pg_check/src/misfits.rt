@@ -43,7 +43,7 @@ pub(crate) fn misfits_of(
     }
     if let Some(key) = first_twice(definition.members.as_slice()) {
         let key = key_text(alloc, key)?;
-        let why = format!(in alloc; "members has PMU {key} twice; each may be in it once")?;
+        let why = format!(in alloc; "members has PMU {key} twice; once is allowed")?;
         misfits.push(Misfit {
             key: "members",
             why,

@@ -5,6 +5,19 @@ use pg_operator::{PortRules, Setup, SourceRules};
 use pg_stream::Definition;
 use pg_wire::{PmuId, PmuKey, Refusal, SubId};
 use std::alloc::{AllocError, Global};
+use std::fmt;
+
+/// So many of a thing with this name.
+#[derive(Clone, Copy)]
+struct Count(usize, &'static str);
+
+impl fmt::Display for Count {
+    fn fmt<W: fmt::Write>(&self, f: &mut fmt::Formatter<W>) -> fmt::Result {
+        let (count, name) = (self.0, self.1);
+        let plural = if count == 1 { "" } else { "s" };
+        write!(f, "{count} {name}{plural}")
+    }
+}
 
 /// A PMU's key as a person writes it: the source and the PMU.
 pub(crate) fn key_text(alloc: Global, key: &PmuKey) -> Result<String, AllocError> {
@@ -15,7 +28,7 @@ pub(crate) fn key_text(alloc: Global, key: &PmuKey) -> Result<String, AllocError
 ///
 /// # Errors
 ///
-/// `AllocError` where there is no memory for it.
+/// `AllocError` where out of memory.
 pub(crate) fn edit_name(alloc: Global, edit: &Edit) -> Result<String, AllocError> {
     match edit {
         Edit::AddPmu(key) | Edit::DropPmu(key) | Edit::PmuStats(key) => {
@@ -42,20 +55,21 @@ pub(crate) fn edit_name(alloc: Global, edit: &Edit) -> Result<String, AllocError
 /// Why a setup's edit is refused, and what would be right, for a person.
 pub(crate) fn reason(refusal: Refusal) -> &'static str {
     match refusal {
-        Refusal::PmuExists => "a table before it has this source and number; each PMU has one",
-        Refusal::PmusFull => "there are 256 PMUs already, and no more may be",
-        Refusal::NoSuchPmu => "no table [[pmu]] has it; one has to",
-        Refusal::SubExists => "a table before it has this number; each subscriber has its own",
-        Refusal::SubsFull => "there are 64 subscribers already, and no more may be",
-        Refusal::NoSuchSub => "its table is refused",
-        Refusal::GrantsFull => "it has 32 grants already, and no more may be",
-        Refusal::StreamExists => "another stream of it has this number; each has its own",
-        Refusal::StreamsFull => "it has 8 streams already, and no more may be",
+        Refusal::PmuExists => "an earlier table has the same source and id; each PMU has one table",
+        Refusal::PmusFull => "there are 256 PMUs already, the most possible",
+        Refusal::NoSuchPmu => "no table [[pmu]] has it; add one, or remove the grant",
+        Refusal::SubExists => "an earlier table has the same id; each subscriber has its own",
+        Refusal::SubsFull => "there are 64 subscribers already, the most possible",
+        Refusal::NoSuchSub => "the table of this subscriber is refused; correct that first",
+        Refusal::GrantsFull => "the subscriber has 32 grants already, the most possible",
+        Refusal::StreamExists =>
+            "another stream of the subscriber has the same id; each stream has its own",
+        Refusal::StreamsFull => "the subscriber has 8 streams already, the most possible",
         Refusal::BadDefinition => {
             "a stream has rate 1 to 120, base from its rate to 16777215, wait up to 60000, window 1 to 64, a header of ASCII up to \
              1024 bytes, and no member twice"
         }
-        Refusal::NoMemory => "there is no memory for it",
+        Refusal::NoMemory => "out of memory",
         _ => "the gateway refuses it",
     }
 }
@@ -63,9 +77,9 @@ pub(crate) fn reason(refusal: Refusal) -> &'static str {
 /// What would run, a line for each source, subscriber and stream.
 pub(crate) fn report_of(alloc: Global, setup: &Setup) -> Result<String, AllocError> {
     let mut report = format!(in alloc;
-        "{} sources, {} ports; a tick each {} ms; threads: {} for sources, {} for subscribers\n",
-        setup.sources.len(),
-        setup.ports.len(),
+        "{}, {}; a tick every {} ms; threads: {} for sources, {} for subscribers\n",
+        Count(setup.sources.len(), "source"),
+        Count(setup.ports.len(), "port"),
         setup.tick_ms,
         setup.ingest,
         setup.serve
@@ -80,8 +94,8 @@ pub(crate) fn report_of(alloc: Global, setup: &Setup) -> Result<String, AllocErr
                 let line = subscriber_line(alloc, setup, *sub)?;
                 report.push_str(line.as_str())?;
                 let line = format!(in alloc;
-                    "; ring of {} frames, {} bytes\n",
-                    ring.get(),
+                    "; ring of {}, {} bytes\n",
+                    Count(usize::from(ring.get()), "frame"),
                     bytes.get()
                 )?;
                 report.push_str(line.as_str())?;
@@ -109,30 +123,34 @@ fn pmu_count(setup: &Setup, source: PmuId) -> usize {
     count
 }
 
-/// A source: its PMUs, and where and how it is called.
+/// A source: its PMUs, its address, and its rules by their keys; `clock_ms` where it is given.
 fn source_line(alloc: Global, setup: &Setup, rules: &SourceRules) -> Result<String, AllocError> {
     let mut line = format!(in alloc;
-        "source {}: PMUs: {}; ",
+        "source {}: {}; ",
         rules.source.get(),
-        pmu_count(setup, rules.source)
+        Count(pmu_count(setup, rules.source), "PMU")
     )?;
     match setup.links.iter().find(|link| link.0 == rules.source) {
         Some((_, address)) => {
-            line.push_str("called at ")?;
+            line.push_str("connect ")?;
             line.push_str(address.as_str())?;
-            let after = match rules.silence {
-                0 => String::new(alloc),
-                seconds => format!(in alloc; ", again after {seconds} s of silence")?,
-            };
-            line.push_str(after.as_str())?;
         }
-        None => line.push_str("not called")?,
+        None => line.push_str("no connect")?,
     }
+    let silence = match rules.silence {
+        0 => format!(in alloc; "; silence 0 (never)")?,
+        seconds => format!(in alloc; "; silence {seconds} s")?,
+    };
+    line.push_str(silence.as_str())?;
     if let Some(limit) = rules.clock_ms {
-        let guard = format!(in alloc; ", within {limit} ms of this clock")?;
-        line.push_str(guard.as_str())?;
+        let clock = format!(in alloc; ", clock_ms {limit}")?;
+        line.push_str(clock.as_str())?;
     }
-    line.push_str("\n")?;
+    let ahead = match rules.ahead_ms {
+        0 => format!(in alloc; ", ahead_ms 0 (never)\n")?,
+        limit => format!(in alloc; ", ahead_ms {limit}\n")?,
+    };
+    line.push_str(ahead.as_str())?;
     Ok(line)
 }
 
@@ -158,7 +176,7 @@ fn hosts_text(door: &PortRules) -> &'static str {
     match &door.allow.networks {
         None => "from any host",
         Some(networks) if networks.is_empty() => "from no host",
-        Some(_) => "from the hosts that it allows",
+        Some(_) => "from the hosts in allow",
     }
 }
 

@@ -23,7 +23,7 @@ const WINDOW_LIMIT: u64 = 64;
 ///
 /// # Errors
 ///
-/// `AllocError` where there is no memory for it.
+/// `AllocError` where out of memory.
 pub(crate) fn warnings_of(
     alloc: Global,
     setup: &Setup,
@@ -88,8 +88,8 @@ impl Search<'_> {
         let shared = shared_before(setup, number, own);
         if let Some(other) = shared {
             let what = format!(in self.alloc;
-                "subscriber {sub}: port {port} on {address} is that of subscriber {} too, and one of them can't be bound; each subscriber \
-                 has a port of its own",
+                "subscriber {sub}: port {port} on {address} is the port of subscriber {} too, so one of them can't be bound; give each its \
+                 own port",
                 other.get()
             )?;
             self.warn(subscriber_table(setup, own.sub), "port", what.as_str())?;
@@ -99,7 +99,7 @@ impl Search<'_> {
             .filter(|page| page.port() == port && meet(*page.ip(), address));
         if let Some(page) = page {
             let what = format!(in self.alloc;
-                "status: {page} has the port of subscriber {sub}, and one of them can't be bound; the page has a port of its own"
+                "status: {page} is the port of subscriber {sub} too, so one of them can't be bound; give the page its own port"
             )?;
             self.warn(SetupTable::File, "status", what.as_str())?;
         }
@@ -115,7 +115,7 @@ impl Search<'_> {
                 Some(address) => self.look_at_address(table, rules.source, address)?,
                 None => {
                     let what = format!(in self.alloc;
-                        "source {}: no table of it has connect, so it is not called and has no data; one of them has to have it",
+                        "source {}: none of its tables has connect, so no connection is made; add connect to one",
                         rules.source.get()
                     )?;
                     self.warn(table, "connect", what.as_str())?;
@@ -137,7 +137,7 @@ impl Search<'_> {
         let first = setup.links.iter().find(|link| link.1.as_str() == address);
         if let Some((other, _)) = first.filter(|first| first.0 != source) {
             let what = format!(in self.alloc;
-                "source {}: {address} is the address of source {} too; each source has an address of its own",
+                "source {}: {address} is the address of source {} too; give each source its own",
                 source.get(),
                 other.get()
             )?;
@@ -147,7 +147,7 @@ impl Search<'_> {
             let own = format!(in self.alloc; "127.0.0.1:{port}")?;
             if own.as_str() == address {
                 let what = format!(in self.alloc;
-                    "source {}: {address} is the port of subscriber {} of this gateway; a source is elsewhere",
+                    "source {}: {address} is the port of subscriber {} of this gateway itself; give the address of the PMU or PDC",
                     source.get(),
                     sub.get()
                 )?;
@@ -184,9 +184,8 @@ impl Search<'_> {
             return Ok(());
         }
         let what = format!(in self.alloc;
-            "source {}: clock_ms {limit} is above the {} ms that stream {} of subscriber {} holds a frame, the less of wait x tick_ms and \
-             window x 1000 / rate; where its time is further ahead, data of the others come late; a lower clock_ms, or a longer wait and \
-             window",
+            "source {}: clock_ms {limit} is above the {} ms that stream {} of subscriber {} holds a frame (the less of wait x tick_ms and window \
+             x 1000 / rate), so its clock can be so far ahead that the data of others come late; lower clock_ms, or raise wait and window",
             rules.source.get(),
             least.ms,
             least.stream,
@@ -234,7 +233,7 @@ impl Search<'_> {
             return Ok(());
         }
         let what = format!(in self.alloc;
-            "subscriber {}: ring {ring} is below its {streams} streams, whose frames of one timestamp do not fit; at least {streams}",
+            "subscriber {}: ring {ring} is too small for one frame of each of its {streams} streams; at least {streams}",
             sub.get()
         )?;
         self.warn(table, "ring", what.as_str())
@@ -249,9 +248,9 @@ impl Search<'_> {
     ) -> Result<(), AllocError> {
         for key in definition.members.as_slice() {
             let lack = if !is_registered(self.setup, key) {
-                "no table [[pmu]] has it, so it is never in a frame; its table is missing, or it is another PMU"
+                "no table [[pmu]] has it, so it is never in a frame; add the table, or correct the member"
             } else if !is_granted(self.setup, sub, key) {
-                "it is not granted, so it is never in a frame; it has to be in grants, or it is another PMU"
+                "it is not granted, so it is never in a frame; add it to grants, or correct the member"
             } else {
                 continue;
             };
@@ -279,9 +278,9 @@ impl Search<'_> {
             return Ok(());
         }
         let right = if frames > WINDOW_LIMIT {
-            "at most 64 is possible, so a shorter wait"
+            "64 is the most possible, so shorten wait"
         } else {
-            "at least as many"
+            "at least as many are needed"
         };
         let what = format!(in self.alloc;
             "subscriber {}: stream {}: window {window} is below rate x wait x tick_ms / 1000, {frames} frames, so frames are sent before \
@@ -310,8 +309,8 @@ impl Search<'_> {
             return Ok(());
         }
         let what = format!(in self.alloc;
-            "subscriber {}: bytes {bytes} is below a frame of stream {}, which has {least} bytes or more where all its members have data, \
-             and is dropped; at least {least}",
+            "subscriber {}: bytes {bytes} is below one full frame of stream {} ({least} bytes or more), so its frames are dropped; at \
+             least {least}",
             sub.get(),
             definition.stream.get()
         )?;

@@ -5,14 +5,14 @@ ghost use Rattle.pg_shared.specs.Edits.{edited};
 ghost use Rattle.pg_serve.specs.Inputs.{names};
 ghost use Rattle.pg_replay.specs.Lines.{asked_in, hands, nothing};
 
-use crate::seeing::seen_by;
-use crate::told::Told;
+use crate::service_handle::ServiceHandle;
+use crate::snapshot::seen_by;
 use pg_gateway::{Edit, Gate, Reply};
 use pg_lines::{Steer, parse_steer};
-use pg_log::{Asked, Detail, Entry, Notice, Whom};
+use pg_log::{Asked, Detail, Entry, LogEvent, Subject};
 use pg_replay::{Fault, Line, NotPrinted, print_refusal, print_reply, read_line, without_end};
 use pg_serve::Input as Handed;
-use pg_service::{Change, Watched};
+use pg_service::{Change, MeteredGate};
 use pg_shared::event_of;
 use pg_status::print_status;
 use pg_wire::{PmuId, Refusal};
@@ -22,7 +22,7 @@ use std::rt::Clock;
 use std::sync::Wait;
 
 /// What is done about lines that ask for more than an edit.
-pub trait Steering {
+pub trait ServiceCommands {
     /// Reads the setup again and does what changed, and answers it.
     ///
     /// # Errors
@@ -32,7 +32,7 @@ pub trait Steering {
         &mut self,
         rt: &R,
         console: &mut Console<'_, W>,
-        gate: &mut Watched<G>,
+        gate: &mut MeteredGate<G>,
     ) -> Result<(), Fault>;
 
     /// Has workers do what is asked about a source or a port, and answers it.
@@ -44,21 +44,21 @@ pub trait Steering {
         &mut self,
         rt: &R,
         console: &mut Console<'_, W>,
-        gate: &mut Watched<G>,
+        gate: &mut MeteredGate<G>,
         steer: Steer,
     ) -> Result<(), Fault>;
 }
 
 /// Nothing but edits can be asked for: other lines are `BadLine`.
 #[derive(Drop)]
-pub struct EditsAlone;
+pub struct NoServiceCommands;
 
-impl Steering for EditsAlone {
+impl ServiceCommands for NoServiceCommands {
     fn reload<W: Write, R: Wait + Clock, G: Gate>(
         &mut self,
         _rt: &R,
         console: &mut Console<'_, W>,
-        _gate: &mut Watched<G>,
+        _gate: &mut MeteredGate<G>,
     ) -> Result<(), Fault> {
         print_refusal(console.out_mut(), "refused", Refusal::BadLine)?;
         Ok(())
@@ -68,7 +68,7 @@ impl Steering for EditsAlone {
         &mut self,
         _rt: &R,
         console: &mut Console<'_, W>,
-        _gate: &mut Watched<G>,
+        _gate: &mut MeteredGate<G>,
         _steer: Steer,
     ) -> Result<(), Fault> {
         print_refusal(console.out_mut(), "refused", Refusal::BadLine)?;
@@ -96,13 +96,17 @@ enum Request {
 pub struct Console<'a, W: Write> {
     alloc: Global,
     out: W,
-    told: Told<'a>,
+    service: ServiceHandle<'a>,
 }
 
 impl<'a, W: Write> Console<'a, W> {
     /// Lines are answered by this writer.
-    pub fn new(alloc: Global, out: W, told: Told<'a>) -> Console<'a, W> {
-        Console { alloc, out, told }
+    pub fn new(alloc: Global, out: W, service: ServiceHandle<'a>) -> Console<'a, W> {
+        Console {
+            alloc,
+            out,
+            service,
+        }
     }
 
     /// Where memory for its answers is taken.
@@ -115,16 +119,16 @@ impl<'a, W: Write> Console<'a, W> {
         &mut self.out
     }
 
-    /// Whom its lines concern besides the gateway.
-    pub fn told(&self) -> Told<'a> {
-        self.told
+    /// The workers that its lines concern.
+    pub fn service(&self) -> ServiceHandle<'a> {
+        self.service
     }
 
     /// Answers a line, and tells whether it is `quit`.
-    fn answer<R: Wait + Clock, G: Gate, S: Steering>(
+    fn answer<R: Wait + Clock, G: Gate, S: ServiceCommands>(
         &mut self,
         rt: &R,
-        gate: &mut Watched<G>,
+        gate: &mut MeteredGate<G>,
         line: &[u8],
         steering: &mut S,
     ) -> Result<bool, Fault> {
@@ -143,7 +147,7 @@ impl<'a, W: Write> Console<'a, W> {
     fn edit<R: Wait + Clock, G: Gate>(
         &mut self,
         rt: &R,
-        gate: &mut Watched<G>,
+        gate: &mut MeteredGate<G>,
         line: &[u8],
     ) -> Result<(), Fault> {
         match edit_in(self.alloc, line) {
@@ -164,9 +168,9 @@ impl<'a, W: Write> Console<'a, W> {
     fn status<R: Wait + Clock, G: Gate>(
         &mut self,
         rt: &R,
-        gate: &mut Watched<G>,
+        gate: &mut MeteredGate<G>,
     ) -> Result<(), Fault> {
-        match seen_by(rt, self.alloc, &self.told, gate) {
+        match seen_by(rt, self.alloc, &self.service, gate) {
             Ok((snapshot, _)) => match print_status(&mut self.out, &snapshot) {
                 Ok(()) => Ok(()),
                 Err(_) => Err(Fault::Write),
@@ -180,7 +184,7 @@ impl<'a, W: Write> Console<'a, W> {
 
     /// Whether a PMU of this source is registered.
     pub fn has_source<R: Wait>(&self, rt: &R, source: PmuId) -> bool {
-        let registered = self.told.registered.lock(rt);
+        let registered = self.service.registered.lock(rt);
         registered.has(source)
     }
 
@@ -188,14 +192,14 @@ impl<'a, W: Write> Console<'a, W> {
     pub fn post_edit<R: Wait + Clock, G: Gate>(
         &mut self,
         rt: &R,
-        gate: &mut Watched<G>,
+        gate: &mut MeteredGate<G>,
         edit: Edit,
     ) -> Reply {
         let change = Change::of(&edit);
         let asked = Asked::of(&edit);
         // It is counted before it is posted, so that no worker that hands out frames by it is unaware of it; and behind that, so that a worker
         // that asked about streams meanwhile asks again.
-        let changes = self.told.neighbours.board.layout_changes();
+        let changes = self.service.handles.collector.layout_changes();
         changes.begin();
         let reply = gate.post(event_of(edit));
         changes.end();
@@ -205,10 +209,10 @@ impl<'a, W: Write> Console<'a, W> {
     }
 
     /// Leaves for the log what came of an edit that asks for this, if it asks for something.
-    fn log_edit<R: Wait + Clock>(&self, rt: &R, asked: Option<(Whom, Asked)>, reply: &Reply) {
-        if let Some((whom, asked)) = asked {
-            let entry = entry_of(whom, asked, refusal_in(reply));
-            self.told.neighbours.journal.tell(rt, entry);
+    fn log_edit<R: Wait + Clock>(&self, rt: &R, asked: Option<(Subject, Asked)>, reply: &Reply) {
+        if let Some((subject, asked)) = asked {
+            let entry = entry_of(subject, asked, refusal_in(reply));
+            self.service.handles.journal.tell(rt, entry);
         }
     }
 
@@ -216,23 +220,23 @@ impl<'a, W: Write> Console<'a, W> {
     fn follow<R: Wait, G: Gate>(
         &mut self,
         rt: &R,
-        gate: &mut Watched<G>,
+        gate: &mut MeteredGate<G>,
         change: Change,
         reply: &Reply,
     ) {
         let matters = change.is_of_ring();
-        let mut registered = self.told.registered.lock(rt);
+        let mut registered = self.service.registered.lock(rt);
         let noted = registered.note(change, reply);
         drop(registered);
         match noted {
-            Ok(after) => self.told.tell(rt, after),
-            Err(_) => self.told.note(Notice::MailFault),
+            Ok(after) => self.service.tell(rt, after),
+            Err(_) => self.service.note(LogEvent::MailFault),
         }
         if matters {
-            self.told.tell_room(rt);
+            self.service.tell_room(rt);
         }
-        if gate.take_seen().made > 0 {
-            self.told.neighbours.wake_ports();
+        if gate.take_stats().made > 0 {
+            self.service.handles.wake_ports();
         }
     }
 
@@ -246,10 +250,10 @@ impl<'a, W: Write> Console<'a, W> {
     }
 
     /// Reads a line and answers it, and tells whether it was the last: `quit`, or the end of the lines.
-    fn take_line<B: BufRead, R: Wait + Clock, G: Gate, S: Steering>(
+    fn take_line<B: BufRead, R: Wait + Clock, G: Gate, S: ServiceCommands>(
         &mut self,
         rt: &R,
-        gate: &mut Watched<G>,
+        gate: &mut MeteredGate<G>,
         reader: &mut B,
         line: &mut Vec<u8>,
         steering: &mut S,
@@ -259,7 +263,7 @@ impl<'a, W: Write> Console<'a, W> {
             Ok(0) => return Ok(true),
             Ok(_) => {
                 if self.answer(rt, gate, without_end(line.as_slice()), steering)? {
-                    self.told.end(rt);
+                    self.service.end(rt);
                     return Ok(true);
                 }
             }
@@ -282,20 +286,20 @@ fn refusal_in(reply: &Reply) -> Option<Refusal> {
 }
 
 /// What the log says of an edit that asks for this, and was refused for that or done.
-fn entry_of(whom: Whom, asked: Asked, refusal: Option<Refusal>) -> Entry {
+fn entry_of(subject: Subject, asked: Asked, refusal: Option<Refusal>) -> Entry {
     match refusal {
-        Some(refusal) => Entry::new(Notice::NotDone, whom, Detail::Edit(asked, refusal)),
-        None => Entry::new(Notice::Edited, whom, Detail::Done(asked)),
+        Some(refusal) => Entry::new(LogEvent::NotDone, subject, Detail::Edit(asked, refusal)),
+        None => Entry::new(LogEvent::Edited, subject, Detail::Done(asked)),
     }
 }
 
-/// Answers an operator's lines until `quit` comes, which ends all workers, or they end, which ends nothing (own rule). Each
+/// Answers an operator's lines until `quit` comes, which ends all workers, or they end, which ends nothing. Each
 /// edit is posted and its reply printed; lines that ask for more are left to who does it; a line that asks for nothing of these is
 /// `BadLine`. Where no answer can be written any more it goes on without; where lines can't be read it ends. Both are noted.
-pub fn answer_lines<B: BufRead, W: Write, R: Wait + Clock, G: Gate, S: Steering>(
+pub fn answer_lines<B: BufRead, W: Write, R: Wait + Clock, G: Gate, S: ServiceCommands>(
     rt: &R,
     console: &mut Console<'_, W>,
-    gate: &mut Watched<G>,
+    gate: &mut MeteredGate<G>,
     reader: &mut B,
     steering: &mut S,
 ) {
@@ -305,7 +309,7 @@ pub fn answer_lines<B: BufRead, W: Write, R: Wait + Clock, G: Gate, S: Steering>
             Ok(true) => return,
             Ok(false) => {}
             Err(fault) => {
-                console.told.note(Notice::ConsoleFault);
+                console.service.note(LogEvent::ConsoleFault);
                 if let Fault::Read = fault {
                     return;
                 }

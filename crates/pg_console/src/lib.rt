@@ -1,15 +1,16 @@
 //! A gateway that threads share is set up, and its operator's lines are answered: the console, whoever runs it.
+//! What no clause of IEEE C37.118.2 is named for is a rule of this project.
 #![tactic(auto)]
 
-mod clerk;
+mod backend;
 mod console;
 mod reloads;
-mod seeing;
-mod sharing;
-mod told;
+mod seats;
+mod service_handle;
+mod snapshot;
 
-pub use clerk::Counter;
-pub use console::{Console, EditsAlone, Steering, answer_lines};
+pub use backend::ControlBackend;
+pub use console::{Console, NoServiceCommands, ServiceCommands, answer_lines};
 pub use reloads::Reloads;
-pub use sharing::{Seated, SetUp, serve_by, set_up};
-pub use told::Told;
+pub use seats::{HoldsSeat, SetUp, serve_by, set_up};
+pub use service_handle::ServiceHandle;

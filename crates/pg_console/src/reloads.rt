@@ -6,7 +6,7 @@ use pg_wire::Refusal;
 use std::alloc::Global;
 use std::sync::{Mutex, Wait};
 
-/// How many reloads may wait to be begun: one for each client of the control socket (own rule).
+/// How many reloads may wait to be begun: one for each client of the control socket.
 const WAITING: usize = 8;
 
 /// A reload whose answer is awaited.
@@ -25,7 +25,7 @@ struct Asked {
     awaited: Vec<Awaited>,
 }
 
-/// The reloads that clients of the control socket asked for (own rule). A worker of its own does one after another and leaves the answers, so
+/// The reloads that clients of the control socket asked for. A worker of its own does one after another and leaves the answers, so
 /// that no other worker waits for the setup file or a port. Each answer is kept until it is taken, or the client has gone.
 #[derive(Drop)]
 pub struct Reloads {

@@ -2,8 +2,8 @@
 
 use mio::unix::SourceFd;
 use mio::{Events, Interest, Poll, Token};
-use pg_console::{Console, EditsAlone, answer_lines};
-use pg_service::Watched;
+use pg_console::{Console, NoServiceCommands, answer_lines};
+use pg_service::MeteredGate;
 use pg_shared::{Named, SharedGate};
 use std::alloc::{AllocError, Global};
 use std::io;
@@ -19,14 +19,14 @@ const STANDARD_INPUT: i32 = 0;
 /// The longest line, in bytes. What is longer is cut there.
 const LONGEST: usize = 4_096;
 
-/// Standard input, which is read without waiting, and the operator who answers its lines (own rule). The line `q` ends all.
+/// Standard input, which is read without waiting, and the operator who answers its lines. The line `q` ends all.
 #[derive(Drop)]
 pub struct Keyboard<'a, R: Wait + Clock + Input<Reader = StdinLock<'static>>, N: Named> {
     rt: &'a R,
     alloc: Global,
     poll: Poll,
     events: Events<Global>,
-    gate: Watched<SharedGate<'a, R, N>>,
+    gate: MeteredGate<SharedGate<'a, R, N>>,
     console: Console<'a, Vec<u8>>,
     line: Vec<u8>,
     is_open: bool,
@@ -56,7 +56,7 @@ impl<'a, R: Wait + Clock + Net + Input<Reader = StdinLock<'static>>, N: Named> K
             alloc,
             poll,
             events: Events::with_capacity(alloc, 1)?,
-            gate: Watched::new(gate),
+            gate: MeteredGate::new(gate),
             console,
             line: Vec::new(alloc),
             is_open: registered.is_ok(),
@@ -123,7 +123,7 @@ impl<'a, R: Wait + Clock + Net + Input<Reader = StdinLock<'static>>, N: Named> K
             &mut self.console,
             &mut self.gate,
             &mut reader,
-            &mut EditsAlone,
+            &mut NoServiceCommands,
         );
         self.answer.clear();
         for byte in line {

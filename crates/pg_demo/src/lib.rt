@@ -1,14 +1,15 @@
 //! The gateway with two simulated sources and two subscribers in one process, to see it work.
+//! What no clause of IEEE C37.118.2 is named for is a rule of this project.
 #![tactic(auto)]
 
-mod audience;
-mod crew;
 mod fault;
 mod keyboard;
-mod players;
-mod setting;
-mod showing;
-mod stage;
+mod run_demo;
+mod setup;
+mod simulators;
+mod state;
+mod subscribers;
+mod workers;
 
 pub use fault::Fault;
-pub use showing::{Asked, demo};
+pub use run_demo::{Asked, demo};

@@ -11,7 +11,7 @@ const HEAD: usize = 14;
 /// The bytes behind the blocks: CHK.
 const CHECK: usize = 2;
 
-/// What both subscribers are owed (own rule): the first one each slot's blocks of both sources, the second one those of the
+/// What both subscribers are owed: the first one each slot's blocks of both sources, the second one those of the
 /// second source alone.
 #[derive(Drop)]
 pub struct Accounts {

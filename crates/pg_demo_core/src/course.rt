@@ -29,7 +29,7 @@ pub struct Facts {
     pub is_drained: bool,
 }
 
-/// The course of a demo (own rule).
+/// The course of a demo.
 #[derive(Clone, Copy, Debug, PartialEq, Eq)]
 pub struct Course {
     /// For how many seconds data frames are sent; `None` without an end.

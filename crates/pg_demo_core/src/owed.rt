@@ -33,7 +33,7 @@ pub enum Wrong {
     Unsent(Stamp),
 }
 
-/// What a subscriber is owed of one stream (own rule).
+/// What a subscriber is owed of one stream.
 #[derive(Drop)]
 pub struct Owed {
     /// The frames that were sent and have not come, in the order in which they were sent.

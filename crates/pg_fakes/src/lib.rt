@@ -1,5 +1,5 @@
-//! A reader and a writer over memory, for tests: they tell their bytes, and can fail or block at one call. A gate that keeps what it
-//! was posted, edits as text, and a hand that takes all memory.
+//! For tests: a reader and a writer over memory that can fail or block at one call; a gate that keeps the events posted to it; edits as text;
+//! and a function that takes all memory.
 #![tactic(auto)]
 
 ghost use Rattle.std.specs.Prelude.{◌≡◌, ◌≤◌, length, drop, Some};

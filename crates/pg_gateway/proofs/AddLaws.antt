@@ -7,7 +7,7 @@ use Rattle.pg_audit.specs.declared.audit.What.TheVariants.{AddSub}
 use Rattle.pg_session.specs.Private.{refused, done}
 use Rattle.pg_gateway.specs.Related.{Related}
 use Rattle.pg_gateway.specs.Sharing.{SubscriberSlot, SubscriberSlots}
-use Rattle.pg_gateway.specs.Occurrences.{add_sub, tells}
+use Rattle.pg_gateway.specs.GatewayEvents.{add_sub, tells}
 use Rattle.pg_gateway.specs.State.{SharedMachine, slot_of, at_slot, with_note, added}
 use Rattle.pg_gateway.specs.Shown.{SlotValue, SlotShows, GatewayValue, GatewayShows, Steps}
 use Rattle.pg_gateway.proofs.OneLaws.{at_slot-none}

@@ -16,12 +16,12 @@ use Rattle.pg_outcfg.proofs.Places.{at-with, at-without}
 use Rattle.pg_registry.specs.Registered.{Pmu, Pmus, IsRegistry, pmu_of, config_in, taking, refusing, changed}
 use Rattle.pg_registry.proofs.Staying.{apart-changed, found-changed, found-dropped}
 use Rattle.pg_session.specs.Events as event
-use Rattle.pg_session.specs.Events.{Happening, Announcing, Sample}
+use Rattle.pg_session.specs.Events.{SubscriberEvent, Announcing, Sample}
 use Rattle.pg_session.specs.Private.{Told, done, refused, handed, put_first, next, effect, turned}
 use Rattle.pg_session.specs.Shown.{Model}
 use Rattle.pg_session.specs.ByAll.{by_arrivals, by_numbers}
 use Rattle.pg_gateway.specs.Judging.{block_counted, blocks_counted, memory_counted}
-use Rattle.pg_gateway.specs.Sharing.{SubscriberSlot, SubscriberSlots, Offer, revokes, measures, ticks, some_measured, notes_of, shared_to, after_share, fan_out}
+use Rattle.pg_gateway.specs.Sharing.{SubscriberSlot, SubscriberSlots, Broadcast, revokes, measures, ticks, some_measured, notes_of, shared_to, after_share, broadcast}
 use Rattle.pg_gateway.specs.State.{slot_of, at_slot}
 use Rattle.pg_gateway.specs.Consistent.{AgreesWith, AllAgree, AreKeyed}
 
@@ -109,8 +109,8 @@ pub pushed_agree : (pmus : Pmus) (u : ℕ) (s : SubscriberSlot) (ss : Subscriber
 pushed_agree pmus u s [] is all = (is, tt)
 pushed_agree pmus u s (t ∷ ss) is all = (all.0, pushed_agree pmus u s ss is all.1)
 
-pub fanned_agree : (pmus other : Pmus) (o : Offer) → ((s : SubscriberSlot) (k : ℕ) → AgreesWith pmus s.own → AgreesWith other (shared_to o s k).own)
-    → (ss : SubscriberSlots) (k : ℕ) → AllAgree pmus ss → AllAgree other (fan_out o ss k)
+pub fanned_agree : (pmus other : Pmus) (o : Broadcast) → ((s : SubscriberSlot) (k : ℕ) → AgreesWith pmus s.own → AgreesWith other (shared_to o s k).own)
+    → (ss : SubscriberSlots) (k : ℕ) → AllAgree pmus ss → AllAgree other (broadcast o ss k)
 fanned_agree pmus other o each [] k all = tt
 fanned_agree pmus other o each (s ∷ ss) k all = (each s.1 _ all.0, fanned_agree pmus other o each ss _ all.1)
 

@@ -12,10 +12,10 @@ use Rattle.pg_session.specs.Ready.{AreRising}
 use Rattle.pg_gateway.specs.Related.{Related}
 use Rattle.pg_gateway.specs.Sharing.{announces, total}
 use Rattle.pg_gateway.specs.Judging.{registered_of, all_announced, memory_counted}
-use Rattle.pg_gateway.specs.Occurrences.{announce, tells}
+use Rattle.pg_gateway.specs.GatewayEvents.{announce, tells}
 use Rattle.pg_gateway.specs.State.{SharedMachine}
 use Rattle.pg_gateway.specs.Shown.{SlotValue, SlotShows, GatewayValue, GatewayShows, Steps}
-use Rattle.pg_gateway.specs.Taking.{FansOut}
+use Rattle.pg_gateway.specs.Taking.{IsBroadcast}
 use Rattle.pg_gateway.proofs.Places.{part_there, rising-all}
 use Rattle.pg_gateway.proofs.Judged.{key_is}
 
@@ -97,7 +97,7 @@ announced_memory config S old pmus entries a list shown some related counted =
     }
 
 pub announced_goes : (config : Source) (S : SharedMachine) (old : GatewayValue) (pmus : Pmus) (entries : List (ℕ × SlotValue)) (made kept : ℕ) (a : Announcing) (list : List Announcing) → GatewayShows old S → registered_of S.pmus config ≡ a ∷ list
-    → FansOut (announces (registered_of S.pmus config)) made kept S.subs entries → kept ≤ made → pmus ≡ all_announced S.pmus (registered_of S.pmus config)
+    → IsBroadcast (announces (registered_of S.pmus config)) made kept S.subs entries → kept ≤ made → pmus ≡ all_announced S.pmus (registered_of S.pmus config)
     → Steps S (announce config) (tells (done made kept)) (record { pmus = pmus; subs = entries; last_tick = old.last_tick })
 announced_goes config S old pmus entries made kept a list shown some fans few announced =
     let fan = rw some at fans in

@@ -8,15 +8,15 @@ use Rattle.pg_wire.specs.declared.ids.PmuKey.{PmuKey}
 use Rattle.pg_config.specs.Parts.{Part}
 use Rattle.pg_registry.specs.Registered.{has_key}
 use Rattle.pg_session.specs.Events as event
-use Rattle.pg_session.specs.Events.{Happening}
+use Rattle.pg_session.specs.Events.{SubscriberEvent}
 use Rattle.pg_session.specs.Private as private
 use Rattle.pg_session.specs.Private.{Told, done, refused, handed, frames_of}
 use Rattle.pg_session.specs.Shown.{Model}
 use Rattle.pg_session.specs.ByAll.{by_arrivals, by_numbers}
-use Rattle.pg_gateway.specs.Occurrences.{Occurrence, add_pmu, drop_pmu, add_sub, drop_sub, grant, asks, announce, measure, tick, stats, pmu_stats, audit, standing, who_waits, Answer, tells}
+use Rattle.pg_gateway.specs.GatewayEvents.{GatewayEvent, add_pmu, drop_pmu, add_sub, drop_sub, grant, asks, announce, measure, tick, stats, pmu_stats, audit, standing, who_waits, Answer, tells}
 use Rattle.pg_gateway.specs.Judging.{registered_of}
-use Rattle.pg_gateway.specs.Sharing.{SubscriberSlot, SubscriberSlots, Offer, revokes, announces, measures, ticks, share, total}
-use Rattle.pg_gateway.specs.State.{SharedMachine, slot_of, own_of, granting, taken_in, refusal, takes_memory, Reach, to_all, to_one, adds, drops, to_none, unless, reach, frames_reached, made, own_frames, own_answer, reached_answer, answer, May}
+use Rattle.pg_gateway.specs.Sharing.{SubscriberSlot, SubscriberSlots, Broadcast, revokes, announces, measures, ticks, share, total}
+use Rattle.pg_gateway.specs.State.{SharedMachine, slot_of, own_of, granting, taken_in, refusal, takes_memory, Target, to_all, to_one, adds, drops, to_none, unless, target, frames_reached, made, own_frames, own_answer, reached_answer, answer, May}
 use Rattle.pg_gateway.specs.Views.{Seen, begins, ends, takes, unless_refused, full_told, private_step, private_run, handed_by, handed_at, handed_in, full_by, full_answer, shared_step, full_answers, as_seen, part_of, part, view, handed_one, handed_to, Lossless}
 use Rattle.pg_gateway.proofs.SlotLaws.{owned, Alone}
 use Rattle.pg_gateway.proofs.ShareLaws.{share_quiet}
@@ -26,7 +26,7 @@ use Rattle.pg_gateway.proofs.ViewLaws.{full_own, own_full, Alone-next, own-step}
 all_kept : (made k : ℕ) → k ≤ made → made ≤ k → k ≡ made
 all_kept made k le ge = omega arith
 
-told_kept : (p : Model) (x : Happening) (k : ℕ) → k ≤ length (frames_of by_arrivals by_numbers p x) → Lossless (tells (private.answer by_arrivals by_numbers p x k))
+told_kept : (p : Model) (x : SubscriberEvent) (k : ℕ) → k ≤ length (frames_of by_arrivals by_numbers p x) → Lossless (tells (private.answer by_arrivals by_numbers p x k))
     → private.answer by_arrivals by_numbers p x k ≡ private.answer by_arrivals by_numbers p x (length (frames_of by_arrivals by_numbers p x))
 told_kept p (event.grant key config) k le full = ap (λ n. private.answer by_arrivals by_numbers p (event.grant key config) n) (all_kept _ k le full)
 told_kept p (event.revoke key) k le full = ap (λ n. private.answer by_arrivals by_numbers p (event.revoke key) n) (all_kept _ k le full)
@@ -41,11 +41,11 @@ told_kept p event.hangup k le full = ap (λ n. done 0 n) (all_kept 0 k le full)
 told_kept p (event.command number word) k le full = ap (λ n. done 0 n) (all_kept 0 k le full)
 told_kept p (event.drain n) k le full = refl
 
-own_kept : (o : Option SubscriberSlot) (x : Happening) (k : ℕ) → k ≤ own_frames o x → Lossless (tells (own_answer o x k)) → own_answer o x k ≡ own_answer o x (own_frames o x)
+own_kept : (o : Option SubscriberSlot) (x : SubscriberEvent) (k : ℕ) → k ≤ own_frames o x → Lossless (tells (own_answer o x k)) → own_answer o x k ≡ own_answer o x (own_frames o x)
 own_kept None x k le full = refl
 own_kept (Some s) x k le full = told_kept s.own x k le full
 
-reached_kept : (to : Reach) (ss : SubscriberSlots) (k : ℕ) → k ≤ frames_reached to ss → Lossless (tells (reached_answer to ss k))
+reached_kept : (to : Target) (ss : SubscriberSlots) (k : ℕ) → k ≤ frames_reached to ss → Lossless (tells (reached_answer to ss k))
     → reached_answer to ss k ≡ reached_answer to ss (frames_reached to ss)
 reached_kept (to_all o) ss k le full = ap (λ n. done (total o ss) n) (all_kept (total o ss) k le full)
 reached_kept (to_one w x) ss k le full = own_kept (slot_of w ss) x k le full
@@ -53,16 +53,16 @@ reached_kept (adds w size bytes last) ss k le full = ap (λ n. done 0 n) (all_ke
 reached_kept (drops w) ss k le full = ap (λ n. done 0 n) (all_kept 0 k le full)
 reached_kept to_none ss k le full = ap (λ n. done 0 n) (all_kept 0 k le full)
 
-kept : (S : SharedMachine) (e : Occurrence) (k : ℕ) → k ≤ made S e → Lossless (answer S e k) → answer S e k ≡ answer S e (made S e)
-kept S (add_pmu key) k le full = ap tells (reached_kept (reach S (add_pmu key)) S.subs k le full)
-kept S (drop_pmu key) k le full = ap tells (reached_kept (reach S (drop_pmu key)) S.subs k le full)
-kept S (add_sub w size bytes) k le full = ap tells (reached_kept (reach S (add_sub w size bytes)) S.subs k le full)
-kept S (drop_sub w) k le full = ap tells (reached_kept (reach S (drop_sub w)) S.subs k le full)
-kept S (grant w key) k le full = ap tells (reached_kept (reach S (grant w key)) S.subs k le full)
-kept S (asks w x) k le full = ap tells (reached_kept (reach S (asks w x)) S.subs k le full)
-kept S (announce config) k le full = ap tells (reached_kept (reach S (announce config)) S.subs k le full)
-kept S (measure m) k le full = ap tells (reached_kept (reach S (measure m)) S.subs k le full)
-kept S (tick soc) k le full = ap tells (reached_kept (reach S (tick soc)) S.subs k le full)
+kept : (S : SharedMachine) (e : GatewayEvent) (k : ℕ) → k ≤ made S e → Lossless (answer S e k) → answer S e k ≡ answer S e (made S e)
+kept S (add_pmu key) k le full = ap tells (reached_kept (target S (add_pmu key)) S.subs k le full)
+kept S (drop_pmu key) k le full = ap tells (reached_kept (target S (drop_pmu key)) S.subs k le full)
+kept S (add_sub w size bytes) k le full = ap tells (reached_kept (target S (add_sub w size bytes)) S.subs k le full)
+kept S (drop_sub w) k le full = ap tells (reached_kept (target S (drop_sub w)) S.subs k le full)
+kept S (grant w key) k le full = ap tells (reached_kept (target S (grant w key)) S.subs k le full)
+kept S (asks w x) k le full = ap tells (reached_kept (target S (asks w x)) S.subs k le full)
+kept S (announce config) k le full = ap tells (reached_kept (target S (announce config)) S.subs k le full)
+kept S (measure m) k le full = ap tells (reached_kept (target S (measure m)) S.subs k le full)
+kept S (tick soc) k le full = ap tells (reached_kept (target S (tick soc)) S.subs k le full)
 kept S (stats w) k le full = refl
 kept S (pmu_stats key) k le full = refl
 kept S (who_waits us) k le full = refl
@@ -70,7 +70,7 @@ kept S (audit w index) k le full = refl
 kept S (standing w place) k le full = refl
 
 -- an answer that may come and tells no loss is the full one
-pub lossless_full : (S : SharedMachine) (e : Occurrence) (a : Answer) → May S e a → Lossless a → a ≡ full_answer S e
+pub lossless_full : (S : SharedMachine) (e : GatewayEvent) (a : Answer) → May S e a → Lossless a → a ≡ full_answer S e
 lossless_full S e a may full = by (refusal S e) may
   where
     by : (o : Option Refusal)
@@ -86,10 +86,10 @@ handed_in-append o [] ys = refl
 handed_in-append o (x ∷ xs) ys = ap (λ fs. handed_at o x ++ fs) (handed_in-append (private_step o x) xs ys) ∙ sym (append_assoc (handed_at o x) _ _)
 
 -- a private event that hands nothing out
-abbrev Silent : Happening → Type 0
+abbrev Silent : SubscriberEvent → Type 0
 Silent x = (p : Model) → handed_by (full_told p x) ≡ []
 
-silent_share : (o : Offer) (p : Model) (x : Happening) → share o p.grants ≡ Some x → handed_by (full_told p x) ≡ []
+silent_share : (o : Broadcast) (p : Model) (x : SubscriberEvent) → share o p.grants ≡ Some x → handed_by (full_told p x) ≡ []
 silent_share o p x is =
     let q = share_quiet o p x is in
     rw (q.allowed, q.frames (length (frames_of by_arrivals by_numbers p x))) refl
@@ -104,18 +104,18 @@ silent_grant key config p = by (private.refusal by_arrivals by_numbers p (event.
     by None = refl
     by (Some r) = refl
 
-abbrev SilentReach : Reach → Type 0
-SilentReach (to_all o) = Unit {0}
-SilentReach (to_one w x) = Silent x
-SilentReach (adds w size bytes last) = Unit {0}
-SilentReach (drops w) = Unit {0}
-SilentReach to_none = Unit {0}
+abbrev SilentTarget : Target → Type 0
+SilentTarget (to_all o) = Unit {0}
+SilentTarget (to_one w x) = Silent x
+SilentTarget (adds w size bytes last) = Unit {0}
+SilentTarget (drops w) = Unit {0}
+SilentTarget to_none = Unit {0}
 
-silent_part : (u : ℕ) (own : Option Model) (to : Reach) → SilentReach to → handed_in own (part_of u own to) ≡ []
+silent_part : (u : ℕ) (own : Option Model) (to : Target) → SilentTarget to → handed_in own (part_of u own to) ≡ []
 silent_part u None (to_all o) silent = refl
 silent_part u (Some p) (to_all o) silent = by (share o p.grants) refl
   where
-    by : (x : Option Happening) → share o p.grants ≡ x → handed_in (Some p) (as_seen x) ≡ []
+    by : (x : Option SubscriberEvent) → share o p.grants ≡ x → handed_in (Some p) (as_seen x) ≡ []
     by None is = refl
     by (Some x) is = ap (λ fs. fs ++ []) (silent_share o p x is)
 silent_part u own (to_one w x) silent = by (nat_eq u w) own
@@ -136,18 +136,18 @@ silent_part u own (drops w) silent = by (nat_eq u w)
     by false = refl
 silent_part u own to_none silent = refl
 
-silent_unless : (r : Option Refusal) (to : Reach) → SilentReach to → SilentReach (unless r to)
+silent_unless : (r : Option Refusal) (to : Target) → SilentTarget to → SilentTarget (unless r to)
 silent_unless None to silent = silent
 silent_unless (Some r) to silent = tt
 
-silent_grants : (w : ℕ) (key : PmuKey) (S : SharedMachine) → SilentReach (reach S (grant w key))
+silent_grants : (w : ℕ) (key : PmuKey) (S : SharedMachine) → SilentTarget (target S (grant w key))
 silent_grants w key S = by (has_key S.pmus key)
   where
-    by : (b : Bool) → SilentReach (if b then to_one w (granting S key) else to_none)
+    by : (b : Bool) → SilentTarget (if b then to_one w (granting S key) else to_none)
     by true = silent_grant key _
     by false = tt
 
-handed-asks : (u w : ℕ) (S : SharedMachine) (x : Happening) → handed_one u (asks w x) (full_answer S (asks w x)) ≡ handed_in (own_of u S) (part u S (asks w x))
+handed-asks : (u w : ℕ) (S : SharedMachine) (x : SubscriberEvent) → handed_one u (asks w x) (full_answer S (asks w x)) ≡ handed_in (own_of u S) (part u S (asks w x))
 handed-asks u w S x = ap (λ a. handed_one u (asks w x) a) (own_full (slot_of w S.subs) x) ∙ by (nat_eq u w) refl
   where
     own : (o : Option SubscriberSlot) → handed_by (full_own o x) ≡ handed_in (owned o) (if true && is_some (owned o) then takes x ∷ [] else [])
@@ -159,18 +159,18 @@ handed-asks u w S x = ap (λ a. handed_one u (asks w x) a) (own_full (slot_of w 
     by true is = ap (λ v. handed_by (full_own (slot_of v S.subs) x)) (sym (eqb-true u w is)) ∙ own (slot_of u S.subs)
     by false is = refl
 
-pub handed-step : (u : ℕ) (S : SharedMachine) (e : Occurrence) → handed_one u e (full_answer S e) ≡ handed_in (own_of u S) (part u S e)
+pub handed-step : (u : ℕ) (S : SharedMachine) (e : GatewayEvent) → handed_one u e (full_answer S e) ≡ handed_in (own_of u S) (part u S e)
 handed-step u S (add_pmu key) = refl
-handed-step u S (drop_pmu key) = sym (silent_part u (own_of u S) (reach S (drop_pmu key)) (silent_unless (refusal S (drop_pmu key)) (to_all (revokes key)) tt))
+handed-step u S (drop_pmu key) = sym (silent_part u (own_of u S) (target S (drop_pmu key)) (silent_unless (refusal S (drop_pmu key)) (to_all (revokes key)) tt))
 handed-step u S (add_sub w size bytes) =
-    sym (silent_part u (own_of u S) (reach S (add_sub w size bytes)) (silent_unless (refusal S (add_sub w size bytes)) (adds w size bytes S.last_tick) tt))
-handed-step u S (drop_sub w) = sym (silent_part u (own_of u S) (reach S (drop_sub w)) (silent_unless (refusal S (drop_sub w)) (drops w) tt))
-handed-step u S (grant w key) = sym (silent_part u (own_of u S) (reach S (grant w key)) (silent_grants w key S))
+    sym (silent_part u (own_of u S) (target S (add_sub w size bytes)) (silent_unless (refusal S (add_sub w size bytes)) (adds w size bytes S.last_tick) tt))
+handed-step u S (drop_sub w) = sym (silent_part u (own_of u S) (target S (drop_sub w)) (silent_unless (refusal S (drop_sub w)) (drops w) tt))
+handed-step u S (grant w key) = sym (silent_part u (own_of u S) (target S (grant w key)) (silent_grants w key S))
 handed-step u S (asks w x) = handed-asks u w S x
 handed-step u S (announce config) =
-    sym (silent_part u (own_of u S) (reach S (announce config)) (silent_unless (refusal S (announce config)) (to_all (announces (registered_of S.pmus config))) tt))
+    sym (silent_part u (own_of u S) (target S (announce config)) (silent_unless (refusal S (announce config)) (to_all (announces (registered_of S.pmus config))) tt))
 handed-step u S (measure m) =
-    sym (silent_part u (own_of u S) (reach S (measure m)) (silent_unless (refusal S (measure m)) (to_all (measures m.soc m.quality m.frac (taken_in S m))) tt))
+    sym (silent_part u (own_of u S) (target S (measure m)) (silent_unless (refusal S (measure m)) (to_all (measures m.soc m.quality m.frac (taken_in S m))) tt))
 handed-step u S (tick soc) = sym (silent_part u (own_of u S) (to_all (ticks soc)) tt)
 handed-step u S (stats w) = refl
 handed-step u S (pmu_stats key) = refl
@@ -178,7 +178,7 @@ handed-step u S (who_waits us) = refl
 handed-step u S (audit w index) = refl
 handed-step u S (standing w place) = refl
 
-pub handed-run : (u : ℕ) (S : SharedMachine) (es : List Occurrence) → Alone S.subs → handed_to u es (full_answers S es) ≡ handed_in (own_of u S) (view u S es)
+pub handed-run : (u : ℕ) (S : SharedMachine) (es : List GatewayEvent) → Alone S.subs → handed_to u es (full_answers S es) ≡ handed_in (own_of u S) (view u S es)
 handed-run u S [] alone = refl
 handed-run u S (e ∷ es) alone =
     let rest = handed-run u (shared_step S e) es (Alone-next S e (full_answer S e) alone) in

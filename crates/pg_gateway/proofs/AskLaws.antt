@@ -15,7 +15,7 @@ use Rattle.pg_session.specs.Standing.{standing_of}
 use Rattle.pg_ring.specs.Shown.{frames_to_leave}
 use Rattle.pg_gateway.specs.Related.{Related}
 use Rattle.pg_gateway.specs.Sharing.{SubscriberSlot, SubscriberSlots}
-use Rattle.pg_gateway.specs.Occurrences.{stats, pmu_stats, audit, standing, who_waits, tells, sub_counts, pmu_counts, entry, stands, those_waiting}
+use Rattle.pg_gateway.specs.GatewayEvents.{stats, pmu_stats, audit, standing, who_waits, tells, sub_counts, pmu_counts, entry, stands, those_waiting}
 use Rattle.pg_gateway.specs.State.{SharedMachine, slot_of, has_waiting, waiting_among}
 use Rattle.pg_gateway.specs.Shown.{SlotValue, SlotShows, GatewayValue, GatewayShows, Steps, slot_waits}
 use Rattle.pg_gateway.proofs.RelatedLaws.{lookup-none, lookup-some}

@@ -14,7 +14,7 @@ use Rattle.pg_session.specs.Private.{Told, refused}
 use Rattle.pg_session.specs.ByAll.{by_arrivals, by_numbers}
 use Rattle.pg_gateway.specs.Related.{Related}
 use Rattle.pg_gateway.specs.Sharing.{SubscriberSlot}
-use Rattle.pg_gateway.specs.Occurrences.{grant, tells}
+use Rattle.pg_gateway.specs.GatewayEvents.{grant, tells}
 use Rattle.pg_gateway.specs.State.{SharedMachine, slot_of, at_slot, with_note, granting, grant_refusal, own_frames, own_answer}
 use Rattle.pg_gateway.specs.Shown.{SlotValue, SlotShows, GatewayValue, GatewayShows, Steps}
 use Rattle.pg_gateway.specs.Taking.{GrantMay, GrantsAt}

@@ -7,7 +7,7 @@ pub mod AnswerLaws
 pub mod RunLaws
 pub mod Places
 pub mod Taking
-pub mod FanLaws
+pub mod BroadcastLaws
 pub mod OneLaws
 pub mod AskLaws
 pub mod AllLaws
@@ -23,7 +23,7 @@ pub mod AgreeLaws
 pub mod SaidLaws
 pub mod NextLaws
 pub mod PlainLaws
-pub mod ReachLaws
+pub mod TargetLaws
 pub mod FrugalLaws
 pub mod AlikeLaws
 pub mod RouteLaws

@@ -26,16 +26,16 @@ use Rattle.pg_gateway.specs.Judging.{samples_in, sample_refusal, is_taken, judge
 use Rattle.pg_gateway.specs.Placing.{ArePlaced}
 use Rattle.pg_gateway.specs.Shown.{SlotValue}
 use Rattle.pg_gateway.specs.Taking.{part_passes}
-use Rattle.pg_gateway.specs.Routes.{IsMask, AreMasks, HasBits, IsOnlyBit, IsCommon, IsTurned, bit_of, mask_where, masks_taken, places_at, places_held, TellsShare, SharesTold}
+use Rattle.pg_gateway.specs.Routes.{IsMask, AreMasks, HasBits, IsOnlyBit, AreGrantedAll, AreGranted, bit_of, mask_where, masks_taken, places_at, places_held, TellsShare, SharesTold}
 use Rattle.pg_gateway.proofs.Places.{part_there, rising-filter}
-use Rattle.pg_gateway.proofs.RouteLaws.{turn, without, bit_within, one_zero, value_set_same, value_set_other}
+use Rattle.pg_gateway.proofs.RouteLaws.{note_granted, without, bit_within, one_zero, value_set_same, value_set_other}
 use Rattle.pg_gateway.proofs.RouteKept.{mask_at}
 
 -- By one mask what is marked is what is common; by none nothing is marked, and all is common.
 abbrev pub IsAlone : ℕ → ℕ → List ℕ → Type 0
-IsAlone marks common [] = (marks ≡ 0) × (common ≡ 2 ^ 64 - 1)
-IsAlone marks common (n ∷ []) = marks ≡ common
-IsAlone marks common (n ∷ m ∷ masks) = Unit {0}
+IsAlone granted_some granted_all [] = (granted_some ≡ 0) × (granted_all ≡ 2 ^ 64 - 1)
+IsAlone granted_some granted_all (n ∷ []) = granted_some ≡ granted_all
+IsAlone granted_some granted_all (n ∷ m ∷ masks) = Unit {0}
 
 -- of these places, each with a mask, those whose mask has a subscriber's bit set
 abbrev places_marked : ℕ → List ℕ → List ℕ → List ℕ
@@ -97,7 +97,7 @@ lowest_at m n k (suc i) (p ∷ ps) lt set low gone others =
 pub first_at : (n : ℕ) (ps : List ℕ) → 0 < n → n < 2 ^ 64 → HasBits (length ps) n
     → (trailing_zeros w64 n < length ps) × (places_at n 0 ps ≡ get_or ps (trailing_zeros w64 n) 0 ∷ places_at (without n (trailing_zeros w64 n)) 0 ps)
 first_at n ps some small bits =
-    let t = turn n some small in
+    let t = note_granted n some small in
     let within = bit_within (length ps) n (trailing_zeros w64 n) bits t.1 in
     let same : (j : ℕ) → 0 + j ≡ j = λ j. omega arith in (
       within,
@@ -109,7 +109,7 @@ first_at n ps some small bits =
 -- what is left has no more bits
 pub bits_left : (len n : ℕ) → 0 < n → n < 2 ^ 64 → HasBits len n → HasBits len (without n (trailing_zeros w64 n))
 bits_left len n some small bits =
-    let t = turn n some small in
+    let t = note_granted n some small in
     λ j past.
     elim (cases_eq j (trailing_zeros w64 n)) [
       | inl same ↦ ap (bit_at (without n (trailing_zeros w64 n))) same ∙ t.4
@@ -199,37 +199,37 @@ pub more_masks : (ns : List ℕ) (n : ℕ) → length (ns ++ n ∷ []) ≡ lengt
 more_masks [] n = omega arith
 more_masks (m ∷ ns) n = let rest = more_masks ns n in omega arith
 
-pub common_next : (common n : ℕ) (ns : List ℕ) → IsCommon common ns → IsCommon (bit_and common n) (ns ++ n ∷ [])
-common_next common n ns all = λ j set i lt.
-    let both = both_set common n j set in
+pub common_next : (granted_all n : ℕ) (ns : List ℕ) → AreGrantedAll granted_all ns → AreGrantedAll (bit_and granted_all n) (ns ++ n ∷ [])
+common_next granted_all n ns all = λ j set i lt.
+    let both = both_set granted_all n j set in
     elim (cases_eq i (length ns)) [
       | inl same ↦ subst (λ k. nat_eq (bit_at (get_or (ns ++ n ∷ []) k 0) j) 1 ≡ true) (sym same) (subst (λ m. nat_eq (bit_at m j) 1 ≡ true) (sym (mask_last ns n)) both.1)
       | inr other ↦ subst (λ m. nat_eq (bit_at m j) 1 ≡ true) (sym (mask_before ns n i other)) (all j both.0 i (omega (arith, lt, other, more_masks ns n)))
     ]
 
-pub alone_next : (marks common n : ℕ) (ns : List ℕ) → n < 2 ^ 64 → IsAlone marks common ns → IsAlone (bit_or marks n) (bit_and common n) (ns ++ n ∷ [])
-alone_next marks common n [] small alone =
+pub alone_next : (granted_some granted_all n : ℕ) (ns : List ℕ) → n < 2 ^ 64 → IsAlone granted_some granted_all ns → IsAlone (bit_or granted_some n) (bit_and granted_all n) (ns ++ n ∷ [])
+alone_next granted_some granted_all n [] small alone =
     rw (alone.0, alone.1) (sym (and_comm (2 ^ 64 - 1) n ∙ and_mask n 64 ∙ same))
   where
     same : n % 2 ^ 64 ≡ n
     same = omega (arith, small)
-alone_next marks common n (m ∷ []) small alone = tt
-alone_next marks common n (m ∷ k ∷ ns) small alone = tt
+alone_next granted_some granted_all n (m ∷ []) small alone = tt
+alone_next granted_some granted_all n (m ∷ k ∷ ns) small alone = tt
 
-pub alone_end : (marks common : ℕ) (ns : List ℕ) → IsAlone marks common ns → length ns ≡ 1 → marks ≡ common
-alone_end marks common [] alone one = absurd (omega (arith, one))
-alone_end marks common (n ∷ []) alone one = alone
-alone_end marks common (n ∷ m ∷ ns) alone one = absurd (omega (arith, one))
+pub alone_end : (granted_some granted_all : ℕ) (ns : List ℕ) → IsAlone granted_some granted_all ns → length ns ≡ 1 → granted_some ≡ granted_all
+alone_end granted_some granted_all [] alone one = absurd (omega (arith, one))
+alone_end granted_some granted_all (n ∷ []) alone one = alone
+alone_end granted_some granted_all (n ∷ m ∷ ns) alone one = absurd (omega (arith, one))
 
 -- one more mask is turned: its bit is set in the numbers of its holders among some subscribers
-pub turned_next : (some n : ℕ) (ns old new : List ℕ) → IsTurned some ns old
+pub turned_next : (some n : ℕ) (ns old new : List ℕ) → AreGranted some ns old
     → ((j : ℕ) → bit_at (bit_and n some) j ≡ 1 → bit_at (get_or new j 0) (length ns) ≡ 1)
     → ((j : ℕ) → bit_at (bit_and n some) j ≡ 0 → get_or new j 0 ≡ get_or old j 0)
-    → ((j i : ℕ) → i ≢ length ns → bit_at (get_or new j 0) i ≡ bit_at (get_or old j 0) i) → IsTurned some (ns ++ n ∷ []) new
-turned_next some n ns old new turned set unset others = λ j one i.
+    → ((j i : ℕ) → i ≢ length ns → bit_at (get_or new j 0) i ≡ bit_at (get_or old j 0) i) → AreGranted some (ns ++ n ∷ []) new
+turned_next some n ns old new granted_blocks set unset others = λ j one i.
     elim (cases_eq i (length ns)) [
       | inl same ↦ ap (bit_at (get_or new j 0)) same ∙ here j one ∙ ap (λ m. bit_at m j) (sym (mask_last ns n)) ∙ ap (λ k. bit_at (get_or (ns ++ n ∷ []) k 0) j) (sym same)
-      | inr other ↦ others j i other ∙ turned j one i ∙ ap (λ m. bit_at m j) (sym (mask_before ns n i other))
+      | inr other ↦ others j i other ∙ granted_blocks j one i ∙ ap (λ m. bit_at m j) (sym (mask_before ns n i other))
     ]
   where
     holder : (j : ℕ) → bit_at some j ≡ 1 → bit_at (bit_and n some) j ≡ bit_at n j
@@ -240,20 +240,20 @@ turned_next some n ns old new turned set unset others = λ j one i.
       where
         by : (b : ℕ) → b < 2 → bit_at n j ≡ b → bit_at (get_or new j 0) (length ns) ≡ b
         by zero small is =
-            ap (λ m. bit_at m (length ns)) (unset j (holder j one ∙ is)) ∙ turned j one (length ns)
+            ap (λ m. bit_at m (length ns)) (unset j (holder j one ∙ is)) ∙ granted_blocks j one (length ns)
             ∙ ap (λ m. bit_at m j) (get_or_past ns (length ns) 0 (omega arith)) ∙ bit_at-zero j
         by (suc zero) small is = set j (holder j one ∙ is)
         by (suc (suc b)) small is = absurd (omega arith)
 
-pub turned_block : (some n block : ℕ) (ns old new : List ℕ) → block ≡ length ns → IsTurned some ns old
+pub turned_block : (some n block : ℕ) (ns old new : List ℕ) → block ≡ length ns → AreGranted some ns old
     → ((j : ℕ) → bit_at (bit_and n some) j ≡ 1 → bit_at (get_or new j 0) block ≡ 1)
     → ((j : ℕ) → bit_at (bit_and n some) j ≡ 0 → get_or new j 0 ≡ get_or old j 0)
-    → ((j i : ℕ) → i ≢ block → bit_at (get_or new j 0) i ≡ bit_at (get_or old j 0) i) → IsTurned some (ns ++ n ∷ []) new
-turned_block some n block ns old new is turned there unset others =
-    turned_next some n ns old new turned (λ j one. ap (bit_at (get_or new j 0)) (sym is) ∙ there j one) unset (λ j i other. others j i (λ same. other (same ∙ is)))
+    → ((j i : ℕ) → i ≢ block → bit_at (get_or new j 0) i ≡ bit_at (get_or old j 0) i) → AreGranted some (ns ++ n ∷ []) new
+turned_block some n block ns old new is granted_blocks there unset others =
+    turned_next some n ns old new granted_blocks (λ j one. ap (bit_at (get_or new j 0)) (sym is) ∙ there j one) unset (λ j i other. others j i (λ same. other (same ∙ is)))
 
 -- no mask is turned
-pub turned_none : (some : ℕ) (new : List ℕ) → ((j : ℕ) → get_or new j 0 ≡ 0) → IsTurned some [] new
+pub turned_none : (some : ℕ) (new : List ℕ) → ((j : ℕ) → get_or new j 0 ≡ 0) → AreGranted some [] new
 turned_none some new zeros = λ j one i. ap (λ m. bit_at m i) (zeros j) ∙ bit_at-zero i ∙ sym (bit_at-zero j)
 
 pub zeros_at : (n j : ℕ) → ◌≡◌ {A = ℕ} (get_or (replicate n 0) j 0) 0
@@ -285,37 +285,37 @@ masks_next masks bs k d lt = rw add-one (by bs k lt)
         ∙ sym (append_assoc (mask_where b.1 (get_or masks b.0 0)) (masks_taken masks (take k bs)) (mask_where (get_or bs k d).1 (get_or masks (get_or bs k d).0 0)))
 
 -- one holder's number gets a block's bit
-module _ (holders left block i : ℕ) (old turned : List ℕ) (lt : i < length turned) (small : block < 16) (marked : bit_at holders i ≡ 1)
+module _ (holders left block i : ℕ) (old granted_blocks : List ℕ) (lt : i < length granted_blocks) (small : block < 16) (granted : bit_at holders i ≡ 1)
     (others : (j : ℕ) → j ≢ i → bit_at (without left i) j ≡ bit_at left j) where
-  pub number_set : ((j : ℕ) → bit_at holders j ≡ 1 → bit_at left j ≡ 0 → bit_at (get_or turned j 0) block ≡ 1)
-      → (j : ℕ) → bit_at holders j ≡ 1 → bit_at (without left i) j ≡ 0 → bit_at (get_or (set turned i (bit_or (get_or turned i 0) (1 * 2 ^ block % 2 ^ 16))) j 0) block ≡ 1
+  pub number_set : ((j : ℕ) → bit_at holders j ≡ 1 → bit_at left j ≡ 0 → bit_at (get_or granted_blocks j 0) block ≡ 1)
+      → (j : ℕ) → bit_at holders j ≡ 1 → bit_at (without left i) j ≡ 0 → bit_at (get_or (set granted_blocks i (bit_or (get_or granted_blocks i 0) (1 * 2 ^ block % 2 ^ 16))) j 0) block ≡ 1
   number_set done j one off =
       elim (cases_eq j i) [
-        | inl same ↦ ap (λ m. bit_at m block) (number_same turned i (bit_or (get_or turned i 0) (1 * 2 ^ block % 2 ^ 16)) j lt same) ∙ bit_at_set_same w16 (get_or turned i 0) block small
-        | inr other ↦ ap (λ m. bit_at m block) (number_other turned i (bit_or (get_or turned i 0) (1 * 2 ^ block % 2 ^ 16)) j other) ∙ done j one (sym (others j other) ∙ off)
+        | inl same ↦ ap (λ m. bit_at m block) (number_same granted_blocks i (bit_or (get_or granted_blocks i 0) (1 * 2 ^ block % 2 ^ 16)) j lt same) ∙ bit_at_set_same w16 (get_or granted_blocks i 0) block small
+        | inr other ↦ ap (λ m. bit_at m block) (number_other granted_blocks i (bit_or (get_or granted_blocks i 0) (1 * 2 ^ block % 2 ^ 16)) j other) ∙ done j one (sym (others j other) ∙ off)
       ]
 
-  pub number_unset : ((j : ℕ) → bit_at holders j ≡ 0 → get_or turned j 0 ≡ get_or old j 0)
-      → (j : ℕ) → bit_at holders j ≡ 0 → get_or (set turned i (bit_or (get_or turned i 0) (1 * 2 ^ block % 2 ^ 16))) j 0 ≡ get_or old j 0
+  pub number_unset : ((j : ℕ) → bit_at holders j ≡ 0 → get_or granted_blocks j 0 ≡ get_or old j 0)
+      → (j : ℕ) → bit_at holders j ≡ 0 → get_or (set granted_blocks i (bit_or (get_or granted_blocks i 0) (1 * 2 ^ block % 2 ^ 16))) j 0 ≡ get_or old j 0
   number_unset kept j off =
-      let other : j ≢ i = λ same. one_zero (bit_at holders i) marked (ap (bit_at holders) (sym same) ∙ off) in
-      number_other turned i (bit_or (get_or turned i 0) (1 * 2 ^ block % 2 ^ 16)) j other ∙ kept j off
+      let other : j ≢ i = λ same. one_zero (bit_at holders i) granted (ap (bit_at holders) (sym same) ∙ off) in
+      number_other granted_blocks i (bit_or (get_or granted_blocks i 0) (1 * 2 ^ block % 2 ^ 16)) j other ∙ kept j off
 
-  pub number_others : ((j k : ℕ) → k ≢ block → bit_at (get_or turned j 0) k ≡ bit_at (get_or old j 0) k)
-      → (j k : ℕ) → k ≢ block → bit_at (get_or (set turned i (bit_or (get_or turned i 0) (1 * 2 ^ block % 2 ^ 16))) j 0) k ≡ bit_at (get_or old j 0) k
+  pub number_others : ((j k : ℕ) → k ≢ block → bit_at (get_or granted_blocks j 0) k ≡ bit_at (get_or old j 0) k)
+      → (j k : ℕ) → k ≢ block → bit_at (get_or (set granted_blocks i (bit_or (get_or granted_blocks i 0) (1 * 2 ^ block % 2 ^ 16))) j 0) k ≡ bit_at (get_or old j 0) k
   number_others kept j k apart =
       elim (cases_eq j i) [
-        | inl same ↦ ap (λ m. bit_at m k) (number_same turned i (bit_or (get_or turned i 0) (1 * 2 ^ block % 2 ^ 16)) j lt same)
-            ∙ bit_at_set_other w16 (get_or turned i 0) block small k apart ∙ kept i k apart ∙ ap (λ m. bit_at (get_or old m 0) k) (sym same)
-        | inr other ↦ ap (λ m. bit_at m k) (number_other turned i (bit_or (get_or turned i 0) (1 * 2 ^ block % 2 ^ 16)) j other) ∙ kept j k apart
+        | inl same ↦ ap (λ m. bit_at m k) (number_same granted_blocks i (bit_or (get_or granted_blocks i 0) (1 * 2 ^ block % 2 ^ 16)) j lt same)
+            ∙ bit_at_set_other w16 (get_or granted_blocks i 0) block small k apart ∙ kept i k apart ∙ ap (λ m. bit_at (get_or old m 0) k) (sym same)
+        | inr other ↦ ap (λ m. bit_at m k) (number_other granted_blocks i (bit_or (get_or granted_blocks i 0) (1 * 2 ^ block % 2 ^ 16)) j other) ∙ kept j k apart
       ]
 
 -- a bit that is set in one number and not in another
-pub between : (marks common j : ℕ) → marks < 2 ^ 64 → common < 2 ^ 64 → bit_at marks j ≡ 1 → nat_eq (bit_at common j) 1 ≡ false → bit_at (bit_and marks (bit_not w64 common)) j ≡ 1
-between marks common j small less marked part =
+pub between : (granted_some granted_all j : ℕ) → granted_some < 2 ^ 64 → granted_all < 2 ^ 64 → bit_at granted_some j ≡ 1 → nat_eq (bit_at granted_all j) 1 ≡ false → bit_at (bit_and granted_some (bit_not w64 granted_all)) j ≡ 1
+between granted_some granted_all j small less granted part =
     elim (cases_lt j 64) [
-      | inl low ↦ (let off = unset_bit (bit_at common j) (bit_at-lt common j) part in omega (arith, marked, bit_at_and marks (bit_not w64 common) j, bit_at_not w64 common j less low, off))
-      | inr high ↦ absurd (one_zero (bit_at marks j) marked (bit_at_above marks 64 j small high))
+      | inl low ↦ (let off = unset_bit (bit_at granted_all j) (bit_at-lt granted_all j) part in omega (arith, granted, bit_at_and granted_some (bit_not w64 granted_all) j, bit_at_not w64 granted_all j less low, off))
+      | inr high ↦ absurd (one_zero (bit_at granted_some j) granted (bit_at_above granted_some 64 j small high))
     ]
   where
     unset_bit : (b : ℕ) → b < 2 → nat_eq b 1 ≡ false → b ≡ 0
@@ -347,24 +347,24 @@ all_next P xs k lt all here = λ i d at.
     ])
 
 module _ (masks : List ℕ) (bs : List (ℕ × Option Refusal)) (k : ℕ) (lt : k < length bs) where
-  pub covers_taken : (marks : ℕ) → ((j : ℕ) → bit_at marks j ≡ 0 → All (λ b. b.1 ≡ None → bit_at (get_or masks b.0 0) j ≡ 0) (take k bs))
-      → (j : ℕ) → bit_at (bit_or marks (get_or masks (get_or bs k (0, None)).0 0)) j ≡ 0 → All (λ b. b.1 ≡ None → bit_at (get_or masks b.0 0) j ≡ 0) (take (k + 1) bs)
-  covers_taken marks covers j unset =
-      let both = bit_at_or marks (get_or masks (get_or bs k (0, None)).0 0) j in
+  pub covers_taken : (granted_some : ℕ) → ((j : ℕ) → bit_at granted_some j ≡ 0 → All (λ b. b.1 ≡ None → bit_at (get_or masks b.0 0) j ≡ 0) (take k bs))
+      → (j : ℕ) → bit_at (bit_or granted_some (get_or masks (get_or bs k (0, None)).0 0)) j ≡ 0 → All (λ b. b.1 ≡ None → bit_at (get_or masks b.0 0) j ≡ 0) (take (k + 1) bs)
+  covers_taken granted_some covers j unset =
+      let both = bit_at_or granted_some (get_or masks (get_or bs k (0, None)).0 0) j in
       all_next (λ b. b.1 ≡ None → bit_at (get_or masks b.0 0) j ≡ 0) bs k lt (covers j (omega (arith, both, unset)))
       (λ d none. ap (λ (b : ℕ × Option Refusal). bit_at (get_or masks b.0 0) j) (get_or_default bs k d (0, None) lt) ∙ omega (arith, both, unset))
 
-  pub covers_refused : (marks : ℕ) → ((get_or bs k (0, None)).1 ≡ None → ⊥) → ((j : ℕ) → bit_at marks j ≡ 0 → All (λ b. b.1 ≡ None → bit_at (get_or masks b.0 0) j ≡ 0) (take k bs))
-      → (j : ℕ) → bit_at marks j ≡ 0 → All (λ b. b.1 ≡ None → bit_at (get_or masks b.0 0) j ≡ 0) (take (k + 1) bs)
-  covers_refused marks refused covers j unset =
+  pub covers_refused : (granted_some : ℕ) → ((get_or bs k (0, None)).1 ≡ None → ⊥) → ((j : ℕ) → bit_at granted_some j ≡ 0 → All (λ b. b.1 ≡ None → bit_at (get_or masks b.0 0) j ≡ 0) (take k bs))
+      → (j : ℕ) → bit_at granted_some j ≡ 0 → All (λ b. b.1 ≡ None → bit_at (get_or masks b.0 0) j ≡ 0) (take (k + 1) bs)
+  covers_refused granted_some refused covers j unset =
       all_next (λ b. b.1 ≡ None → bit_at (get_or masks b.0 0) j ≡ 0) bs k lt (covers j unset)
       (λ d none. absurd (refused (ap (λ (b : ℕ × Option Refusal). b.1) (sym (get_or_default bs k d (0, None) lt)) ∙ none)))
 
-  pub none_more : (marks : ℕ) → ((j : ℕ) → All (λ b. bit_at (get_or masks b.0 0) j ≡ 0) bs → bit_at marks j ≡ 0)
-      → (j : ℕ) → All (λ b. bit_at (get_or masks b.0 0) j ≡ 0) bs → bit_at (bit_or marks (get_or masks (get_or bs k (0, None)).0 0)) j ≡ 0
-  none_more marks none j all =
+  pub none_more : (granted_some : ℕ) → ((j : ℕ) → All (λ b. bit_at (get_or masks b.0 0) j ≡ 0) bs → bit_at granted_some j ≡ 0)
+      → (j : ℕ) → All (λ b. bit_at (get_or masks b.0 0) j ≡ 0) bs → bit_at (bit_or granted_some (get_or masks (get_or bs k (0, None)).0 0)) j ≡ 0
+  none_more granted_some none j all =
       let here : bit_at (get_or masks (get_or bs k (0, None)).0 0) j ≡ 0 = all k (0, None) lt in
-      omega (arith, bit_at_or marks (get_or masks (get_or bs k (0, None)).0 0) j, here, none j all)
+      omega (arith, bit_at_or granted_some (get_or masks (get_or bs k (0, None)).0 0) j, here, none j all)
 
   pub masks_more : (get_or bs k (0, None)).1 ≡ None → masks_taken masks (take (k + 1) bs) ≡ masks_taken masks (take k bs) ++ get_or masks (get_or bs k (0, None)).0 0 ∷ []
   masks_more none = masks_next masks bs k (0, None) lt ∙ ap (λ o. masks_taken masks (take k bs) ++ mask_where o (get_or masks (get_or bs k (0, None)).0 0)) none
@@ -459,20 +459,20 @@ measured_told m pmus last xs masks places ps all rising taken placed =
     (as_many m xs 0 places (masks_taken masks ps) rising are, λ j v at. tells m xs j v at 0 places (masks_taken masks ps) rising are)
 
 -- The bits of the whole and the numbers tell what each marked subscriber holds.
-pub shares_told : (m : Measurement) (xs : List (ℕ × SlotValue)) (ns places : List ℕ) (marks common : ℕ) (turned : List ℕ)
-    → length ns ≡ length places → MasksTellAll ns m.config places xs → IsCommon common ns
-    → ((j : ℕ) → bit_at marks j ≡ 1 → nat_eq (bit_at common j) 1 ≡ false → (i : ℕ) → bit_at (get_or turned j 0) i ≡ bit_at (get_or ns i 0) j)
-    → SharesTold common turned m.config places marks xs
-shares_told m xs ns places marks common turned same told all some = λ j v at set. by j v (told j v at) set (nat_eq (bit_at common j) 1) refl
+pub shares_told : (m : Measurement) (xs : List (ℕ × SlotValue)) (ns places : List ℕ) (granted_some granted_all : ℕ) (granted_blocks : List ℕ)
+    → length ns ≡ length places → MasksTellAll ns m.config places xs → AreGrantedAll granted_all ns
+    → ((j : ℕ) → bit_at granted_some j ≡ 1 → nat_eq (bit_at granted_all j) 1 ≡ false → (i : ℕ) → bit_at (get_or granted_blocks j 0) i ≡ bit_at (get_or ns i 0) j)
+    → SharesTold granted_all granted_blocks m.config places granted_some xs
+shares_told m xs ns places granted_some granted_all granted_blocks same told all some = λ j v at set. by j v (told j v at) set (nat_eq (bit_at granted_all j) 1) refl
   where
-    by : (j : ℕ) (v : SlotValue) → MasksTell ns m.config places j v → bit_at marks j ≡ 1 → (b : Bool) → nat_eq (bit_at common j) 1 ≡ b → TellsShare b (get_or turned j 0) m.config places v
-    by j v tell marked true is = record {
+    by : (j : ℕ) (v : SlotValue) → MasksTell ns m.config places j v → bit_at granted_some j ≡ 1 → (b : Bool) → nat_eq (bit_at granted_all j) 1 ≡ b → TellsShare b (get_or granted_blocks j 0) m.config places v
+    by j v tell granted true is = record {
       bits = λ no. absurd (true≢false no);
       held = sym (all_marked j places ns same (λ i lt. all j is i lt)) ∙ tell;
     }
-    by j v tell marked false is = record {
-      bits = λ _ i past. some j marked is i ∙ ap (λ n. bit_at n j) (get_or_past ns i 0 (omega (arith, past, same))) ∙ bit_at-zero j;
-      held = turned_at j (get_or turned j 0) 0 places ns same (λ i. let zero_plus : 0 + i ≡ i = omega arith in ap (bit_at (get_or turned j 0)) zero_plus ∙ some j marked is i) ∙ tell;
+    by j v tell granted false is = record {
+      bits = λ _ i past. some j granted is i ∙ ap (λ n. bit_at n j) (get_or_past ns i 0 (omega (arith, past, same))) ∙ bit_at-zero j;
+      held = turned_at j (get_or granted_blocks j 0) 0 places ns same (λ i. let zero_plus : 0 + i ≡ i = omega arith in ap (bit_at (get_or granted_blocks j 0)) zero_plus ∙ some j granted is i) ∙ tell;
     }
 
 -- What is told of a subscriber is told of what it holds,
@@ -483,21 +483,21 @@ tells_own whole n source places old new own tell = record {
 }
 
 -- and stays so where one subscriber's copies were laid,
-pub told_kept : (common : ℕ) (turned : List ℕ) (source : Source) (places : List ℕ) (marks : ℕ) (xs : List (ℕ × SlotValue)) (i : ℕ) (old new : SlotValue)
-    → slice_get (values_of xs) i ≡ Some old → new.subscriber.own ≡ old.subscriber.own → SharesTold common turned source places marks xs
-    → SharesTold common turned source places marks (set_value_at xs i new)
-told_kept common turned source places marks xs i old new here own told = λ j v at set.
+pub told_kept : (granted_all : ℕ) (granted_blocks : List ℕ) (source : Source) (places : List ℕ) (granted_some : ℕ) (xs : List (ℕ × SlotValue)) (i : ℕ) (old new : SlotValue)
+    → slice_get (values_of xs) i ≡ Some old → new.subscriber.own ≡ old.subscriber.own → SharesTold granted_all granted_blocks source places granted_some xs
+    → SharesTold granted_all granted_blocks source places granted_some (set_value_at xs i new)
+told_kept granted_all granted_blocks source places granted_some xs i old new here own told = λ j v at set.
     elim (cases_eq j i) [
-      | inl same ↦ subst (λ w. TellsShare (nat_eq (bit_at common j) 1) (get_or turned j 0) source places w) (value_set_same xs i new v (ap (slice_get (values_of (set_value_at xs i new))) (sym same) ∙ at))
-          (subst (λ k. TellsShare (nat_eq (bit_at common k) 1) (get_or turned k 0) source places new) (sym same)
-          (tells_own (nat_eq (bit_at common i) 1) (get_or turned i 0) source places old new own (told i old here (ap (bit_at marks) (sym same) ∙ set))))
+      | inl same ↦ subst (λ w. TellsShare (nat_eq (bit_at granted_all j) 1) (get_or granted_blocks j 0) source places w) (value_set_same xs i new v (ap (slice_get (values_of (set_value_at xs i new))) (sym same) ∙ at))
+          (subst (λ k. TellsShare (nat_eq (bit_at granted_all k) 1) (get_or granted_blocks k 0) source places new) (sym same)
+          (tells_own (nat_eq (bit_at granted_all i) 1) (get_or granted_blocks i 0) source places old new own (told i old here (ap (bit_at granted_some) (sym same) ∙ set))))
       | inr other ↦ told j v (sym (value_set_other xs i j new other) ∙ at) set
     ]
 
 -- and of the subscribers that are left where one took its share.
-pub told_left : (common : ℕ) (turned : List ℕ) (source : Source) (places : List ℕ) (xs : List (ℕ × SlotValue)) (i : ℕ) (w : SlotValue) (old new : ℕ) → bit_at new i ≡ 0
-    → ((j : ℕ) → j ≢ i → bit_at new j ≡ bit_at old j) → SharesTold common turned source places old xs → SharesTold common turned source places new (set_value_at xs i w)
-told_left common turned source places xs i w old new gone others told = λ j v at set.
+pub told_left : (granted_all : ℕ) (granted_blocks : List ℕ) (source : Source) (places : List ℕ) (xs : List (ℕ × SlotValue)) (i : ℕ) (w : SlotValue) (old new : ℕ) → bit_at new i ≡ 0
+    → ((j : ℕ) → j ≢ i → bit_at new j ≡ bit_at old j) → SharesTold granted_all granted_blocks source places old xs → SharesTold granted_all granted_blocks source places new (set_value_at xs i w)
+told_left granted_all granted_blocks source places xs i w old new gone others told = λ j v at set.
     let other : j ≢ i = λ same. one_zero (bit_at new j) set (ap (bit_at new) same ∙ gone) in
     told j v (sym (value_set_other xs i j w other) ∙ at) (sym (others j other) ∙ set)
 

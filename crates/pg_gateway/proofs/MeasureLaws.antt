@@ -12,10 +12,10 @@ use Rattle.pg_session.specs.Private.{refused, done, refuse}
 use Rattle.pg_gateway.specs.Related.{Related}
 use Rattle.pg_gateway.specs.Sharing.{measures, total}
 use Rattle.pg_gateway.specs.Judging.{same_part, is_far, block_refusal, sample_refusal, first_refusal, blocks_counted, memory_counted, samples_in, judged, taken_of}
-use Rattle.pg_gateway.specs.Occurrences.{measure, tells}
+use Rattle.pg_gateway.specs.GatewayEvents.{measure, tells}
 use Rattle.pg_gateway.specs.State.{SharedMachine, taken_in, judged_in}
 use Rattle.pg_gateway.specs.Shown.{SlotValue, SlotShows, GatewayValue, GatewayShows, Steps}
-use Rattle.pg_gateway.specs.Taking.{FansOut}
+use Rattle.pg_gateway.specs.Taking.{IsBroadcast}
 use Rattle.pg_gateway.specs.Placing.{ArePlaced}
 
 -- a block is never refused for want of memory
@@ -66,7 +66,7 @@ measured_memory m S old pmus entries s taken shown some related counted =
     }
 
 pub measured_goes : (m : Measurement) (S : SharedMachine) (old : GatewayValue) (pmus : Pmus) (entries : List (ℕ × SlotValue)) (made kept : ℕ) (s : Sample) (taken : List Sample) → GatewayShows old S → taken_in S m ≡ s ∷ taken
-    → FansOut (measures m.soc m.quality m.frac (taken_in S m)) made kept S.subs entries → kept ≤ made → pmus ≡ blocks_counted S.pmus (judged_in S m)
+    → IsBroadcast (measures m.soc m.quality m.frac (taken_in S m)) made kept S.subs entries → kept ≤ made → pmus ≡ blocks_counted S.pmus (judged_in S m)
     → Steps S (measure m) (tells (done made kept)) (record { pmus = pmus; subs = entries; last_tick = old.last_tick })
 measured_goes m S old pmus entries made kept s taken shown some fans few counted =
     let fan = rw some at fans in

@@ -15,14 +15,14 @@ use Rattle.pg_registry.proofs.Staying.{apart-added, apart-dropped, found-added}
 use Rattle.pg_audit.specs.declared.audit.What.{What}
 use Rattle.pg_data.specs.Measurements.{Measurement}
 use Rattle.pg_session.specs.Events as event
-use Rattle.pg_session.specs.Events.{Happening, Announcing}
+use Rattle.pg_session.specs.Events.{SubscriberEvent, Announcing}
 use Rattle.pg_session.specs.Private as private
 use Rattle.pg_session.specs.Private.{Told, done, refused, handed, refuse}
 use Rattle.pg_session.specs.Shown.{Model, begin}
 use Rattle.pg_session.specs.ByAll.{by_arrivals, by_numbers}
-use Rattle.pg_gateway.specs.Occurrences.{Occurrence, add_pmu, drop_pmu, add_sub, drop_sub, grant, asks, announce, measure, tick, stats, pmu_stats, audit, standing, who_waits, Answer, tells, sub_counts, pmu_counts, entry, stands, those_waiting}
+use Rattle.pg_gateway.specs.GatewayEvents.{GatewayEvent, add_pmu, drop_pmu, add_sub, drop_sub, grant, asks, announce, measure, tick, stats, pmu_stats, audit, standing, who_waits, Answer, tells, sub_counts, pmu_counts, entry, stands, those_waiting}
 use Rattle.pg_gateway.specs.Judging.{registered_of, memory_counted, blocks_counted, all_announced}
-use Rattle.pg_gateway.specs.Sharing.{SubscriberSlot, SubscriberSlots, revokes, announces, measures, ticks, fan_out}
+use Rattle.pg_gateway.specs.Sharing.{SubscriberSlot, SubscriberSlots, revokes, announces, measures, ticks, broadcast}
 use Rattle.pg_gateway.specs.State.{SharedMachine, May, next, refusal, granting, grant_refusal, announce_refusal, slot_of, moved, added, with_note, code_of, is_refusal, wants_memory, kept_of, slots_noted, slots_after, unless, to_all, to_one, to_none, adds, drops, names, taken_in, judged_in}
 use Rattle.pg_gateway.specs.Consistent.{AgreesWith, AllAgree, AreKeyed, IsConsistent, IsOwn, IsPosted}
 use Rattle.pg_gateway.proofs.AgreeLaws.{Likewise, all_likewise, likewise_counted, likewise_memory, at_agrees, removed_agree, pushed_agree, fanned_agree, revoke_agrees, grant_agrees, ticked_agrees, measured_agrees, dropped_agrees}
@@ -32,7 +32,7 @@ told_same : (t s : Told) → tells t ≡ tells s → t ≡ s
 told_same t s e = cc
 
 -- one subscriber
-own_agrees : (pmus : Pmus) (p : Model) (x : Happening) (t : Told) → IsOwn x → AgreesWith pmus p → AgreesWith pmus (private.next by_arrivals by_numbers p x t)
+own_agrees : (pmus : Pmus) (p : Model) (x : SubscriberEvent) (t : Told) → IsOwn x → AgreesWith pmus p → AgreesWith pmus (private.next by_arrivals by_numbers p x t)
 own_agrees pmus p (event.grant key config) t own is = absurd own
 own_agrees pmus p (event.announce list) t own is = absurd own
 own_agrees pmus p (event.measure soc quality frac samples) t own is = absurd own
@@ -116,7 +116,7 @@ module _ (S : SharedMachine) (c : IsConsistent S) (t : Told) where
   drop_pmu_stays : (key : PmuKey) → May S (drop_pmu key) (tells t) → IsConsistent (next S (drop_pmu key) (tells t))
   drop_pmu_stays key may = by _ (has_key S.pmus key) may
     where
-      one : (r : Bool) → IsConsistent (record { pmus = if r then S.pmus else remove_entry (key_eq key) S.pmus; subs = if r then S.subs else fan_out (revokes key) S.subs (kept_of t); last_tick = S.last_tick })
+      one : (r : Bool) → IsConsistent (record { pmus = if r then S.pmus else remove_entry (key_eq key) S.pmus; subs = if r then S.subs else broadcast (revokes key) S.subs (kept_of t); last_tick = S.last_tick })
       one true = c
       one false = record {
         registered = apart-dropped S.pmus key c.registered;
@@ -175,7 +175,7 @@ module _ (S : SharedMachine) (c : IsConsistent S) (t : Told) where
 
       one : (r : Bool) → IsConsistent (record {
         pmus = if r then memory_counted S.pmus (map (λ a. a.key) (a ∷ list)) else all_announced S.pmus (a ∷ list);
-        subs = if r then S.subs else fan_out (announces (a ∷ list)) S.subs (kept_of t);
+        subs = if r then S.subs else broadcast (announces (a ∷ list)) S.subs (kept_of t);
         last_tick = S.last_tick;
       })
       one true = record { registered = like.registered c.registered; keyed = like.keyed c.keyed; agree = all_likewise S.pmus _ like.config S.subs c.agree }
@@ -195,7 +195,7 @@ module _ (S : SharedMachine) (c : IsConsistent S) (t : Told) where
       like : Likewise S.pmus (if wants_memory t then memory_counted S.pmus (map (λ b. b.0) (judged_in S m)) else blocks_counted S.pmus (judged_in S m))
       like = pmus_then (wants_memory t)
 
-      one : (r : Bool) → AllAgree S.pmus (if r then S.subs else fan_out (measures m.soc m.quality m.frac (taken_in S m)) S.subs (kept_of t))
+      one : (r : Bool) → AllAgree S.pmus (if r then S.subs else broadcast (measures m.soc m.quality m.frac (taken_in S m)) S.subs (kept_of t))
       one true = c.agree
       one false = fanned_agree S.pmus S.pmus (measures m.soc m.quality m.frac (taken_in S m)) (measured_agrees S.pmus m.soc m.quality m.frac (taken_in S m)) S.subs (kept_of t) c.agree
 
@@ -203,11 +203,11 @@ module _ (S : SharedMachine) (c : IsConsistent S) (t : Told) where
       by (Some r) = c.agree
       by None = one (is_refusal t)
 
-  tick_agree : (soc : ℕ) (r : Bool) → AllAgree S.pmus (if r then S.subs else fan_out (ticks soc) S.subs (kept_of t))
+  tick_agree : (soc : ℕ) (r : Bool) → AllAgree S.pmus (if r then S.subs else broadcast (ticks soc) S.subs (kept_of t))
   tick_agree soc true = c.agree
   tick_agree soc false = fanned_agree S.pmus S.pmus (ticks soc) (ticked_agrees S.pmus soc) S.subs (kept_of t) c.agree
 
-  told_stays : (e : Occurrence) → IsPosted e → May S e (tells t) → IsConsistent (next S e (tells t))
+  told_stays : (e : GatewayEvent) → IsPosted e → May S e (tells t) → IsConsistent (next S e (tells t))
   told_stays (add_pmu key) posted may = add_pmu_stays key may
   told_stays (drop_pmu key) posted may = drop_pmu_stays key may
   told_stays (add_sub u size bytes) posted may = record { registered = c.registered; keyed = c.keyed; agree = noted_agree S.pmus (names (add_sub u size bytes)) t _ (add_sub_agree u size bytes (refusal S (add_sub u size bytes))) }
@@ -227,7 +227,7 @@ module _ (S : SharedMachine) (c : IsConsistent S) (t : Told) where
   told_stays (audit u index) posted may = record { registered = c.registered; keyed = c.keyed; agree = c.agree }
   told_stays (standing u place) posted may = record { registered = c.registered; keyed = c.keyed; agree = c.agree }
 
-pub next_stays : (S : SharedMachine) (e : Occurrence) (a : Answer) → IsConsistent S → IsPosted e → May S e a → IsConsistent (next S e a)
+pub next_stays : (S : SharedMachine) (e : GatewayEvent) (a : Answer) → IsConsistent S → IsPosted e → May S e a → IsConsistent (next S e a)
 next_stays S e (tells t) c posted may = told_stays S c t e posted may
 next_stays S e (sub_counts s) c posted may = c
 next_stays S e (pmu_counts s) c posted may = c

@@ -12,13 +12,13 @@ use Rattle.pg_entitle.specs.Grants.{has_key}
 use Rattle.pg_config.specs.Parts.{Source}
 use Rattle.pg_data.specs.Measurements.{Measurement}
 use Rattle.pg_session.specs.Events as event
-use Rattle.pg_session.specs.Events.{Happening, samples_at}
+use Rattle.pg_session.specs.Events.{SubscriberEvent, samples_at}
 use Rattle.pg_session.specs.Ready.{AreRising}
 use Rattle.pg_session.specs.Shown.{Own}
-use Rattle.pg_gateway.specs.Sharing.{SubscriberSlot, Offer, frames_in_share, after_share, share}
+use Rattle.pg_gateway.specs.Sharing.{SubscriberSlot, Broadcast, frames_in_share, after_share, share}
 use Rattle.pg_gateway.specs.Shown.{SlotValue, SlotShows}
 use Rattle.pg_gateway.specs.Frugal.{NeedsNoCopy}
-use Rattle.pg_gateway.specs.Taking.{measured, part_passes, IsFit, IsLaid, Awaits, Fits, LaysShare, TakesShare, TakesOffer}
+use Rattle.pg_gateway.specs.Taking.{measured, part_passes, IsFit, IsPrepared, Awaits, Fits, PreparesShare, TakesShare, TakesBroadcast}
 use Rattle.pg_gateway.specs.Routes.{WhereBit, HoldsPart, IsOnlyBit, TellsShare, SharesTold}
 use Rattle.pg_gateway.proofs.Taking.{measured_share}
 use Rattle.pg_gateway.proofs.RouteLaws.{value_set_same, value_set_other}
@@ -62,38 +62,38 @@ only_told m places n i v rising tell only =
     (within, holds_of m.config places (get_or places i 0) v.subscriber.own.grants is, share_of_one m places (get_or places i 0) v.subscriber.own.grants within is)
 
 -- what is said of a share alone
-module _ (o p : Offer) (v : SlotValue) (same : share o v.subscriber.own.grants ≡ share p v.subscriber.own.grants) where
+module _ (o p : Broadcast) (v : SlotValue) (same : share o v.subscriber.own.grants ≡ share p v.subscriber.own.grants) where
   pub fits_same : Fits o v → Fits p v
   fits_same fit = subst (λ x. IsFit v.subscriber x) same fit
 
   pub awaits_same : Awaits o v → Awaits p v
   awaits_same awaits = record {
     fit = subst (λ x. IsFit v.subscriber x) same awaits.fit;
-    laid = subst (λ x. IsLaid v.subscriber x) same awaits.laid;
+    prepared = subst (λ x. IsPrepared v.subscriber x) same awaits.prepared;
     spared = λ on. sym same ∙ awaits.spared on;
   }
 
-  pub lays_same : (result : Result Unit Refusal) (new : SlotValue) → LaysShare p v result new → LaysShare o v result new
-  lays_same (Ok u) new lays = record {
-    laid = subst (λ x. IsLaid new.subscriber x) (sym same) lays.laid;
+  pub prepares_same : (result : Result Unit Refusal) (new : SlotValue) → PreparesShare p v result new → PreparesShare o v result new
+  prepares_same (Ok u) new prepares = record {
+    prepared = subst (λ x. IsPrepared new.subscriber x) (sym same) prepares.prepared;
     memory = tt;
     needless = λ _. refl;
-    spared = λ on. same ∙ lays.spared on;
-    own = lays.own;
-    audit = lays.audit;
+    spared = λ on. same ∙ prepares.spared on;
+    own = prepares.own;
+    audit = prepares.audit;
   }
-  lays_same (Err r) new lays = record {
-    laid = tt;
-    memory = lays.memory;
-    needless = λ needs. lays.needless (subst (λ x. NeedsNoCopy v.subscriber x) same needs);
+  prepares_same (Err r) new prepares = record {
+    prepared = tt;
+    memory = prepares.memory;
+    needless = λ needs. prepares.needless (subst (λ x. NeedsNoCopy v.subscriber x) same needs);
     spared = tt;
-    own = lays.own;
-    audit = lays.audit;
+    own = prepares.own;
+    audit = prepares.audit;
   }
 
 pub takes_same : (m : Measurement) (ps qs : List ℕ) (lost : Bool) (old new : SlotValue) (counts : ℕ × ℕ)
     → share (measured m ps) old.subscriber.own.grants ≡ share (measured m qs) old.subscriber.own.grants
-    → TakesOffer (measured m qs) lost old counts new → TakesOffer (measured m ps) lost old counts new
+    → TakesBroadcast (measured m qs) lost old counts new → TakesBroadcast (measured m ps) lost old counts new
 takes_same m ps qs lost old new counts same takes = record {
   shares = λ s shown. one s shown (takes.shares s shown);
   few = takes.few;
@@ -112,24 +112,24 @@ takes_same m ps qs lost old new counts same takes = record {
         }
 
 -- Where each marked subscriber holds the whole of one place, each of them holds that PMU, and the other way round.
-module _ (common marks : ℕ) (turned : List ℕ) (source : Source) (places : List ℕ) (place : ℕ) (xs : List (ℕ × SlotValue)) (one : places ≡ place ∷ [])
-    (same : marks ≡ common) where
-  is_common : (j : ℕ) → bit_at marks j ≡ 1 → nat_eq (bit_at common j) 1 ≡ true
-  is_common j marked = ap (λ n. nat_eq (bit_at n j) 1) (sym same) ∙ ap (λ b. nat_eq b 1) marked
+module _ (granted_all granted_some : ℕ) (granted_blocks : List ℕ) (source : Source) (places : List ℕ) (place : ℕ) (xs : List (ℕ × SlotValue)) (one : places ≡ place ∷ [])
+    (same : granted_some ≡ granted_all) where
+  is_common : (j : ℕ) → bit_at granted_some j ≡ 1 → nat_eq (bit_at granted_all j) 1 ≡ true
+  is_common j granted = ap (λ n. nat_eq (bit_at n j) 1) (sym same) ∙ ap (λ b. nat_eq b 1) granted
 
-  pub told_holds : SharesTold common turned source places marks xs → WhereBit 1 marks (HoldsPart source place) xs
-  told_holds told j v at marked =
-      let tell = subst (λ b. TellsShare b (get_or turned j 0) source places v) (is_common j marked) (told j v at marked) in
+  pub told_holds : SharesTold granted_all granted_blocks source places granted_some xs → WhereBit 1 granted_some (HoldsPart source place) xs
+  told_holds told j v at granted =
+      let tell = subst (λ b. TellsShare b (get_or granted_blocks j 0) source places v) (is_common j granted) (told j v at granted) in
       holds_of source places place v.subscriber.own.grants (sym one ∙ tell.held)
 
-  pub holds_told : WhereBit 1 marks (HoldsPart source place) xs → SharesTold common turned source places marks xs
-  holds_told holds j v at marked =
-      let tell : TellsShare true (get_or turned j 0) source (place ∷ []) v = record {
+  pub holds_told : WhereBit 1 granted_some (HoldsPart source place) xs → SharesTold granted_all granted_blocks source places granted_some xs
+  holds_told holds j v at granted =
+      let tell : TellsShare true (get_or granted_blocks j 0) source (place ∷ []) v = record {
         bits = λ no. absurd (true≢false no);
-        held = only_granted source place v.subscriber.own.grants (holds j v at marked);
+        held = only_granted source place v.subscriber.own.grants (holds j v at granted);
       } in
-      subst (λ b. TellsShare b (get_or turned j 0) source places v) (sym (is_common j marked))
-      (subst (λ ps. TellsShare true (get_or turned j 0) source ps v) (sym one) tell)
+      subst (λ b. TellsShare b (get_or granted_blocks j 0) source places v) (sym (is_common j granted))
+      (subst (λ ps. TellsShare true (get_or granted_blocks j 0) source ps v) (sym one) tell)
 
 -- It stays so where one subscriber's copies were laid.
 pub holds_own : (source : Source) (place : ℕ) (old new : SlotValue) → new.subscriber.own ≡ old.subscriber.own → HoldsPart source place old → HoldsPart source place new

@@ -1,7 +1,7 @@
 -- By the forms of events: what one subscriber is asked and has noted is answered without a buffer, and four are for all.
 use Rattle.std.proofs.Common.{◌≡◌, Some, None, refl}
 use Rattle.pg_audit.specs.declared.audit.What.{What}
-use Rattle.pg_session.specs.Events.{happening}
+use Rattle.pg_session.specs.Events.{subscriber_event}
 use Rattle.pg_session.specs.Ready.{IsPlain, KeepsBuffer}
 use Rattle.pg_session.specs.declared.event.PrivateEvent.{PrivateEvent}
 use Rattle.pg_session.specs.declared.event.PrivateEvent.TheVariants as private
@@ -16,7 +16,7 @@ use Rattle.pg_gateway.specs.Taking.{IsForAll}
 none_noted : (what : What) → None ≡ Some what → ⊥
 none_noted what e = cc
 
-pub asked_plain : (e : PrivateEvent) (r : PrivateReply) (what : What) → noted_as (happening e) ≡ Some what → KeepsBuffer e r → IsPlain r
+pub asked_plain : (e : PrivateEvent) (r : PrivateReply) (what : What) → noted_as (subscriber_event e) ≡ Some what → KeepsBuffer e r → IsPlain r
 asked_plain (private.Drain buf) r what noted keeps = absurd (none_noted what noted)
 asked_plain (private.Grant key config) r what noted keeps = keeps
 asked_plain (private.Revoke key) r what noted keeps = keeps

@@ -7,7 +7,7 @@ use Rattle.pg_wire.specs.declared.refusal.Refusal.TheVariants.{NoMemory, PmuExis
 use Rattle.pg_wire.specs.declared.ids.PmuKey.{PmuKey}
 use Rattle.pg_registry.specs.Registered.{Pmus, has_key}
 use Rattle.pg_session.specs.Private.{refused, refuse}
-use Rattle.pg_gateway.specs.Occurrences.{add_pmu, tells}
+use Rattle.pg_gateway.specs.GatewayEvents.{add_pmu, tells}
 use Rattle.pg_gateway.specs.State.{SharedMachine, answer, made}
 use Rattle.pg_gateway.specs.Shown.{GatewayValue, GatewayShows, Steps}
 

@@ -18,17 +18,17 @@ use Rattle.pg_registry.proofs.Lists.{keys-changed}
 use Rattle.pg_wire.specs.declared.refusal.Refusal.TheVariants.{NoMemory}
 use Rattle.pg_audit.specs.declared.audit.What.{What}
 use Rattle.pg_session.specs.Events as event
-use Rattle.pg_session.specs.Events.{Happening, Announcing, Sample, samples_at}
+use Rattle.pg_session.specs.Events.{SubscriberEvent, Announcing, Sample, samples_at}
 use Rattle.pg_session.specs.Private as private
 use Rattle.pg_session.specs.Private.{Told, done, refused, handed}
 use Rattle.pg_session.specs.Shown.{Model}
 use Rattle.pg_session.specs.ByAll.{by_arrivals, by_numbers}
 use Rattle.pg_gateway.specs.declared.event.Event.{Event}
 use Rattle.pg_gateway.specs.declared.event.Event.TheVariants as kind
-use Rattle.pg_gateway.specs.Occurrences.{occurrence, Occurrence, add_pmu, drop_pmu, add_sub, drop_sub, grant, asks, announce, measure, tick, stats, pmu_stats, audit, standing, who_waits, Answer, tells, sub_counts, pmu_counts, entry, stands, those_waiting}
+use Rattle.pg_gateway.specs.GatewayEvents.{gateway_event, GatewayEvent, add_pmu, drop_pmu, add_sub, drop_sub, grant, asks, announce, measure, tick, stats, pmu_stats, audit, standing, who_waits, Answer, tells, sub_counts, pmu_counts, entry, stands, those_waiting}
 use Rattle.pg_gateway.specs.Judging.{samples_in, sample_refusal, is_taken, judged, taken_of, registered_of, block_counted, blocks_counted, memory_counted, all_announced}
 use Rattle.pg_gateway.specs.Related.{Related}
-use Rattle.pg_gateway.specs.Sharing.{SubscriberSlot, SubscriberSlots, Offer, announces, measures, ticks, some_announced, some_measured, after_share, shared_to, fan_out}
+use Rattle.pg_gateway.specs.Sharing.{SubscriberSlot, SubscriberSlots, Broadcast, announces, measures, ticks, some_announced, some_measured, after_share, shared_to, broadcast}
 use Rattle.pg_gateway.specs.State.{SharedMachine, next, refusal, at_slot, moved, with_note, code_of, names, is_refusal, wants_memory, kept_of, slots_noted, slots_after, announce_refusal, unless, to_all, taken_in, judged_in}
 use Rattle.pg_gateway.specs.Shown.{SlotValue, SlotShows, GatewayValue, Goes}
 use Rattle.pg_gateway.specs.Consistent.{IsReached}
@@ -74,7 +74,7 @@ same_grants (x ∷ xs) [] e = cons_nil _ _ e
 same_grants (x ∷ xs) (y ∷ ys) e = (head_same _ _ _ _ e, same_grants xs ys (tail_same _ _ _ _ e))
 
 -- Events for all that leave the grants.
-fanned_grants : (o : Offer) → ((s : SubscriberSlot) (k : ℕ) → (shared_to o s k).own.grants ≡ s.own.grants) → (ss : SubscriberSlots) (k : ℕ) → grants_of (fan_out o ss k) ≡ grants_of ss
+fanned_grants : (o : Broadcast) → ((s : SubscriberSlot) (k : ℕ) → (shared_to o s k).own.grants ≡ s.own.grants) → (ss : SubscriberSlots) (k : ℕ) → grants_of (broadcast o ss k) ≡ grants_of ss
 fanned_grants o each [] k = refl
 fanned_grants o each (s ∷ ss) k = cons_same _ _ _ _ (each s.1 _) (fanned_grants o each ss _)
 
@@ -105,7 +105,7 @@ noted_grants : (named : Option (ℕ × What)) (t : Told) (ss : SubscriberSlots) 
 noted_grants None t ss = refl
 noted_grants (Some named) t ss = at_grants named.0 (with_note (named.1, code_of t)) (λ s. refl) ss
 
-own_grants : (p : Model) (x : Happening) (t : Told) → KeepsOwn x → (private.next by_arrivals by_numbers p x t).grants ≡ p.grants
+own_grants : (p : Model) (x : SubscriberEvent) (t : Told) → KeepsOwn x → (private.next by_arrivals by_numbers p x t).grants ≡ p.grants
 own_grants p (event.grant key config) t keeps = absurd keeps
 own_grants p (event.announce list) t keeps = absurd keeps
 own_grants p (event.measure soc quality frac samples) t keeps = absurd keeps
@@ -139,7 +139,7 @@ module _ (S : SharedMachine) (t : Told) where
   announced_slots [] = refl
   announced_slots (a ∷ list) = one (is_refusal t)
     where
-      one : (r : Bool) → grants_of (if r then S.subs else fan_out (announces (a ∷ list)) S.subs (kept_of t)) ≡ grants_of S.subs
+      one : (r : Bool) → grants_of (if r then S.subs else broadcast (announces (a ∷ list)) S.subs (kept_of t)) ≡ grants_of S.subs
       one true = refl
       one false = fanned_grants (announces (a ∷ list)) (announced_grants (a ∷ list)) S.subs (kept_of t)
 
@@ -147,15 +147,15 @@ module _ (S : SharedMachine) (t : Told) where
   measured_slots m (Some r) = refl
   measured_slots m None = one (is_refusal t)
     where
-      one : (r : Bool) → grants_of (if r then S.subs else fan_out (measures m.soc m.quality m.frac (taken_in S m)) S.subs (kept_of t)) ≡ grants_of S.subs
+      one : (r : Bool) → grants_of (if r then S.subs else broadcast (measures m.soc m.quality m.frac (taken_in S m)) S.subs (kept_of t)) ≡ grants_of S.subs
       one true = refl
       one false = fanned_grants (measures m.soc m.quality m.frac (taken_in S m)) (measured_grants m.soc m.quality m.frac (taken_in S m)) S.subs (kept_of t)
 
-  ticked_slots : (soc : ℕ) (r : Bool) → grants_of (if r then S.subs else fan_out (ticks soc) S.subs (kept_of t)) ≡ grants_of S.subs
+  ticked_slots : (soc : ℕ) (r : Bool) → grants_of (if r then S.subs else broadcast (ticks soc) S.subs (kept_of t)) ≡ grants_of S.subs
   ticked_slots soc true = refl
   ticked_slots soc false = fanned_grants (ticks soc) (λ s k. refl) S.subs (kept_of t)
 
-  grants_stay : (e : Occurrence) → KeepsRoutes e → grants_of (next S e (tells t)).subs ≡ grants_of S.subs
+  grants_stay : (e : GatewayEvent) → KeepsRoutes e → grants_of (next S e (tells t)).subs ≡ grants_of S.subs
   grants_stay (add_pmu key) keeps = absurd keeps
   grants_stay (drop_pmu key) keeps = absurd keeps
   grants_stay (add_sub u size bytes) keeps = absurd keeps
@@ -185,7 +185,7 @@ keys_memory [] pmus = refl
 keys_memory (key ∷ keys) pmus = keys-changed (refusing NoMemory) key pmus
 
 module _ (S : SharedMachine) (t : Told) where
-  keys_stay : (e : Occurrence) → KeepsRoutes e → keys_of (next S e (tells t)).pmus ≡ keys_of S.pmus
+  keys_stay : (e : GatewayEvent) → KeepsRoutes e → keys_of (next S e (tells t)).pmus ≡ keys_of S.pmus
   keys_stay (add_pmu key) keeps = absurd keeps
   keys_stay (drop_pmu key) keeps = absurd keeps
   keys_stay (add_sub u size bytes) keeps = absurd keeps
@@ -209,7 +209,7 @@ module _ (S : SharedMachine) (t : Told) where
   keys_stay (audit u index) keeps = refl
   keys_stay (standing u place) keeps = refl
 
-stays : (S : SharedMachine) (e : Occurrence) (a : Answer) → KeepsRoutes e → (grants_of (next S e a).subs ≡ grants_of S.subs) × (keys_of (next S e a).pmus ≡ keys_of S.pmus)
+stays : (S : SharedMachine) (e : GatewayEvent) (a : Answer) → KeepsRoutes e → (grants_of (next S e a).subs ≡ grants_of S.subs) × (keys_of (next S e a).pmus ≡ keys_of S.pmus)
 stays S e (tells t) keeps = (grants_stay S t e keeps, keys_stay S t e keeps)
 stays S e (sub_counts s) keeps = (refl, refl)
 stays S e (pmu_counts s) keeps = (refl, refl)
@@ -217,7 +217,7 @@ stays S e (those_waiting us) keeps = (refl, refl)
 stays S e (entry found) keeps = (refl, refl)
 stays S e (stands s) keeps = (refl, refl)
 
-pub routes_stay : (old new : GatewayValue) (e : Occurrence) (a : Answer) → IsReached old → Goes old e a new → KeepsRoutes e → (masks : List ℕ)
+pub routes_stay : (old new : GatewayValue) (e : GatewayEvent) (a : Answer) → IsReached old → Goes old e a new → KeepsRoutes e → (masks : List ℕ)
     → AreMasks old.subs (keys_of old.pmus) masks → AreMasks new.subs (keys_of new.pmus) masks
 routes_stay old new e a reached goes keeps masks all =
     let S = reached.state in
@@ -258,9 +258,9 @@ pub keys_within : (pmus : Pmus) (ps : List (ℕ × Option Refusal)) → All (λ 
 keys_within pmus ps within = subst (λ n. All (λ (p : ℕ × Option Refusal). p.0 < n) ps) (sym (length_keys pmus)) within
 
 -- No mark stands past the last subscriber.
-pub marks_within : (xs : List (ℕ × SlotValue)) (keys : List PmuKey) (masks : List ℕ) (ps : List (ℕ × Option Refusal)) (marks : ℕ) → AreMasks xs keys masks
-    → ((j : ℕ) → All (λ b. bit_at (get_or masks b.0 0) j ≡ 0) ps → bit_at marks j ≡ 0) → HasBits (length xs) marks
-marks_within xs keys masks ps marks all none = λ j past. none j (λ i d lt. mask_past xs keys masks all (get_or ps i d).0 j past)
+pub marks_within : (xs : List (ℕ × SlotValue)) (keys : List PmuKey) (masks : List ℕ) (ps : List (ℕ × Option Refusal)) (granted_some : ℕ) → AreMasks xs keys masks
+    → ((j : ℕ) → All (λ b. bit_at (get_or masks b.0 0) j ≡ 0) ps → bit_at granted_some j ≡ 0) → HasBits (length xs) granted_some
+marks_within xs keys masks ps granted_some all none = λ j past. none j (λ i d lt. mask_past xs keys masks all (get_or ps i d).0 j past)
 
 -- A subscriber that is not marked holds no PMU of a block that was taken.
 module _ (pmus : Pmus) (last : Option ℕ) (soc : ℕ) (xs : List (ℕ × SlotValue)) (masks : List ℕ) (all : AreMasks xs (keys_of pmus) masks)
@@ -298,16 +298,16 @@ module _ (pmus : Pmus) (last : Option ℕ) (soc : ℕ) (xs : List (ℕ × SlotVa
       by true rest placed = one (sample_refusal pmus last soc s) ps rest placed unset
       by false rest placed = rest ps placed unset
 
-pub measured_passes : (m : Measurement) (pmus : Pmus) (last : Option ℕ) (xs : List (ℕ × SlotValue)) (masks places : List ℕ) (ps : List (ℕ × Option Refusal)) (marks : ℕ)
+pub measured_passes : (m : Measurement) (pmus : Pmus) (last : Option ℕ) (xs : List (ℕ × SlotValue)) (masks places : List ℕ) (ps : List (ℕ × Option Refusal)) (granted_some : ℕ)
     → AreMasks xs (keys_of pmus) masks → samples_at m places ≡ taken_of pmus last m → ArePlaced pmus ps (judged pmus last m)
-    → ((j : ℕ) → bit_at marks j ≡ 0 → All (λ b. b.1 ≡ None → bit_at (get_or masks b.0 0) j ≡ 0) ps)
-    → WhereBit 0 marks (IsPassed (measured m places)) xs
-measured_passes m pmus last xs masks places ps marks all taken placed covers = λ j v at unset.
+    → ((j : ℕ) → bit_at granted_some j ≡ 0 → All (λ b. b.1 ≡ None → bit_at (get_or masks b.0 0) j ≡ 0) ps)
+    → WhereBit 0 granted_some (IsPassed (measured m places)) xs
+measured_passes m pmus last xs masks places ps granted_some all taken placed covers = λ j v at unset.
     ap (some_measured m.soc m.quality m.frac)
     (ap (filter (λ s. has_key v.subscriber.own.grants s.key)) taken ∙ none_held pmus last m.soc xs masks all j v at (samples_in m) ps placed (covers j unset))
 
 -- an event of the other kinds keeps the routes
-pub else_keeps : (e : Event) → ((key : _) → e ≡ kind.AddPmu key → ⊥) → ((key : _) → e ≡ kind.DropPmu key → ⊥) → ((u : _) → (size : _) → (bytes : _) → e ≡ kind.AddSub u size bytes → ⊥) → ((u : _) → e ≡ kind.DropSub u → ⊥) → ((u : _) → (key : _) → e ≡ kind.Grant u key → ⊥) → ((u : _) → (key : _) → e ≡ kind.Revoke u key → ⊥) → KeepsRoutes (occurrence e)
+pub else_keeps : (e : Event) → ((key : _) → e ≡ kind.AddPmu key → ⊥) → ((key : _) → e ≡ kind.DropPmu key → ⊥) → ((u : _) → (size : _) → (bytes : _) → e ≡ kind.AddSub u size bytes → ⊥) → ((u : _) → e ≡ kind.DropSub u → ⊥) → ((u : _) → (key : _) → e ≡ kind.Grant u key → ⊥) → ((u : _) → (key : _) → e ≡ kind.Revoke u key → ⊥) → KeepsRoutes (gateway_event e)
 else_keeps (kind.AddPmu key) nAddPmu nDropPmu nAddSub nDropSub nGrant nRevoke = absurd (nAddPmu key refl)
 else_keeps (kind.DropPmu key) nAddPmu nDropPmu nAddSub nDropSub nGrant nRevoke = absurd (nDropPmu key refl)
 else_keeps (kind.AddSub u size bytes) nAddPmu nDropPmu nAddSub nDropSub nGrant nRevoke = absurd (nAddSub u size bytes refl)

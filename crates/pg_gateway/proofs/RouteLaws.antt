@@ -12,13 +12,13 @@ use Rattle.std.specs.Map.{values_of}
 use Rattle.indexmap.specs.IndexMap.{set_value_at}
 use Rattle.pg_gateway.proofs.RelatedLaws.{Related-length}
 use Rattle.pg_gateway.specs.Related.{Related}
-use Rattle.pg_gateway.specs.Sharing.{SubscriberSlots, Offer, measures, some_measured, share, total, fan_out}
+use Rattle.pg_gateway.specs.Sharing.{SubscriberSlots, Broadcast, measures, some_measured, share, total, broadcast}
 use Rattle.pg_gateway.specs.Shown.{SlotValue, SlotShows}
-use Rattle.pg_gateway.specs.Taking.{TakesShare, FansOut, HasNone, Awaits, IsFit}
+use Rattle.pg_gateway.specs.Taking.{TakesShare, IsBroadcast, HasNone, Awaits, IsFit}
 use Rattle.pg_gateway.specs.Frugal.{AllSlots}
 use Rattle.pg_gateway.specs.Routes.{WhereBit, IsPassed, IsMask, AreMasks, bit_of}
-use Rattle.pg_gateway.proofs.FanLaws.{fan_step, fan_end}
-use Rattle.pg_gateway.proofs.Taking.{none_taken, lays_none}
+use Rattle.pg_gateway.proofs.BroadcastLaws.{fan_step, fan_end}
+use Rattle.pg_gateway.proofs.Taking.{none_taken, prepares_none}
 
 plus0 : (k : ℕ) → k + 0 ≡ k
 plus0 k = omega arith
@@ -60,18 +60,18 @@ cleared word k small within set =
         ]
 
 -- the lowest bit that is set, and the word without it
-pub turn : (left : ℕ) → 0 < left → left < 2 ^ 64
+pub note_granted : (left : ℕ) → 0 < left → left < 2 ^ 64
     → (trailing_zeros w64 left < 64) × (bit_at left (trailing_zeros w64 left) ≡ 1) × ((j : ℕ) → j < trailing_zeros w64 left → bit_at left j ≡ 0)
     × (without left (trailing_zeros w64 left) < left) × (bit_at (without left (trailing_zeros w64 left)) (trailing_zeros w64 left) ≡ 0)
     × ((j : ℕ) → j ≢ trailing_zeros w64 left → bit_at (without left (trailing_zeros w64 left)) j ≡ bit_at left j)
-turn left some small =
+note_granted left some small =
     let lowest = bit_at-trailing_zeros w64 left some small in
     let c = cleared left (trailing_zeros w64 left) small lowest.0 lowest.1 in
     (lowest.0, lowest.1, lowest.2, c.0, c.1, c.2)
 
 -- a bit that is set is that of a subscriber
-pub bit_within : (len marks i : ℕ) → ((j : ℕ) → len ≤ j → bit_at marks j ≡ 0) → bit_at marks i ≡ 1 → i < len
-bit_within len marks i bits set =
+pub bit_within : (len granted_some i : ℕ) → ((j : ℕ) → len ≤ j → bit_at granted_some j ≡ 0) → bit_at granted_some i ≡ 1 → i < len
+bit_within len granted_some i bits set =
     elim (le_or_gt len i) [
       | inl far ↦ absurd (let none = bits i far in omega (arith, none, set))
       | inr near ↦ near
@@ -120,9 +120,9 @@ module _ (P : SlotValue → Type 0) (xs : List (ℕ × SlotValue)) (i : ℕ) (w 
         | inr other ↦ all j v (sym (value_set_other xs i j w other) ∙ at) (sym (others j other) ∙ unset)
       ]
 
-  pub still_unmarked : (marks : ℕ) → bit_at marks i ≡ 1 → WhereBit 0 marks P xs → WhereBit 0 marks P (set_value_at xs i w)
-  still_unmarked marks set all = λ j v at unset.
-      let other : j ≢ i = λ same. one_zero (bit_at marks i) set (ap (bit_at marks) (sym same) ∙ unset) in
+  pub still_unmarked : (granted_some : ℕ) → bit_at granted_some i ≡ 1 → WhereBit 0 granted_some P xs → WhereBit 0 granted_some P (set_value_at xs i w)
+  still_unmarked granted_some set all = λ j v at unset.
+      let other : j ≢ i = λ same. one_zero (bit_at granted_some i) set (ap (bit_at granted_some) (sym same) ∙ unset) in
       all j v (sym (value_set_other xs i j w other) ∙ at) unset
 
 -- what holds of all, and of each by its bit
@@ -149,19 +149,19 @@ to_all P n xs none all = by xs (λ j v at. all j v at (ap (λ m. bit_at m j) non
     by (x ∷ xs) all = (all 0 x.1 refl, by xs (λ j v at. all (suc j) v at))
 
 -- subscribers without a share are passed
-module _ (o : Offer) (marks : ℕ) (xs : List (ℕ × SlotValue)) (passed : WhereBit 0 marks (IsPassed o) xs) where
-  pass : (ps : SubscriberSlots) (i made kept : ℕ) → i < length ps → i < length xs → bit_at marks i ≡ 0 → made ≡ total o (take i ps) → kept ≤ made
-      → Related SlotShows xs (fan_out o (take i ps) kept ++ drop i ps)
-      → (made ≡ total o (take (i + 1) ps)) × Related SlotShows xs (fan_out o (take (i + 1) ps) kept ++ drop (i + 1) ps)
+module _ (o : Broadcast) (granted_some : ℕ) (xs : List (ℕ × SlotValue)) (passed : WhereBit 0 granted_some (IsPassed o) xs) where
+  pass : (ps : SubscriberSlots) (i made kept : ℕ) → i < length ps → i < length xs → bit_at granted_some i ≡ 0 → made ≡ total o (take i ps) → kept ≤ made
+      → Related SlotShows xs (broadcast o (take i ps) kept ++ drop i ps)
+      → (made ≡ total o (take (i + 1) ps)) × Related SlotShows xs (broadcast o (take (i + 1) ps) kept ++ drop (i + 1) ps)
   pass ps i made kept lt ltx off count le rel =
       let there = value_there xs i ltx in
       let v = there.0 in
       let step = fan_step o ps i made kept true 0 0 xs v v lt count le (λ no. absurd (true≢false no)) rel there.1 (λ s shown. none_taken o true v s shown (passed i v there.1 off)) (omega arith) in
       (rw plus0 at step.0, rw (set_same xs i v there.1, plus0) at step.1)
 
-  pub skip : (ps : SubscriberSlots) (d i made kept : ℕ) → i + d ≤ length ps → length xs ≡ length ps → ((j : ℕ) → i ≤ j → j < i + d → bit_at marks j ≡ 0)
-      → made ≡ total o (take i ps) → kept ≤ made → Related SlotShows xs (fan_out o (take i ps) kept ++ drop i ps)
-      → (made ≡ total o (take (i + d) ps)) × Related SlotShows xs (fan_out o (take (i + d) ps) kept ++ drop (i + d) ps)
+  pub skip : (ps : SubscriberSlots) (d i made kept : ℕ) → i + d ≤ length ps → length xs ≡ length ps → ((j : ℕ) → i ≤ j → j < i + d → bit_at granted_some j ≡ 0)
+      → made ≡ total o (take i ps) → kept ≤ made → Related SlotShows xs (broadcast o (take i ps) kept ++ drop i ps)
+      → (made ≡ total o (take (i + d) ps)) × Related SlotShows xs (broadcast o (take (i + d) ps) kept ++ drop (i + d) ps)
   skip ps zero i made kept within len off count le rel = rw plus0 (count, rel)
   skip ps (suc d) i made kept within len off count le rel =
       let one = pass ps i made kept (omega arith) (omega arith) (off i (omega arith) (omega arith)) count le rel in
@@ -172,31 +172,31 @@ module _ (o : Offer) (marks : ℕ) (xs : List (ℕ × SlotValue)) (passed : Wher
       next i d = omega arith
 
 -- how far the marked subscribers have been gone through
-pub record Walked (o : Offer) (marks left made kept : ℕ) (old new : List (ℕ × SlotValue)) : Type 0 where
+pub record Walked (o : Broadcast) (granted_some left made kept : ℕ) (old new : List (ℕ × SlotValue)) : Type 0 where
   pub from : ℕ
   pub low : (j : ℕ) → j < from → bit_at left j ≡ 0
-  pub high : (j : ℕ) → from ≤ j → bit_at left j ≡ bit_at marks j
+  pub high : (j : ℕ) → from ≤ j → bit_at left j ≡ bit_at granted_some j
   pub within : from ≤ length new
   pub few : made ≤ 640 * from
   pub count : (slots : SubscriberSlots) → Related SlotShows old slots → made ≡ total o (take from slots)
-  pub shows : (slots : SubscriberSlots) → Related SlotShows old slots → Related SlotShows new (fan_out o (take from slots) kept ++ drop from slots)
+  pub shows : (slots : SubscriberSlots) → Related SlotShows old slots → Related SlotShows new (broadcast o (take from slots) kept ++ drop from slots)
 
-module _ (o : Offer) (marks left made kept : ℕ) (old xs : List (ℕ × SlotValue)) (len : length xs ≡ length old) (le : kept ≤ made)
-    (passed : WhereBit 0 marks (IsPassed o) xs) (w : Walked o marks left made kept old xs) where
+module _ (o : Broadcast) (granted_some left made kept : ℕ) (old xs : List (ℕ × SlotValue)) (len : length xs ≡ length old) (le : kept ≤ made)
+    (passed : WhereBit 0 granted_some (IsPassed o) xs) (w : Walked o granted_some left made kept old xs) where
   -- up to a place past the last turn, with no mark between
   on_to : (i : ℕ) → w.from ≤ i → i ≤ length xs → ((j : ℕ) → w.from ≤ j → j < i → bit_at left j ≡ 0) → (ps : SubscriberSlots) → Related SlotShows old ps
-      → (made ≡ total o (take i ps)) × Related SlotShows xs (fan_out o (take i ps) kept ++ drop i ps)
+      → (made ≡ total o (take i ps)) × Related SlotShows xs (broadcast o (take i ps) kept ++ drop i ps)
   on_to i past within off ps h =
       let same : length xs ≡ length ps = len ∙ Related-length SlotShows _ ps h in
       let there : w.from + (i - w.from) ≡ i = omega arith in
-      let gone = skip o marks xs passed ps (i - w.from) w.from made kept (omega arith) same
+      let gone = skip o granted_some xs passed ps (i - w.from) w.from made kept (omega arith) same
       (λ j a b. sym (w.high j a) ∙ off j a (omega (arith, b, there))) (w.count ps h) le (w.shows ps h) in
       rw there at gone
 
   pub walked_turn : (i more more_kept : ℕ) (lost : Bool) (v v' : SlotValue) → i < length xs → bit_at left i ≡ 1 → ((j : ℕ) → j < i → bit_at left j ≡ 0)
       → bit_at (without left i) i ≡ 0 → ((j : ℕ) → j ≢ i → bit_at (without left i) j ≡ bit_at left j)
       → (lost ≡ false → kept ≡ made) → slice_get (values_of xs) i ≡ Some v → ((s : _) → SlotShows v s → TakesShare o lost more more_kept s v')
-      → more ≤ 640 → more_kept ≤ more → Walked o marks (without left i) (made + more) (kept + more_kept) old (set_value_at xs i v')
+      → more ≤ 640 → more_kept ≤ more → Walked o granted_some (without left i) (made + more) (kept + more_kept) old (set_value_at xs i v')
   walked_turn i more more_kept lost v v' lt set below gone others all at takes few less =
       let past : w.from ≤ i = from_le in
       let step = λ (ps : SubscriberSlots) (h : Related SlotShows old ps).
@@ -226,25 +226,25 @@ module _ (o : Offer) (marks left made kept : ℕ) (old xs : List (ℕ × SlotVal
         | inr gt ↦ absurd (one_zero (bit_at left i) set (w.low i gt))
       ]
 
-  pub walked_end : left ≡ 0 → (ps : SubscriberSlots) → Related SlotShows old ps → FansOut o made kept ps xs
+  pub walked_end : left ≡ 0 → (ps : SubscriberSlots) → Related SlotShows old ps → IsBroadcast o made kept ps xs
   walked_end none ps h =
       let here = on_to (length xs) w.within (omega arith) (λ j a b. ap (λ m. bit_at m j) none ∙ bit_at-zero j) ps h in
       let same : length xs ≡ length ps = len ∙ Related-length SlotShows _ ps h in
       fan_end o ps (length xs) made kept xs (omega arith) here.0 here.1
 
 -- what is left is of what was marked
-pub kept_marks : (left marks i : ℕ) → bit_at (without left i) i ≡ 0 → ((j : ℕ) → j ≢ i → bit_at (without left i) j ≡ bit_at left j)
-    → ((j : ℕ) → bit_at left j ≡ 1 → bit_at marks j ≡ 1) → (j : ℕ) → bit_at (without left i) j ≡ 1 → bit_at marks j ≡ 1
-kept_marks left marks i gone others marked j set =
+pub kept_marks : (left granted_some i : ℕ) → bit_at (without left i) i ≡ 0 → ((j : ℕ) → j ≢ i → bit_at (without left i) j ≡ bit_at left j)
+    → ((j : ℕ) → bit_at left j ≡ 1 → bit_at granted_some j ≡ 1) → (j : ℕ) → bit_at (without left i) j ≡ 1 → bit_at granted_some j ≡ 1
+kept_marks left granted_some i gone others granted j set =
     let other : j ≢ i = λ same. one_zero (bit_at (without left i) j) set (ap (bit_at (without left i)) same ∙ gone) in
-    marked j (sym (others j other) ∙ set)
+    granted j (sym (others j other) ∙ set)
 
 -- a subscriber that is passed awaits it
-pub awaits_passed : (o : Offer) (v : SlotValue) → HasNone v → IsPassed o v → Awaits o v
+pub awaits_passed : (o : Broadcast) (v : SlotValue) → HasNone v → IsPassed o v → Awaits o v
 awaits_passed o v none passed =
     record {
       fit = subst (λ x. IsFit v.subscriber x) (sym passed) tt;
-      laid = lays_none v.subscriber (share o v.subscriber.own.grants) passed none.0;
+      prepared = prepares_none v.subscriber (share o v.subscriber.own.grants) passed none.0;
       spared = λ _. passed;
     }
 

@@ -5,10 +5,10 @@ use Rattle.pg_wire.specs.declared.refusal.Refusal.TheVariants.{NoSuchSub}
 use Rattle.pg_session.specs.Private.{refuse}
 use Rattle.pg_entitle.specs.Grants.{has_key}
 use Rattle.pg_data.specs.Measurements.{Measurement}
-use Rattle.pg_session.specs.Events.{Happening, Sample}
+use Rattle.pg_session.specs.Events.{SubscriberEvent, Sample}
 use Rattle.pg_session.specs.Shown.{Model}
 use Rattle.pg_session.specs.Standing.{standing_of}
-use Rattle.pg_gateway.specs.Occurrences.{Occurrence, occurrence, told, asks, measure, stats, standing, Answer, tells, sub_counts, stands}
+use Rattle.pg_gateway.specs.GatewayEvents.{GatewayEvent, gateway_event, told, asks, measure, stats, standing, Answer, tells, sub_counts, stands}
 use Rattle.pg_gateway.specs.Sharing.{SubscriberSlot, measures, some_measured}
 use Rattle.pg_gateway.specs.State.{SharedMachine, opening, slot_of, own_of, taken_in, refusal, to_all, unless, stats_answer, standing_answer, May, next}
 use Rattle.pg_gateway.specs.Views.{shared_step, shared_run, private_run, as_seen, share_seen, part_of, part, view, full_told, full_by, full_answer, full_answers, AllLossless, handed_to, handed_in}
@@ -22,15 +22,15 @@ use Rattle.pg_gateway.proofs.SlotLaws.{owned, Alone}
 use Rattle.pg_gateway.proofs.ViewLaws.{full_own, own_full, Alone-next, own-step, own-run}
 use Rattle.pg_gateway.proofs.AnswerLaws.{lossless_full, handed-run}
 
-pub Alone-run : (S : SharedMachine) (es : List Occurrence) → Alone S.subs → Alone (shared_run S es).subs
+pub Alone-run : (S : SharedMachine) (es : List GatewayEvent) → Alone S.subs → Alone (shared_run S es).subs
 Alone-run S [] alone = alone
 Alone-run S (e ∷ es) alone = Alone-run (shared_step S e) es (Alone-next S e (full_answer S e) alone)
 
-run-append : (S : SharedMachine) (es fs : List Occurrence) → shared_run S (es ++ fs) ≡ shared_run (shared_run S es) fs
+run-append : (S : SharedMachine) (es fs : List GatewayEvent) → shared_run S (es ++ fs) ≡ shared_run (shared_run S es) fs
 run-append S [] fs = refl
 run-append S (e ∷ es) fs = run-append (shared_step S e) es fs
 
-pub one_more : (u : ℕ) (es : List Occurrence) (e : Occurrence) → own_of u (after (es ++ e ∷ [])) ≡ private_run (own_of u (after es)) (part u (after es) e)
+pub one_more : (u : ℕ) (es : List GatewayEvent) (e : GatewayEvent) → own_of u (after (es ++ e ∷ [])) ≡ private_run (own_of u (after es)) (part u (after es) e)
 one_more u es e = ap (λ S. own_of u S) (run-append opening es (e ∷ [])) ∙ own-step u (after es) e (Alone-run opening es tt)
 
 -- what is there of a subscriber that is there
@@ -41,7 +41,7 @@ slot_from (Some s) p is = (s, refl, some_is s.own p is)
     some_is : (a b : Model) → Some a ≡ Some b → a ≡ b
     some_is a b e = cc
 
-pub own_reply : (u : ℕ) (S : SharedMachine) (x : Happening) (p : Model) → own_of u S ≡ Some p → full_answer S (asks u x) ≡ tells (full_told p x)
+pub own_reply : (u : ℕ) (S : SharedMachine) (x : SubscriberEvent) (p : Model) → own_of u S ≡ Some p → full_answer S (asks u x) ≡ tells (full_told p x)
 own_reply u S x p is =
     let found = slot_from (slot_of u S.subs) p is in
     own_full (slot_of u S.subs) x ∙ ap (λ o. tells (full_own o x)) found.1 ∙ ap (λ q. tells (full_told q x)) found.2
@@ -56,14 +56,14 @@ own_standing u place S p is =
     let found = slot_from (slot_of u S.subs) p is in
     ap (λ o. full_by (refuse (not (is_some o)) NoSuchSub None) (standing_answer o place)) found.1 ∙ ap (λ (q : Model). stands (standing_of q place)) found.2
 
-pub equal_states : (u : ℕ) (es fs : List Occurrence) → view u opening es ≡ view u opening fs → own_of u (after es) ≡ own_of u (after fs)
+pub equal_states : (u : ℕ) (es fs : List GatewayEvent) → view u opening es ≡ view u opening fs → own_of u (after es) ≡ own_of u (after fs)
 equal_states u es fs same = own-run u opening es tt ∙ ap (λ v. private_run None v) same ∙ sym (own-run u opening fs tt)
 
-pub equal_handed : (u : ℕ) (es fs : List Occurrence) → view u opening es ≡ view u opening fs
+pub equal_handed : (u : ℕ) (es fs : List GatewayEvent) → view u opening es ≡ view u opening fs
     → handed_to u es (full_answers opening es) ≡ handed_to u fs (full_answers opening fs)
 equal_handed u es fs same = handed-run u opening es tt ∙ ap (λ v. handed_in None v) same ∙ sym (handed-run u opening fs tt)
 
-pub equal_parts : (u : ℕ) (es fs : List Occurrence) (e f : Occurrence) → own_of u (after es) ≡ own_of u (after fs)
+pub equal_parts : (u : ℕ) (es fs : List GatewayEvent) (e f : GatewayEvent) → own_of u (after es) ≡ own_of u (after fs)
     → part u (after es) e ≡ part u (after fs) f → own_of u (after (es ++ e ∷ [])) ≡ own_of u (after (fs ++ f ∷ []))
 equal_parts u es fs e f own same =
     one_more u es e ∙ ap (λ o. private_run o (part u (after es) e)) own ∙ ap (λ v. private_run (own_of u (after fs)) v) same ∙ sym (one_more u fs f)
@@ -100,14 +100,14 @@ agreeing_parts u S T m n own first other agree =
     ∙ ap (λ o. share_seen (measures n.soc n.quality n.frac (granted_blocks (own_of u T) (taken_in T n))) o) own
     ∙ sym (part_measure u T n other)
 
-pub equal_frames : (u : ℕ) (es fs : List Occurrence) (m n : Measurement) → own_of u (after es) ≡ own_of u (after fs)
+pub equal_frames : (u : ℕ) (es fs : List GatewayEvent) (m n : Measurement) → own_of u (after es) ≡ own_of u (after fs)
     → refusal (after es) (measure m) ≡ None → refusal (after fs) (measure n) ≡ None → AgreeOn u (after es) m (after fs) n
     → own_of u (after (es ++ measure m ∷ [])) ≡ own_of u (after (fs ++ measure n ∷ []))
 equal_frames u es fs m n own first other agree =
     equal_parts u es fs (measure m) (measure n) own (agreeing_parts u (after es) (after fs) m n own first other agree)
 
 -- histories
-pub full_history : (S : SharedMachine) (h : List (Occurrence × Answer)) → Legal S h → AllLossless (answers_of h)
+pub full_history : (S : SharedMachine) (h : List (GatewayEvent × Answer)) → Legal S h → AllLossless (answers_of h)
     → (answers_of h ≡ full_answers S (events_of h)) × (state_after S h ≡ shared_run S (events_of h))
 full_history S [] legal full = (refl, refl)
 full_history S (x ∷ h) legal full =
@@ -118,16 +118,16 @@ full_history S (x ∷ h) legal full =
       ap (λ T. state_after T h) same ∙ rest.1,
     )
 
-legal-append : (S : SharedMachine) (h : List (Occurrence × Answer)) (e : Occurrence) (a : Answer) → Legal S h → May (state_after S h) e a → Legal S (h ++ (e, a) ∷ [])
+legal-append : (S : SharedMachine) (h : List (GatewayEvent × Answer)) (e : GatewayEvent) (a : Answer) → Legal S h → May (state_after S h) e a → Legal S (h ++ (e, a) ∷ [])
 legal-append S [] e a legal may = (may, tt)
 legal-append S (x ∷ h) e a legal may = (legal.0, legal-append (next S x.0 x.1) h e a legal.1 may)
 
-state-append : (S : SharedMachine) (h : List (Occurrence × Answer)) (e : Occurrence) (a : Answer) → state_after S (h ++ (e, a) ∷ []) ≡ next (state_after S h) e a
+state-append : (S : SharedMachine) (h : List (GatewayEvent × Answer)) (e : GatewayEvent) (a : Answer) → state_after S (h ++ (e, a) ∷ []) ≡ next (state_after S h) e a
 state-append S [] e a = refl
 state-append S (x ∷ h) e a = state-append (next S x.0 x.1) h e a
 
 -- one step more
-pub history_goes : (old new : GatewayValue) (e : Occurrence) (a : Answer) (h : List (Occurrence × Answer)) → Goes old e a new → ShowsHistory old h
+pub history_goes : (old new : GatewayValue) (e : GatewayEvent) (a : Answer) (h : List (GatewayEvent × Answer)) → Goes old e a new → ShowsHistory old h
     → May (state_after opening h) e a × ShowsHistory new (h ++ (e, a) ∷ [])
 history_goes old new e a h goes shown =
     let one = goes (state_after opening h) shown.shows in (
@@ -139,14 +139,14 @@ history_goes old new e a h goes shown =
     )
 
 -- the same for calls
-said-append : (calls : List (Event × Reply)) (e : Event) (r : Reply) → map said (calls ++ (e, r) ∷ []) ≡ map said calls ++ (occurrence e, told r) ∷ []
+said-append : (calls : List (Event × Reply)) (e : Event) (r : Reply) → map said (calls ++ (e, r) ∷ []) ≡ map said calls ++ (gateway_event e, told r) ∷ []
 said-append [] e r = refl
 said-append (x ∷ calls) e r = ap (λ l. said x ∷ l) (said-append calls e r)
 
-pub calls_go : (old new : GatewayValue) (e : Event) (r : Reply) (calls : List (Event × Reply)) → Goes old (occurrence e) (told r) new → Answers e r → ShowsCalls old calls
+pub calls_go : (old new : GatewayValue) (e : Event) (r : Reply) (calls : List (Event × Reply)) → Goes old (gateway_event e) (told r) new → Answers e r → ShowsCalls old calls
     → MayCall calls e r × ShowsCalls new (calls ++ (e, r) ∷ [])
 calls_go old new e r calls goes answers shown =
-    let one = history_goes old new (occurrence e) (told r) (map said calls) goes shown in (
+    let one = history_goes old new (gateway_event e) (told r) (map said calls) goes shown in (
       record { may = one.0; answers = answers },
       subst (λ h. ShowsHistory new h) (sym (said-append calls e r)) one.1,
     )

@@ -7,7 +7,7 @@ use Rattle.pg_audit.specs.declared.audit.What.{What}
 use Rattle.pg_session.specs.Private.{Told}
 use Rattle.pg_session.specs.Shown.{Model}
 use Rattle.pg_gateway.specs.Related.{Related}
-use Rattle.pg_gateway.specs.Sharing.{SubscriberSlot, SubscriberSlots, Offer, frames_for, total, shared_to, fan_out}
+use Rattle.pg_gateway.specs.Sharing.{SubscriberSlot, SubscriberSlots, Broadcast, frames_for, total, shared_to, broadcast}
 use Rattle.pg_gateway.specs.State.{at_slot, slot_of, slots_noted, with_note, code_of}
 
 -- the private gateway of a subscriber that may be there
@@ -93,9 +93,9 @@ same-at_slot u f (s ∷ ss) = by (nat_eq u s.0) (same-at_slot u f ss)
     by true rest = (refl, tt, same_itself ss)
     by false rest = (refl, tt, rest)
 
-pub same-fan_out : (o : Offer) (ss : SubscriberSlots) (k : ℕ) → SameNumbers (fan_out o ss k) ss
-same-fan_out o [] k = tt
-same-fan_out o (s ∷ ss) k = (refl, tt, same-fan_out o ss (k - frames_for o s.1))
+pub same-broadcast : (o : Broadcast) (ss : SubscriberSlots) (k : ℕ) → SameNumbers (broadcast o ss k) ss
+same-broadcast o [] k = tt
+same-broadcast o (s ∷ ss) k = (refl, tt, same-broadcast o ss (k - frames_for o s.1))
 
 pub slot_of-at_slot : (u w : ℕ) (f : SubscriberSlot → SubscriberSlot) (ss : SubscriberSlots) → slot_of u (at_slot w f ss) ≡ (if nat_eq u w then option_map f (slot_of u ss) else slot_of u ss)
 slot_of-at_slot u w f [] = none (nat_eq u w)
@@ -128,15 +128,15 @@ own-noted u (Some n) t ss = ap owned (slot_of-at_slot u n.0 (with_note (n.1, cod
     by false o = refl
 
 -- at an event for all with no loss each subscriber takes its share, and no other
-pub slot_of-fan_out : (u : ℕ) (o : Offer) (ss : SubscriberSlots) → slot_of u (fan_out o ss (total o ss)) ≡ option_map (λ s. shared_to o s (frames_for o s)) (slot_of u ss)
-slot_of-fan_out u o [] = refl
-slot_of-fan_out u o (s ∷ ss) =
+pub slot_of-broadcast : (u : ℕ) (o : Broadcast) (ss : SubscriberSlots) → slot_of u (broadcast o ss (total o ss)) ≡ option_map (λ s. shared_to o s (frames_for o s)) (slot_of u ss)
+slot_of-broadcast u o [] = refl
+slot_of-broadcast u o (s ∷ ss) =
     let c = frames_for o s.1 in
     let mine : min (c + total o ss) c ≡ c = omega arith in
     let rest : c + total o ss - c ≡ total o ss = omega arith in
-    rw (mine, rest) (by (nat_eq u s.0) (slot_of-fan_out u o ss))
+    rw (mine, rest) (by (nat_eq u s.0) (slot_of-broadcast u o ss))
   where
-    by : (b : Bool) → slot_of u (fan_out o ss (total o ss)) ≡ option_map (λ s. shared_to o s (frames_for o s)) (slot_of u ss)
-        → cond b (Some (shared_to o s.1 (frames_for o s.1))) (slot_of u (fan_out o ss (total o ss))) ≡ option_map (λ s. shared_to o s (frames_for o s)) (cond b (Some s.1) (slot_of u ss))
+    by : (b : Bool) → slot_of u (broadcast o ss (total o ss)) ≡ option_map (λ s. shared_to o s (frames_for o s)) (slot_of u ss)
+        → cond b (Some (shared_to o s.1 (frames_for o s.1))) (slot_of u (broadcast o ss (total o ss))) ≡ option_map (λ s. shared_to o s (frames_for o s)) (cond b (Some s.1) (slot_of u ss))
     by true h = refl
     by false h = h

@@ -9,16 +9,16 @@ use Rattle.pg_config.specs.Parts.{Source}
 use Rattle.pg_data.specs.Measurements.{Measurement}
 use Rattle.pg_audit.specs.Noting as audit
 use Rattle.pg_session.specs.Events as event
-use Rattle.pg_session.specs.Events.{Happening, Announcing, Sample, announced_at, samples_at}
+use Rattle.pg_session.specs.Events.{SubscriberEvent, Announcing, Sample, announced_at, samples_at}
 use Rattle.pg_session.specs.Private.{Told, done, refused, takes_memory, answer, frames_of, effect, next}
 use Rattle.pg_session.specs.Shown.{Own, SubscriberValue, Takes, Follows, ShowsPrivate, OwnShows}
 use Rattle.pg_session.specs.ByAll.{by_arrivals, by_numbers}
 use Rattle.pg_session.specs.Ready.{AreRising, IsFor, IsReady, NeedsNone}
-use Rattle.pg_session.specs.Filling.{IsLaidFor}
+use Rattle.pg_session.specs.Filling.{IsPreparedFor}
 use Rattle.pg_session.specs.Steps.{HasNoCopies}
-use Rattle.pg_gateway.specs.Sharing.{SubscriberSlot, Offer, announces, some_announced, some_measured, share, notes_of, frames_in_share, after_share}
+use Rattle.pg_gateway.specs.Sharing.{SubscriberSlot, Broadcast, announces, some_announced, some_measured, share, notes_of, frames_in_share, after_share}
 use Rattle.pg_gateway.specs.Shown.{SlotValue, SlotShows}
-use Rattle.pg_gateway.specs.Taking.{measured, part_passes, IsFit, IsLaid, Awaits, Fits, HasNone, LaysShare, TakesShare, TakesOffer, counts_of}
+use Rattle.pg_gateway.specs.Taking.{measured, part_passes, IsFit, IsPrepared, Awaits, Fits, HasNone, PreparesShare, TakesShare, TakesBroadcast, counts_of}
 use Rattle.pg_gateway.specs.Frugal.{NeedsNoCopy}
 use Rattle.pg_gateway.proofs.Places.{announced-filter, samples-filter, announced-some, samples-some}
 use Rattle.pg_gateway.proofs.ShareLaws.{Quiet, share_quiet}
@@ -53,7 +53,7 @@ measured_share m ps held grants is rising some =
     ap (some_measured m.soc m.quality m.frac) (sym (samples-filter (has_key grants) m ps)) ∙ ap (λ l. some_measured m.soc m.quality m.frac (samples_at m l)) (sym is)
     ∙ (let there = samples-some m 0 held rising some in rw there.2 refl)
 
-pub none_is_some : {A : Type 0} {x : Happening} → None ≡ Some x → A
+pub none_is_some : {A : Type 0} {x : SubscriberEvent} → None ≡ Some x → A
 none_is_some e = cc
 
 -- what is never so
@@ -62,7 +62,7 @@ not_true true never = absurd (never refl)
 not_true false never = refl
 
 -- a subscriber that has no share
-pub none_taken : (o : Offer) (lost : Bool) (v : SlotValue) (s : SubscriberSlot) → SlotShows v s → share o v.subscriber.own.grants ≡ None → TakesShare o lost 0 0 s v
+pub none_taken : (o : Broadcast) (lost : Bool) (v : SlotValue) (s : SubscriberSlot) → SlotShows v s → share o v.subscriber.own.grants ≡ None → TakesShare o lost 0 0 s v
 none_taken o lost v s shown none =
     let same : share o s.own.grants ≡ None = ap (share o) (sym shown.subscriber.grants) ∙ none in
     record {
@@ -72,7 +72,7 @@ none_taken o lost v s shown none =
     }
 
 -- and one that has taken it
-pub some_taken : (o : Offer) (lost : Bool) (old new : SlotValue) (x : Happening) (r : Told) (s : SubscriberSlot) → SlotShows old s → share o old.subscriber.own.grants ≡ Some x
+pub some_taken : (o : Broadcast) (lost : Bool) (old new : SlotValue) (x : SubscriberEvent) (r : Told) (s : SubscriberSlot) → SlotShows old s → share o old.subscriber.own.grants ≡ Some x
     → Takes old.subscriber x lost r new.subscriber → audit.ShowsAudit new.audit (s.noted ++ notes_of o) → TakesShare o lost (counts_of r).0 (counts_of r).1 s new
 some_taken o lost old new x r s shown some takes noted = by r (rw q.allowed at follows.may) follows.shows
   where
@@ -105,43 +105,43 @@ some_taken o lost old new x r s shown some takes noted = by r (rw q.allowed at f
     by t (inr b) shows = absurd (true≢false (sym b.1 ∙ q.no_memory))
 
 -- what a subscriber's share asks of it, at the share that it is
-pub fit_at : (v : SubscriberValue) (o : Option Happening) (x : Happening) → o ≡ Some x → IsFit v o → IsFor v.own x
+pub fit_at : (v : SubscriberValue) (o : Option SubscriberEvent) (x : SubscriberEvent) → o ≡ Some x → IsFit v o → IsFor v.own x
 fit_at v o x is fit = subst (λ o. IsFit v o) is fit
 
-pub laid_at : (v : SubscriberValue) (o : Option Happening) (x : Happening) → o ≡ Some x → IsLaid v o → IsLaidFor v x
-laid_at v o x is laid = subst (λ o. IsLaid v o) is laid
+pub prepared_at : (v : SubscriberValue) (o : Option SubscriberEvent) (x : SubscriberEvent) → o ≡ Some x → IsPrepared v o → IsPreparedFor v x
+prepared_at v o x is prepared = subst (λ o. IsPrepared v o) is prepared
 
 -- Of all events but a frame just the copies lie ready.
-pub announced_ready : (v : SubscriberValue) (list : List Announcing) → IsLaidFor v (event.announce list) → IsReady v (event.announce list)
+pub announced_ready : (v : SubscriberValue) (list : List Announcing) → IsPreparedFor v (event.announce list) → IsReady v (event.announce list)
 announced_ready v list (inl ready) = ready
 announced_ready v list (inr none) = absurd none.1
 
-pub revoked_ready : (v : SubscriberValue) (key : PmuKey) → IsLaidFor v (event.revoke key) → IsReady v (event.revoke key)
+pub revoked_ready : (v : SubscriberValue) (key : PmuKey) → IsPreparedFor v (event.revoke key) → IsReady v (event.revoke key)
 revoked_ready v key (inl ready) = ready
 revoked_ready v key (inr none) = absurd none.1
 
-pub ticked_ready : (v : SubscriberValue) (soc : ℕ) → IsLaidFor v (event.tick soc) → IsReady v (event.tick soc)
+pub ticked_ready : (v : SubscriberValue) (soc : ℕ) → IsPreparedFor v (event.tick soc) → IsReady v (event.tick soc)
 ticked_ready v soc (inl ready) = ready
 ticked_ready v soc (inr none) = absurd none.1
 
-pub laid_none : (v : SubscriberValue) (o : Option Happening) → o ≡ None → IsLaid v o → HasNoCopies v
-laid_none v o is laid = subst (λ o. IsLaid v o) is laid
+pub prepared_none : (v : SubscriberValue) (o : Option SubscriberEvent) → o ≡ None → IsPrepared v o → HasNoCopies v
+prepared_none v o is prepared = subst (λ o. IsPrepared v o) is prepared
 
-pub lays : (v : SubscriberValue) (o : Option Happening) (x : Happening) → o ≡ Some x → IsLaidFor v x → IsLaid v o
-lays v o x is laid = subst (λ o. IsLaid v o) (sym is) laid
+pub prepares : (v : SubscriberValue) (o : Option SubscriberEvent) (x : SubscriberEvent) → o ≡ Some x → IsPreparedFor v x → IsPrepared v o
+prepares v o x is prepared = subst (λ o. IsPrepared v o) (sym is) prepared
 
-pub lays_none : (v : SubscriberValue) (o : Option Happening) → o ≡ None → HasNoCopies v → IsLaid v o
-lays_none v o is none = subst (λ o. IsLaid v o) (sym is) none
+pub prepares_none : (v : SubscriberValue) (o : Option SubscriberEvent) → o ≡ None → HasNoCopies v → IsPrepared v o
+prepares_none v o is none = subst (λ o. IsPrepared v o) (sym is) none
 
-pub needless_at : (v : SubscriberValue) (o : Option Happening) (x : Happening) → o ≡ Some x → NeedsNoCopy v o → NeedsNone v x
+pub needless_at : (v : SubscriberValue) (o : Option SubscriberEvent) (x : SubscriberEvent) → o ≡ Some x → NeedsNoCopy v o → NeedsNone v x
 needless_at v o x is needs = subst (λ o. NeedsNoCopy v o) is needs
 
 -- Copies are laid by one that has no share, and that is spared; by one that has; or memory is refused. `inner` is what the
 -- subscriber held before.
-pub lays_nothing : (o : Offer) (old inner : SlotValue) → inner ≡ old → HasNone old → share o old.subscriber.own.grants ≡ None
-    → LaysShare o old (Ok tt) (record inner { spared = true })
-lays_nothing o old inner is none nothing = record {
-  laid = lays_none inner.subscriber _ nothing (subst (λ (v : SlotValue). HasNoCopies v.subscriber) (sym is) none.0);
+pub prepares_nothing : (o : Broadcast) (old inner : SlotValue) → inner ≡ old → HasNone old → share o old.subscriber.own.grants ≡ None
+    → PreparesShare o old (Ok tt) (record inner { spared = true })
+prepares_nothing o old inner is none nothing = record {
+  prepared = prepares_none inner.subscriber _ nothing (subst (λ (v : SlotValue). HasNoCopies v.subscriber) (sym is) none.0);
   memory = tt;
   needless = λ _. refl;
   spared = λ _. nothing;
@@ -149,9 +149,9 @@ lays_nothing o old inner is none nothing = record {
   audit = ap (λ (v : SlotValue). v.audit) is;
 }
 
-pub lays_no_share : (o : Offer) (old inner : SlotValue) → inner ≡ old → HasNone old → share o old.subscriber.own.grants ≡ None → LaysShare o old (Ok tt) inner
-lays_no_share o old inner is none nothing = record {
-  laid = lays_none inner.subscriber _ nothing (subst (λ (v : SlotValue). HasNoCopies v.subscriber) (sym is) none.0);
+pub prepares_no_share : (o : Broadcast) (old inner : SlotValue) → inner ≡ old → HasNone old → share o old.subscriber.own.grants ≡ None → PreparesShare o old (Ok tt) inner
+prepares_no_share o old inner is none nothing = record {
+  prepared = prepares_none inner.subscriber _ nothing (subst (λ (v : SlotValue). HasNoCopies v.subscriber) (sym is) none.0);
   memory = tt;
   needless = λ _. refl;
   spared = λ _. nothing;
@@ -159,10 +159,10 @@ lays_no_share o old inner is none nothing = record {
   audit = ap (λ (v : SlotValue). v.audit) is;
 }
 
-pub lays_some : (o : Offer) (old inner : SlotValue) (x : Happening) (after : SubscriberValue) → inner ≡ old → HasNone old → share o old.subscriber.own.grants ≡ Some x
-    → IsLaidFor after x → after.own ≡ inner.subscriber.own → LaysShare o old (Ok tt) (record inner { subscriber = after })
-lays_some o old inner x after is none some laid own = record {
-  laid = lays after _ x some laid;
+pub prepares_some : (o : Broadcast) (old inner : SlotValue) (x : SubscriberEvent) (after : SubscriberValue) → inner ≡ old → HasNone old → share o old.subscriber.own.grants ≡ Some x
+    → IsPreparedFor after x → after.own ≡ inner.subscriber.own → PreparesShare o old (Ok tt) (record inner { subscriber = after })
+prepares_some o old inner x after is none some prepared own = record {
+  prepared = prepares after _ x some prepared;
   memory = tt;
   needless = λ _. refl;
   spared = λ spared. absurd (true≢false (sym spared ∙ ap (λ (v : SlotValue). v.spared) is ∙ none.1));
@@ -170,10 +170,10 @@ lays_some o old inner x after is none some laid own = record {
   audit = ap (λ (v : SlotValue). v.audit) is;
 }
 
-pub lays_refused : (o : Offer) (old inner : SlotValue) (x : Happening) (r : Refusal) (after : SubscriberValue) → inner ≡ old → share o old.subscriber.own.grants ≡ Some x
-    → r ≡ NoMemory → (NeedsNone inner.subscriber x → false ≡ true) → after.own ≡ inner.subscriber.own → LaysShare o old (Err r) (record inner { subscriber = after })
-lays_refused o old inner x r after is some memory needless own = record {
-  laid = tt;
+pub prepares_refused : (o : Broadcast) (old inner : SlotValue) (x : SubscriberEvent) (r : Refusal) (after : SubscriberValue) → inner ≡ old → share o old.subscriber.own.grants ≡ Some x
+    → r ≡ NoMemory → (NeedsNone inner.subscriber x → false ≡ true) → after.own ≡ inner.subscriber.own → PreparesShare o old (Err r) (record inner { subscriber = after })
+prepares_refused o old inner x r after is some memory needless own = record {
+  prepared = tt;
   memory = memory;
   needless = λ needs. needless (subst (λ (v : SlotValue). NeedsNone v.subscriber x) (sym is) (needless_at old.subscriber _ x some needs));
   spared = tt;
@@ -181,24 +181,24 @@ lays_refused o old inner x r after is some memory needless own = record {
   audit = ap (λ (v : SlotValue). v.audit) is;
 }
 
-pub lays_share : (o : Offer) (old inner : SlotValue) (x : Happening) (result : Result Unit Refusal) (after : SubscriberValue) → inner ≡ old → HasNone old
-    → share o old.subscriber.own.grants ≡ Some x → IfOk result (λ u. IsLaidFor after x) → IfErr result (λ r. r ≡ NoMemory) → (NeedsNone inner.subscriber x → IsOk result)
-    → after.own ≡ inner.subscriber.own → LaysShare o old result (record inner { subscriber = after })
-lays_share o old inner x (Ok tt) after is none some laid memory needless own = lays_some o old inner x after is none some laid own
-lays_share o old inner x (Err r) after is none some laid memory needless own = lays_refused o old inner x r after is some memory needless own
+pub prepares_share : (o : Broadcast) (old inner : SlotValue) (x : SubscriberEvent) (result : Result Unit Refusal) (after : SubscriberValue) → inner ≡ old → HasNone old
+    → share o old.subscriber.own.grants ≡ Some x → IfOk result (λ u. IsPreparedFor after x) → IfErr result (λ r. r ≡ NoMemory) → (NeedsNone inner.subscriber x → IsOk result)
+    → after.own ≡ inner.subscriber.own → PreparesShare o old result (record inner { subscriber = after })
+prepares_share o old inner x (Ok tt) after is none some prepared memory needless own = prepares_some o old inner x after is none some prepared own
+prepares_share o old inner x (Err r) after is none some prepared memory needless own = prepares_refused o old inner x r after is some memory needless own
 
 -- An event for all is taken by one that has no share, and by one that has.
-pub offer_none : (o : Offer) (lost : Bool) (v : SlotValue) → share o v.subscriber.own.grants ≡ None → Awaits o v → TakesOffer o lost v (0, 0) v
+pub offer_none : (o : Broadcast) (lost : Bool) (v : SlotValue) → share o v.subscriber.own.grants ≡ None → Awaits o v → TakesBroadcast o lost v (0, 0) v
 offer_none o lost v none awaits = record {
   shares = λ s h. none_taken o lost v s h none;
   few = omega arith;
   kept = omega arith;
-  none = laid_none v.subscriber _ none awaits.laid;
+  none = prepared_none v.subscriber _ none awaits.prepared;
 }
 
-pub offer_some : (o : Offer) (lost : Bool) (old new : SlotValue) (x : Happening) (t : Told) (counts : ℕ × ℕ) → share o old.subscriber.own.grants ≡ Some x
+pub offer_some : (o : Broadcast) (lost : Bool) (old new : SlotValue) (x : SubscriberEvent) (t : Told) (counts : ℕ × ℕ) → share o old.subscriber.own.grants ≡ Some x
     → Takes old.subscriber x lost t new.subscriber → ((s : SubscriberSlot) → SlotShows old s → audit.ShowsAudit new.audit (s.noted ++ notes_of o))
-    → counts ≡ counts_of t → (counts.0 ≤ 640) × (counts.1 ≤ counts.0) → HasNoCopies new.subscriber → TakesOffer o lost old counts new
+    → counts ≡ counts_of t → (counts.0 ≤ 640) × (counts.1 ≤ counts.0) → HasNoCopies new.subscriber → TakesBroadcast o lost old counts new
 offer_some o lost old new x t counts some takes noted is few none = record {
   shares = λ s h. subst (λ (c : ℕ × ℕ). TakesShare o lost c.0 c.1 s new) (sym is) (some_taken o lost old new x t s h some takes (noted s h));
   few = few.0;
@@ -207,17 +207,17 @@ offer_some o lost old new x t counts some takes noted is few none = record {
 }
 
 -- what is no part of a subscriber's own state says nothing of it
-fit_same : (v w : SubscriberValue) (o : Option Happening) → w.own ≡ v.own → IsFit v o → IsFit w o
+fit_same : (v w : SubscriberValue) (o : Option SubscriberEvent) → w.own ≡ v.own → IsFit v o → IsFit w o
 fit_same v w None same fit = tt
 fit_same v w (Some x) same fit = subst (λ own. IsFor own x) (sym same) fit
 
-pub awaits_laid : (o : Offer) (v w : SlotValue) → w.subscriber.own ≡ v.subscriber.own → Fits o v → IsLaid w.subscriber (share o v.subscriber.own.grants)
+pub awaits_prepared : (o : Broadcast) (v w : SlotValue) → w.subscriber.own ≡ v.subscriber.own → Fits o v → IsPrepared w.subscriber (share o v.subscriber.own.grants)
     → (w.spared ≡ true → share o v.subscriber.own.grants ≡ None) → Awaits o w
-awaits_laid o v w same fit laid spared =
+awaits_prepared o v w same fit prepared spared =
     let grants : v.subscriber.own.grants ≡ w.subscriber.own.grants = ap (λ (own : Own). own.grants) (sym same) in
     record {
       fit = subst (λ g. IsFit w.subscriber (share o g)) grants (fit_same v.subscriber w.subscriber (share o v.subscriber.own.grants) same fit);
-      laid = subst (λ g. IsLaid w.subscriber (share o g)) grants laid;
+      prepared = subst (λ g. IsPrepared w.subscriber (share o g)) grants prepared;
       spared = λ is. subst (λ g. share o g ≡ None) grants (spared is);
     }
 
@@ -229,8 +229,8 @@ shows_kept v w s own noted shown =
     }
 
 -- one that has no share is spared no more
-pub offer_cleared : (o : Offer) (lost : Bool) (old inner : SlotValue) → inner ≡ old → share o old.subscriber.own.grants ≡ None → Awaits o old
-    → TakesOffer o lost old (0, 0) (record inner { spared = false })
+pub offer_cleared : (o : Broadcast) (lost : Bool) (old inner : SlotValue) → inner ≡ old → share o old.subscriber.own.grants ≡ None → Awaits o old
+    → TakesBroadcast o lost old (0, 0) (record inner { spared = false })
 offer_cleared o lost old inner is none awaits = record {
   shares = λ s h.
       let taken = none_taken o lost old s h none in
@@ -241,5 +241,5 @@ offer_cleared o lost old inner is none awaits = record {
       };
   few = omega arith;
   kept = omega arith;
-  none = subst (λ (v : SlotValue). HasNoCopies v.subscriber) (sym is) (laid_none old.subscriber _ none awaits.laid);
+  none = subst (λ (v : SlotValue). HasNoCopies v.subscriber) (sym is) (prepared_none old.subscriber _ none awaits.prepared);
 }

@@ -7,25 +7,25 @@ use Rattle.pg_wire.specs.declared.refusal.Refusal.{Refusal}
 use Rattle.pg_wire.specs.declared.refusal.Refusal.TheVariants.{NoSuchPmu, NoSuchSub}
 use Rattle.pg_audit.specs.declared.audit.What.{What}
 use Rattle.pg_registry.specs.Registered.{Pmu, pmu_of, has_key}
-use Rattle.pg_session.specs.Events.{Happening}
+use Rattle.pg_session.specs.Events.{SubscriberEvent}
 use Rattle.pg_session.specs.Private as private
 use Rattle.pg_session.specs.Private.{Told, done, refused, handed, refuse, frames_of}
 use Rattle.pg_session.specs.Shown.{Model}
 use Rattle.pg_session.specs.ByAll.{by_arrivals, by_numbers}
-use Rattle.pg_gateway.specs.Occurrences.{Occurrence, add_pmu, drop_pmu, add_sub, drop_sub, grant, asks, announce, measure, tick, stats, pmu_stats, audit, standing, who_waits, Answer, tells, sub_counts, pmu_counts, entry, stands, those_waiting}
+use Rattle.pg_gateway.specs.GatewayEvents.{GatewayEvent, add_pmu, drop_pmu, add_sub, drop_sub, grant, asks, announce, measure, tick, stats, pmu_stats, audit, standing, who_waits, Answer, tells, sub_counts, pmu_counts, entry, stands, those_waiting}
 use Rattle.pg_gateway.specs.Judging.{registered_of}
-use Rattle.pg_gateway.specs.Sharing.{SubscriberSlot, SubscriberSlots, Offer, revokes, announces, measures, ticks, total, fan_out}
-use Rattle.pg_gateway.specs.State.{SharedMachine, slot_of, own_of, at_slot, own_refusal, grant_refusal, granting, taken_in, refusal, Reach, to_all, to_one, adds, drops, to_none, unless, reach, own_frames, frames_reached, made, own_answer, reached_answer, answer, stats_answer, pmu_answer, audit_answer, standing_answer, moved, added, is_refusal, kept_of, slots_after, names, with_note, code_of, slots_noted, next}
+use Rattle.pg_gateway.specs.Sharing.{SubscriberSlot, SubscriberSlots, Broadcast, revokes, announces, measures, ticks, total, broadcast}
+use Rattle.pg_gateway.specs.State.{SharedMachine, slot_of, own_of, at_slot, own_refusal, grant_refusal, granting, taken_in, refusal, Target, to_all, to_one, adds, drops, to_none, unless, target, own_frames, frames_reached, made, own_answer, reached_answer, answer, stats_answer, pmu_answer, audit_answer, standing_answer, moved, added, is_refusal, kept_of, slots_after, names, with_note, code_of, slots_noted, next}
 use Rattle.pg_gateway.specs.Views.{Seen, begins, ends, takes, unless_refused, full_told, private_step, private_run, full_by, full_answer, shared_step, shared_run, part_of, part, view}
-use Rattle.pg_gateway.proofs.SlotLaws.{owned, Alone, Alone-push, Alone-removed, Alone-same, same-at_slot, same-fan_out, lookup-push, lookup-removed, slot_of-at_slot, slot_of-fan_out, own-noted}
+use Rattle.pg_gateway.proofs.SlotLaws.{owned, Alone, Alone-push, Alone-removed, Alone-same, same-at_slot, same-broadcast, lookup-push, lookup-removed, slot_of-at_slot, slot_of-broadcast, own-noted}
 use Rattle.pg_gateway.proofs.ShareLaws.{share_run}
 
 -- the reply of one subscriber, where it is there
-abbrev pub full_own : Option SubscriberSlot → Happening → Told
+abbrev pub full_own : Option SubscriberSlot → SubscriberEvent → Told
 full_own None x = refused NoSuchSub
 full_own (Some s) x = full_told s.own x
 
-pub own_full : (o : Option SubscriberSlot) (x : Happening) → full_by (own_refusal o x) (tells (own_answer o x (own_frames o x))) ≡ tells (full_own o x)
+pub own_full : (o : Option SubscriberSlot) (x : SubscriberEvent) → full_by (own_refusal o x) (tells (own_answer o x (own_frames o x))) ≡ tells (full_own o x)
 own_full None x = refl
 own_full (Some s) x = by (private.refusal by_arrivals by_numbers s.own x)
   where
@@ -34,12 +34,12 @@ own_full (Some s) x = by (private.refusal by_arrivals by_numbers s.own x)
     by None = refl
     by (Some r) = refl
 
-pub granted_full : (o : Option SubscriberSlot) (x : Happening) → full_by (grant_refusal o true x) (tells (own_answer o x (own_frames o x))) ≡ tells (full_own o x)
+pub granted_full : (o : Option SubscriberSlot) (x : SubscriberEvent) → full_by (grant_refusal o true x) (tells (own_answer o x (own_frames o x))) ≡ tells (full_own o x)
 granted_full None x = refl
 granted_full (Some s) x = own_full (Some s) x
 
 -- an event for one subscriber
-pub one_run : (u w : ℕ) (x : Happening) (ss : SubscriberSlots) → owned (slot_of u (at_slot w (moved x (full_own (slot_of w ss) x)) ss))
+pub one_run : (u w : ℕ) (x : SubscriberEvent) (ss : SubscriberSlots) → owned (slot_of u (at_slot w (moved x (full_own (slot_of w ss) x)) ss))
     ≡ private_run (owned (slot_of u ss)) (part_of u (owned (slot_of u ss)) (to_one w x))
 one_run u w x ss = ap owned (slot_of-at_slot u w (moved x (full_own (slot_of w ss) x)) ss) ∙ by (nat_eq u w) refl
   where
@@ -53,8 +53,8 @@ one_run u w x ss = ap owned (slot_of-at_slot u w (moved x (full_own (slot_of w s
     by false is = refl
 
 -- an event for all
-all_run : (u : ℕ) (o : Offer) (ss : SubscriberSlots) → owned (slot_of u (fan_out o ss (total o ss))) ≡ private_run (owned (slot_of u ss)) (part_of u (owned (slot_of u ss)) (to_all o))
-all_run u o ss = ap owned (slot_of-fan_out u o ss) ∙ share_run o (slot_of u ss)
+all_run : (u : ℕ) (o : Broadcast) (ss : SubscriberSlots) → owned (slot_of u (broadcast o ss (total o ss))) ≡ private_run (owned (slot_of u ss)) (part_of u (owned (slot_of u ss)) (to_all o))
+all_run u o ss = ap owned (slot_of-broadcast u o ss) ∙ share_run o (slot_of u ss)
 
 -- a subscriber that is added or dropped
 add_run : (u w size bytes : ℕ) (last : Option ℕ) (ss : SubscriberSlots) → is_some (slot_of w ss) ≡ false → owned (slot_of u (ss ++ (w, added size bytes last) ∷ []))
@@ -73,24 +73,24 @@ drop_run u w ss alone = ap owned (lookup-removed u w ss alone) ∙ by (nat_eq u 
     by false = refl
 
 -- what is noted aside, an event leaves of u what it does to the one or to all that it reaches
-after : (u : ℕ) (S : SharedMachine) (e : Occurrence) (t : Told) → own_of u (next S e (tells t)) ≡ owned (slot_of u (slots_after (reach S e) t S.subs))
-after u S e t = own-noted u (names e) t (slots_after (reach S e) t S.subs)
+after : (u : ℕ) (S : SharedMachine) (e : GatewayEvent) (t : Told) → own_of u (next S e (tells t)) ≡ owned (slot_of u (slots_after (target S e) t S.subs))
+after u S e t = own-noted u (names e) t (slots_after (target S e) t S.subs)
 
 -- an event that reaches nobody where it is refused
-unless_run : (u : ℕ) (S : SharedMachine) (e : Occurrence) (to : Reach) → reach S e ≡ unless (refusal S e) to
-    → answer S e (made S e) ≡ tells (reached_answer (reach S e) S.subs (frames_reached (reach S e) S.subs))
+unless_run : (u : ℕ) (S : SharedMachine) (e : GatewayEvent) (to : Target) → target S e ≡ unless (refusal S e) to
+    → answer S e (made S e) ≡ tells (reached_answer (target S e) S.subs (frames_reached (target S e) S.subs))
     → (refusal S e ≡ None → owned (slot_of u (slots_after to (reached_answer to S.subs (frames_reached to S.subs)) S.subs)) ≡ private_run (own_of u S) (part_of u (own_of u S) to))
     → own_of u (shared_step S e) ≡ private_run (own_of u S) (part u S e)
 unless_run u S e to is says otherwise = rw says (by (refusal S e) refl)
   where
     by : (r : Option Refusal) → refusal S e ≡ r
-        → own_of u (next S e (full_by r (tells (reached_answer (reach S e) S.subs (frames_reached (reach S e) S.subs))))) ≡ private_run (own_of u S) (part u S e)
+        → own_of u (next S e (full_by r (tells (reached_answer (target S e) S.subs (frames_reached (target S e) S.subs))))) ≡ private_run (own_of u S) (part u S e)
     by None none =
-        let same : reach S e ≡ to = is ∙ ap (λ q. unless q to) none in
-        after u S e (reached_answer (reach S e) S.subs (frames_reached (reach S e) S.subs))
+        let same : target S e ≡ to = is ∙ ap (λ q. unless q to) none in
+        after u S e (reached_answer (target S e) S.subs (frames_reached (target S e) S.subs))
         ∙ subst (λ z. owned (slot_of u (slots_after z (reached_answer z S.subs (frames_reached z S.subs)) S.subs)) ≡ private_run (own_of u S) (part_of u (own_of u S) z)) (sym same) (otherwise none)
     by (Some r) some =
-        let same : reach S e ≡ to_none = is ∙ ap (λ q. unless q to) some in
+        let same : target S e ≡ to_none = is ∙ ap (λ q. unless q to) some in
         after u S e (refused r)
         ∙ subst (λ z. owned (slot_of u (slots_after z (refused r) S.subs)) ≡ private_run (own_of u S) (part_of u (own_of u S) z)) (sym same) refl
 
@@ -100,7 +100,7 @@ first_false true r o is = cc
 first_false false r o is = refl
 
 -- one step
-pub own-step : (u : ℕ) (S : SharedMachine) (e : Occurrence) → Alone S.subs → own_of u (shared_step S e) ≡ private_run (own_of u S) (part u S e)
+pub own-step : (u : ℕ) (S : SharedMachine) (e : GatewayEvent) → Alone S.subs → own_of u (shared_step S e) ≡ private_run (own_of u S) (part u S e)
 own-step u S (add_pmu key) alone = by (refusal S (add_pmu key))
   where
     by : (r : Option Refusal) → own_of u (next S (add_pmu key) (full_by r (tells (done 0 0)))) ≡ own_of u S
@@ -112,10 +112,10 @@ own-step u S (add_sub w size bytes) alone =
 own-step u S (drop_sub w) alone = unless_run u S (drop_sub w) _ refl refl (λ _. drop_run u w S.subs alone)
 own-step u S (grant w key) alone = by (has_key S.pmus key) refl
   where
-    x : Happening
+    x : SubscriberEvent
     x = granting S key
 
-    to : Bool → Reach
+    to : Bool → Target
     to b = if b then to_one w x else to_none
 
     refused_to : (r : Refusal) → has_key S.pmus key ≡ false → own_of u (next S (grant w key) (tells (refused r))) ≡ own_of u S
@@ -166,18 +166,18 @@ own-step u S (standing w place) alone = by (refusal S (standing w place)) (slot_
     by (Some r) o = refl
 
 -- numbers stay apart
-abbrev Fresh : Reach → SubscriberSlots → Type 0
+abbrev Fresh : Target → SubscriberSlots → Type 0
 Fresh (to_all o) ss = Unit {0}
 Fresh (to_one w x) ss = Unit {0}
 Fresh (adds w size bytes last) ss = is_some (slot_of w ss) ≡ false
 Fresh (drops w) ss = Unit {0}
 Fresh to_none ss = Unit {0}
 
-fresh_unless : (r : Option Refusal) (to : Reach) (ss : SubscriberSlots) → (r ≡ None → Fresh to ss) → Fresh (unless r to) ss
+fresh_unless : (r : Option Refusal) (to : Target) (ss : SubscriberSlots) → (r ≡ None → Fresh to ss) → Fresh (unless r to) ss
 fresh_unless None to ss fresh = fresh refl
 fresh_unless (Some r) to ss fresh = tt
 
-fresh_reach : (S : SharedMachine) (e : Occurrence) → Fresh (reach S e) S.subs
+fresh_reach : (S : SharedMachine) (e : GatewayEvent) → Fresh (target S e) S.subs
 fresh_reach S (add_pmu key) = tt
 fresh_reach S (drop_pmu key) = fresh_unless (refusal S (drop_pmu key)) (to_all (revokes key)) S.subs (λ _. tt)
 fresh_reach S (add_sub w size bytes) =
@@ -194,12 +194,12 @@ fresh_reach S (who_waits us) = tt
 fresh_reach S (audit w index) = tt
 fresh_reach S (standing w place) = tt
 
-Alone-after : (to : Reach) (t : Told) (ss : SubscriberSlots) → Fresh to ss → Alone ss → Alone (slots_after to t ss)
+Alone-after : (to : Target) (t : Told) (ss : SubscriberSlots) → Fresh to ss → Alone ss → Alone (slots_after to t ss)
 Alone-after (to_all o) t ss fresh alone = by (is_refusal t)
   where
-    by : (b : Bool) → Alone (if b then ss else fan_out o ss (kept_of t))
+    by : (b : Bool) → Alone (if b then ss else broadcast o ss (kept_of t))
     by true = alone
-    by false = Alone-same ss (fan_out o ss (kept_of t)) (same-fan_out o ss (kept_of t)) alone
+    by false = Alone-same ss (broadcast o ss (kept_of t)) (same-broadcast o ss (kept_of t)) alone
 Alone-after (to_one w x) t ss fresh alone = Alone-same ss (at_slot w (moved x t) ss) (same-at_slot w (moved x t) ss) alone
 Alone-after (adds w size bytes last) t ss fresh alone = by (is_refusal t)
   where
@@ -217,9 +217,9 @@ Alone-noted : (named : Option (ℕ × What)) (t : Told) (ss : SubscriberSlots) �
 Alone-noted None t ss alone = alone
 Alone-noted (Some n) t ss alone = Alone-same ss (at_slot n.0 (with_note (n.1, code_of t)) ss) (same-at_slot n.0 (with_note (n.1, code_of t)) ss) alone
 
-pub Alone-next : (S : SharedMachine) (e : Occurrence) (a : Answer) → Alone S.subs → Alone (next S e a).subs
+pub Alone-next : (S : SharedMachine) (e : GatewayEvent) (a : Answer) → Alone S.subs → Alone (next S e a).subs
 Alone-next S e (tells t) alone =
-    Alone-noted (names e) t (slots_after (reach S e) t S.subs) (Alone-after (reach S e) t S.subs (fresh_reach S e) alone)
+    Alone-noted (names e) t (slots_after (target S e) t S.subs) (Alone-after (target S e) t S.subs (fresh_reach S e) alone)
 Alone-next S e (sub_counts s) alone = alone
 Alone-next S e (pmu_counts s) alone = alone
 Alone-next S e (those_waiting us) alone = alone
@@ -231,7 +231,7 @@ private_run-append o [] ys = refl
 private_run-append o (x ∷ xs) ys = private_run-append (private_step o x) xs ys
 
 -- any events
-pub own-run : (u : ℕ) (S : SharedMachine) (es : List Occurrence) → Alone S.subs → own_of u (shared_run S es) ≡ private_run (own_of u S) (view u S es)
+pub own-run : (u : ℕ) (S : SharedMachine) (es : List GatewayEvent) → Alone S.subs → own_of u (shared_run S es) ≡ private_run (own_of u S) (view u S es)
 own-run u S [] alone = refl
 own-run u S (e ∷ es) alone =
     let rest = own-run u (shared_step S e) es (Alone-next S e (full_answer S e) alone) in

@@ -6,9 +6,9 @@ use Rattle.pg_entitle.specs.Grants.{has_key, IsGrantList}
 use Rattle.pg_outcfg.specs.Listing.{config_at}
 use Rattle.pg_registry.specs.Registered.{Pmus, IsRegistry, config_in}
 use Rattle.pg_session.specs.Events as own
-use Rattle.pg_session.specs.Events.{Happening}
+use Rattle.pg_session.specs.Events.{SubscriberEvent}
 use Rattle.pg_session.specs.Shown.{Model}
-use Rattle.pg_gateway.specs.Occurrences.{Occurrence, add_pmu, drop_pmu, add_sub, drop_sub, grant, asks, announce, measure, tick, stats, pmu_stats, audit, standing, who_waits}
+use Rattle.pg_gateway.specs.GatewayEvents.{GatewayEvent, add_pmu, drop_pmu, add_sub, drop_sub, grant, asks, announce, measure, tick, stats, pmu_stats, audit, standing, who_waits}
 use Rattle.pg_gateway.specs.Sharing.{SubscriberSlots}
 use Rattle.pg_gateway.specs.State.{SharedMachine}
 use Rattle.pg_gateway.specs.Shown.{GatewayValue, GatewayShows}
@@ -39,7 +39,7 @@ pub record IsReached (v : GatewayValue) : Type 0 where
   pub consistent : IsConsistent state
 
 -- what one subscriber is asked for itself alone
-abbrev pub IsOwn : Happening → Type 0
+abbrev pub IsOwn : SubscriberEvent → Type 0
 IsOwn (own.grant key config) = ⊥
 IsOwn (own.announce list) = ⊥
 IsOwn (own.measure soc quality frac samples) = ⊥
@@ -53,7 +53,7 @@ IsOwn (own.command number word) = Unit {0}
 IsOwn (own.drain n) = Unit {0}
 
 -- An event of the code is so: what a source announced was read, and what is for one subscriber alone is of these seven.
-abbrev pub IsPosted : Occurrence → Type 0
+abbrev pub IsPosted : GatewayEvent → Type 0
 IsPosted (announce config) = IsSource config
 IsPosted (asks u x) = IsOwn x
 IsPosted (add_pmu key) = Unit {0}

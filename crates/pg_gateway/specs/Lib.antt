@@ -1,6 +1,6 @@
 -- Definitions that the contracts of the gateway cite, in the order in which to read them. What happens, which blocks of a frame
 -- are taken, what an event for all is to each subscriber, and the shared machine with its `May` and `next`:
-pub mod Occurrences
+pub mod GatewayEvents
 pub mod Judging
 pub mod Sharing
 pub mod State

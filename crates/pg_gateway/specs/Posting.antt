@@ -5,19 +5,19 @@ use Rattle.pg_gateway.specs.declared.event.Event.TheVariants as event
 use Rattle.pg_session.specs.Ready.{handed_len}
 use Rattle.pg_gateway.specs.declared.event.Reply.{Reply}
 use Rattle.pg_gateway.specs.declared.event.Reply.TheVariants as reply
-use Rattle.pg_gateway.specs.Occurrences.{Occurrence, Answer, add_pmu, drop_pmu, add_sub, drop_sub, grant, asks, announce, measure, tick, stats, pmu_stats, audit, standing, who_waits}
+use Rattle.pg_gateway.specs.GatewayEvents.{GatewayEvent, Answer, add_pmu, drop_pmu, add_sub, drop_sub, grant, asks, announce, measure, tick, stats, pmu_stats, audit, standing, who_waits}
 
 -- an event and what it was answered
 abbrev pub Posted : Type 0
-Posted = Occurrence × Answer
+Posted = GatewayEvent × Answer
 
 -- what a gate posts of an event: the event with its answer, where it takes the event
-abbrev pub posted_if : Bool → Occurrence → Answer → List Posted
+abbrev pub posted_if : Bool → GatewayEvent → Answer → List Posted
 posted_if true o a = (o, a) ∷ []
 posted_if false o a = []
 
 -- a source's data frame came
-abbrev pub IsMeasured : Occurrence → Type 0
+abbrev pub IsMeasured : GatewayEvent → Type 0
 IsMeasured (measure m) = Unit {0}
 IsMeasured (add_pmu key) = ⊥
 IsMeasured (drop_pmu key) = ⊥

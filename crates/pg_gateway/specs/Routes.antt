@@ -8,9 +8,9 @@ use Rattle.pg_config.specs.Parts.{Source}
 use Rattle.pg_entitle.specs.Grants.{has_key}
 use Rattle.pg_registry.specs.Registered.{Pmus}
 use Rattle.pg_session.specs.Events as own
-use Rattle.pg_session.specs.Events.{Happening}
-use Rattle.pg_gateway.specs.Occurrences.{Occurrence, add_pmu, drop_pmu, add_sub, drop_sub, grant, asks, announce, measure, tick, stats, pmu_stats, audit, standing, who_waits}
-use Rattle.pg_gateway.specs.Sharing.{Offer, share}
+use Rattle.pg_session.specs.Events.{SubscriberEvent}
+use Rattle.pg_gateway.specs.GatewayEvents.{GatewayEvent, add_pmu, drop_pmu, add_sub, drop_sub, grant, asks, announce, measure, tick, stats, pmu_stats, audit, standing, who_waits}
+use Rattle.pg_gateway.specs.Sharing.{Broadcast, share}
 use Rattle.pg_gateway.specs.Shown.{SlotValue, GatewayValue}
 use Rattle.pg_gateway.specs.Taking.{part_passes}
 
@@ -23,7 +23,7 @@ abbrev pub HasBits : ℕ → ℕ → Type 0
 HasBits len n = (j : ℕ) → len ≤ j → bit_at n j ≡ 0
 
 -- the event is nothing to it
-abbrev pub IsPassed : Offer → SlotValue → Type 0
+abbrev pub IsPassed : Broadcast → SlotValue → Type 0
 IsPassed o v = share o v.subscriber.own.grants ≡ None
 
 -- the bit of a subscriber in the mask of a PMU
@@ -77,17 +77,17 @@ pub record TellsShare (whole : Bool) (n : ℕ) (source : Source) (places : List 
 
 -- So it is for each marked subscriber: it holds the whole where its bit is set in `common`, and else its number tells.
 abbrev pub SharesTold : ℕ → List ℕ → Source → List ℕ → ℕ → List (ℕ × SlotValue) → Type 0
-SharesTold common turned source places marks entries =
-    (j : ℕ) (v : SlotValue) → slice_get (values_of entries) j ≡ Some v → bit_at marks j ≡ 1
-    → TellsShare (nat_eq (bit_at common j) 1) (get_or turned j 0) source places v
+SharesTold granted_all granted_blocks source places granted_some entries =
+    (j : ℕ) (v : SlotValue) → slice_get (values_of entries) j ≡ Some v → bit_at granted_some j ≡ 1
+    → TellsShare (nat_eq (bit_at granted_all j) 1) (get_or granted_blocks j 0) source places v
 
 -- where a bit is set in `common`, each mask has it set
-abbrev pub IsCommon : ℕ → List ℕ → Type 0
-IsCommon common masks = (j : ℕ) → nat_eq (bit_at common j) 1 ≡ true → (i : ℕ) → i < length masks → nat_eq (bit_at (get_or masks i 0) j) 1 ≡ true
+abbrev pub AreGrantedAll : ℕ → List ℕ → Type 0
+AreGrantedAll granted_all masks = (j : ℕ) → nat_eq (bit_at granted_all j) 1 ≡ true → (i : ℕ) → i < length masks → nat_eq (bit_at (get_or masks i 0) j) 1 ≡ true
 
 -- The masks are turned for the subscribers of some bits: what is bit j of mask i, is bit i of number j.
-abbrev pub IsTurned : ℕ → List ℕ → List ℕ → Type 0
-IsTurned some masks turned = (j : ℕ) → bit_at some j ≡ 1 → (i : ℕ) → bit_at (get_or turned j 0) i ≡ bit_at (get_or masks i 0) j
+abbrev pub AreGranted : ℕ → List ℕ → List ℕ → Type 0
+AreGranted some masks granted_blocks = (j : ℕ) → bit_at some j ≡ 1 → (i : ℕ) → bit_at (get_or granted_blocks j 0) i ≡ bit_at (get_or masks i 0) j
 
 -- the masks that are kept, and whether nothing happened since that may have changed who holds what
 pub record RoutesValue : Type 0 where
@@ -102,7 +102,7 @@ abbrev pub IsRouted : GatewayValue → RoutesValue → Type 0
 IsRouted v routes = AreRoutes v.subs v.pmus routes
 
 -- Events that change no grant, no subscriber's place and no PMU's place.
-abbrev pub KeepsOwn : Happening → Type 0
+abbrev pub KeepsOwn : SubscriberEvent → Type 0
 KeepsOwn (own.grant key config) = ⊥
 KeepsOwn (own.announce list) = ⊥
 KeepsOwn (own.measure soc quality frac samples) = ⊥
@@ -115,7 +115,7 @@ KeepsOwn own.hangup = Unit {0}
 KeepsOwn (own.command number word) = Unit {0}
 KeepsOwn (own.drain n) = Unit {0}
 
-abbrev pub KeepsRoutes : Occurrence → Type 0
+abbrev pub KeepsRoutes : GatewayEvent → Type 0
 KeepsRoutes (add_pmu key) = ⊥
 KeepsRoutes (drop_pmu key) = ⊥
 KeepsRoutes (add_sub u size bytes) = ⊥

@@ -6,7 +6,7 @@ use Rattle.pg_audit.specs.Noting as audit
 use Rattle.pg_audit.specs.Noting.{AuditValue}
 use Rattle.pg_session.specs.Shown as session
 use Rattle.pg_session.specs.Shown.{SubscriberValue}
-use Rattle.pg_gateway.specs.Occurrences.{Occurrence, Answer}
+use Rattle.pg_gateway.specs.GatewayEvents.{GatewayEvent, Answer}
 use Rattle.pg_gateway.specs.Sharing.{SubscriberSlot}
 use Rattle.pg_gateway.specs.State.{SharedMachine, May, next}
 use Rattle.pg_gateway.specs.Related.{Related}
@@ -43,10 +43,10 @@ pub record GatewayShows (v : GatewayValue) (S : SharedMachine) : Type 0 where
   pub last_tick : v.last_tick ≡ S.last_tick
 
 -- This answer may come to the event in this state, and the value then shows the state's successor.
-pub record Steps (S : SharedMachine) (e : Occurrence) (a : Answer) (v : GatewayValue) : Type 0 where
+pub record Steps (S : SharedMachine) (e : GatewayEvent) (a : Answer) (v : GatewayValue) : Type 0 where
   pub may : May S e a
   pub shows : GatewayShows v (next S e a)
 
 -- Whatever state the value shows before the event, the answer follows from that state.
-abbrev pub Goes : GatewayValue → Occurrence → Answer → GatewayValue → Type 0
+abbrev pub Goes : GatewayValue → GatewayEvent → Answer → GatewayValue → Type 0
 Goes old e a new = (S : SharedMachine) → GatewayShows old S → Steps S e a new

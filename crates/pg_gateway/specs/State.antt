@@ -14,15 +14,15 @@ use Rattle.pg_data.specs.Measurements.{Measurement}
 use Rattle.pg_ring.specs.Shown.{frames_to_leave}
 use Rattle.pg_ring.specs.Numbers.{shown_of}
 use Rattle.pg_session.specs.Events as own
-use Rattle.pg_session.specs.Events.{Happening, Announcing, Sample}
+use Rattle.pg_session.specs.Events.{SubscriberEvent, Announcing, Sample}
 use Rattle.pg_session.specs.Private as private
 use Rattle.pg_session.specs.Private.{Told, done, refused, handed, refuse, frames_of}
 use Rattle.pg_session.specs.Shown.{Model, begin}
 use Rattle.pg_session.specs.ByAll.{by_arrivals, by_numbers}
 use Rattle.pg_session.specs.Standing.{standing_of}
-use Rattle.pg_gateway.specs.Occurrences.{Occurrence, add_pmu, drop_pmu, add_sub, drop_sub, grant, asks, announce, measure, tick, stats, pmu_stats, audit, standing, who_waits, Answer, tells, sub_counts, pmu_counts, entry, stands, those_waiting}
+use Rattle.pg_gateway.specs.GatewayEvents.{GatewayEvent, add_pmu, drop_pmu, add_sub, drop_sub, grant, asks, announce, measure, tick, stats, pmu_stats, audit, standing, who_waits, Answer, tells, sub_counts, pmu_counts, entry, stands, those_waiting}
 use Rattle.pg_gateway.specs.Judging.{registered_of, judged, taken_of, first_refusal, blocks_counted, all_announced, memory_counted}
-use Rattle.pg_gateway.specs.Sharing.{SubscriberSlot, SubscriberSlots, Offer, revokes, announces, measures, ticks, total, fan_out}
+use Rattle.pg_gateway.specs.Sharing.{SubscriberSlot, SubscriberSlots, Broadcast, revokes, announces, measures, ticks, total, broadcast}
 
 pub record SharedMachine : Type 0 where
   pub pmus : Pmus
@@ -46,11 +46,11 @@ at_slot u change [] = []
 at_slot u change (s ∷ slots) = if nat_eq u s.0 then (s.0, change s.1) ∷ slots else s ∷ at_slot u change slots
 
 -- the first refusal of an event for one subscriber, want of memory aside
-abbrev pub own_refusal : Option SubscriberSlot → Happening → Option Refusal
+abbrev pub own_refusal : Option SubscriberSlot → SubscriberEvent → Option Refusal
 own_refusal None x = Some NoSuchSub
 own_refusal (Some s) x = private.refusal by_arrivals by_numbers s.own x
 
-abbrev pub grant_refusal : Option SubscriberSlot → Bool → Happening → Option Refusal
+abbrev pub grant_refusal : Option SubscriberSlot → Bool → SubscriberEvent → Option Refusal
 grant_refusal None registered x = Some NoSuchSub
 grant_refusal (Some s) registered x = refuse (not registered) NoSuchPmu (private.refusal by_arrivals by_numbers s.own x)
 
@@ -71,11 +71,11 @@ module _ (S : SharedMachine) where
   judged_in m = judged S.pmus S.last_tick m
 
   -- a PMU is granted with what it has announced by then
-  abbrev pub granting : PmuKey → Happening
+  abbrev pub granting : PmuKey → SubscriberEvent
   granting key = own.grant key (config_in S.pmus key)
 
   -- the first refusal of an event that holds, want of memory aside
-  abbrev pub refusal : Occurrence → Option Refusal
+  abbrev pub refusal : GatewayEvent → Option Refusal
   refusal (add_pmu key) = refuse (has_key S.pmus key) PmuExists (refuse (nat_le 256 (length S.pmus)) PmusFull None)
   refusal (drop_pmu key) = refuse (not (has_key S.pmus key)) NoSuchPmu None
   refusal (add_sub u size bytes) = refuse (is_some (slot_of u S.subs)) SubExists (refuse (nat_le 64 (length S.subs)) SubsFull None)
@@ -92,7 +92,7 @@ module _ (S : SharedMachine) where
   refusal (standing u place) = refuse (not (is_some (slot_of u S.subs))) NoSuchSub None
 
 -- events that may be refused for want of memory
-abbrev pub takes_memory : Occurrence → Bool
+abbrev pub takes_memory : GatewayEvent → Bool
 takes_memory (add_pmu key) = true
 takes_memory (drop_pmu key) = false
 takes_memory (add_sub u size bytes) = true
@@ -109,56 +109,56 @@ takes_memory (audit u index) = false
 takes_memory (standing u place) = false
 
 -- whom an event reaches, and as what
-pub data Reach : Type 0 where
-  to_all : Offer → Reach
-  to_one : ℕ → Happening → Reach
+pub data Target : Type 0 where
+  to_all : Broadcast → Target
+  to_one : ℕ → SubscriberEvent → Target
   -- a subscriber is added: its number, ring size, ring bytes, and the last tick
-  adds : ℕ → ℕ → ℕ → Option ℕ → Reach
-  drops : ℕ → Reach
-  to_none : Reach
+  adds : ℕ → ℕ → ℕ → Option ℕ → Target
+  drops : ℕ → Target
+  to_none : Target
 
 -- whom it reaches where it is not refused
-abbrev pub unless : Option Refusal → Reach → Reach
-unless None reach = reach
-unless (Some r) reach = to_none
+abbrev pub unless : Option Refusal → Target → Target
+unless None target = target
+unless (Some r) target = to_none
 
-abbrev pub reach : SharedMachine → Occurrence → Reach
-reach S (add_pmu key) = to_none
-reach S (drop_pmu key) = unless (refusal S (drop_pmu key)) (to_all (revokes key))
-reach S (add_sub u size bytes) = unless (refusal S (add_sub u size bytes)) (adds u size bytes S.last_tick)
-reach S (drop_sub u) = unless (refusal S (drop_sub u)) (drops u)
-reach S (grant u key) = if has_key S.pmus key then to_one u (granting S key) else to_none
-reach S (asks u x) = to_one u x
-reach S (announce config) = unless (refusal S (announce config)) (to_all (announces (registered_of S.pmus config)))
-reach S (measure m) = unless (refusal S (measure m)) (to_all (measures m.soc m.quality m.frac (taken_in S m)))
-reach S (tick soc) = to_all (ticks soc)
-reach S (stats u) = to_none
-reach S (pmu_stats key) = to_none
-reach S (who_waits us) = to_none
-reach S (audit u index) = to_none
-reach S (standing u place) = to_none
+abbrev pub target : SharedMachine → GatewayEvent → Target
+target S (add_pmu key) = to_none
+target S (drop_pmu key) = unless (refusal S (drop_pmu key)) (to_all (revokes key))
+target S (add_sub u size bytes) = unless (refusal S (add_sub u size bytes)) (adds u size bytes S.last_tick)
+target S (drop_sub u) = unless (refusal S (drop_sub u)) (drops u)
+target S (grant u key) = if has_key S.pmus key then to_one u (granting S key) else to_none
+target S (asks u x) = to_one u x
+target S (announce config) = unless (refusal S (announce config)) (to_all (announces (registered_of S.pmus config)))
+target S (measure m) = unless (refusal S (measure m)) (to_all (measures m.soc m.quality m.frac (taken_in S m)))
+target S (tick soc) = to_all (ticks soc)
+target S (stats u) = to_none
+target S (pmu_stats key) = to_none
+target S (who_waits us) = to_none
+target S (audit u index) = to_none
+target S (standing u place) = to_none
 
 -- the frames that an event makes for the one that it reaches, or for all
-abbrev pub own_frames : Option SubscriberSlot → Happening → ℕ
+abbrev pub own_frames : Option SubscriberSlot → SubscriberEvent → ℕ
 own_frames None x = 0
 own_frames (Some s) x = length (frames_of by_arrivals by_numbers s.own x)
 
-abbrev pub frames_reached : Reach → SubscriberSlots → ℕ
+abbrev pub frames_reached : Target → SubscriberSlots → ℕ
 frames_reached (to_all o) slots = total o slots
 frames_reached (to_one u x) slots = own_frames (slot_of u slots) x
 frames_reached (adds u size bytes last) slots = 0
 frames_reached (drops u) slots = 0
 frames_reached to_none slots = 0
 
-abbrev pub made : SharedMachine → Occurrence → ℕ
-made S e = frames_reached (reach S e) S.subs
+abbrev pub made : SharedMachine → GatewayEvent → ℕ
+made S e = frames_reached (target S e) S.subs
 
 -- the reply to an event that is not refused, with k of the frames made kept
-abbrev pub own_answer : Option SubscriberSlot → Happening → ℕ → Told
+abbrev pub own_answer : Option SubscriberSlot → SubscriberEvent → ℕ → Told
 own_answer None x k = refused NoSuchSub
 own_answer (Some s) x k = private.answer by_arrivals by_numbers s.own x k
 
-abbrev pub reached_answer : Reach → SubscriberSlots → ℕ → Told
+abbrev pub reached_answer : Target → SubscriberSlots → ℕ → Told
 reached_answer (to_all o) slots k = done (total o slots) k
 reached_answer (to_one u x) slots k = own_answer (slot_of u slots) x k
 reached_answer (adds u size bytes last) slots k = done 0 k
@@ -189,16 +189,16 @@ has_waiting (Some s) = nat_lt 0 (frames_to_leave (shown_of s.own.output.queue))
 abbrev pub waiting_among : SubscriberSlots → List ℕ → List ℕ
 waiting_among slots us = filter (λ u. has_waiting (slot_of u slots)) us
 
-abbrev pub answer : SharedMachine → Occurrence → ℕ → Answer
-answer S (add_pmu key) k = tells (reached_answer (reach S (add_pmu key)) S.subs k)
-answer S (drop_pmu key) k = tells (reached_answer (reach S (drop_pmu key)) S.subs k)
-answer S (add_sub u size bytes) k = tells (reached_answer (reach S (add_sub u size bytes)) S.subs k)
-answer S (drop_sub u) k = tells (reached_answer (reach S (drop_sub u)) S.subs k)
-answer S (grant u key) k = tells (reached_answer (reach S (grant u key)) S.subs k)
-answer S (asks u x) k = tells (reached_answer (reach S (asks u x)) S.subs k)
-answer S (announce config) k = tells (reached_answer (reach S (announce config)) S.subs k)
-answer S (measure m) k = tells (reached_answer (reach S (measure m)) S.subs k)
-answer S (tick soc) k = tells (reached_answer (reach S (tick soc)) S.subs k)
+abbrev pub answer : SharedMachine → GatewayEvent → ℕ → Answer
+answer S (add_pmu key) k = tells (reached_answer (target S (add_pmu key)) S.subs k)
+answer S (drop_pmu key) k = tells (reached_answer (target S (drop_pmu key)) S.subs k)
+answer S (add_sub u size bytes) k = tells (reached_answer (target S (add_sub u size bytes)) S.subs k)
+answer S (drop_sub u) k = tells (reached_answer (target S (drop_sub u)) S.subs k)
+answer S (grant u key) k = tells (reached_answer (target S (grant u key)) S.subs k)
+answer S (asks u x) k = tells (reached_answer (target S (asks u x)) S.subs k)
+answer S (announce config) k = tells (reached_answer (target S (announce config)) S.subs k)
+answer S (measure m) k = tells (reached_answer (target S (measure m)) S.subs k)
+answer S (tick soc) k = tells (reached_answer (target S (tick soc)) S.subs k)
 answer S (stats u) k = stats_answer (slot_of u S.subs)
 answer S (pmu_stats key) k = pmu_answer (pmu_of S.pmus key)
 answer S (who_waits us) k = those_waiting (waiting_among S.subs us)
@@ -206,7 +206,7 @@ answer S (audit u index) k = audit_answer (slot_of u S.subs) index
 answer S (standing u place) k = standing_answer (slot_of u S.subs) place
 
 -- This answer may come to the event: its first refusal, or the reply with some of the frames made kept, or want of memory.
-abbrev pub May : SharedMachine → Occurrence → Answer → Type 0
+abbrev pub May : SharedMachine → GatewayEvent → Answer → Type 0
 May S e a = MatchOption (refusal S e)
     (((k : ℕ) × (k ≤ made S e) × (a ≡ answer S e k)) ⊎ ((a ≡ tells (refused NoMemory)) × (takes_memory e ≡ true)))
     (λ first. a ≡ tells (refused first))
@@ -228,21 +228,21 @@ kept_of (refused r) = 0
 kept_of (handed bytes begun gap) = 0
 
 -- the subscribers after a reply
-abbrev pub moved : Happening → Told → SubscriberSlot → SubscriberSlot
+abbrev pub moved : SubscriberEvent → Told → SubscriberSlot → SubscriberSlot
 moved x t s = record s { own = private.next by_arrivals by_numbers s.own x t }
 
 abbrev pub added : ℕ → ℕ → Option ℕ → SubscriberSlot
 added size bytes last = record { own = begin size bytes last; noted = [] }
 
-abbrev pub slots_after : Reach → Told → SubscriberSlots → SubscriberSlots
-slots_after (to_all o) t slots = if is_refusal t then slots else fan_out o slots (kept_of t)
+abbrev pub slots_after : Target → Told → SubscriberSlots → SubscriberSlots
+slots_after (to_all o) t slots = if is_refusal t then slots else broadcast o slots (kept_of t)
 slots_after (to_one u x) t slots = at_slot u (moved x t) slots
 slots_after (adds u size bytes last) t slots = if is_refusal t then slots else slots ++ (u, added size bytes last) ∷ []
 slots_after (drops u) t slots = if is_refusal t then slots else remove_entry (nat_eq u) slots
 slots_after to_none t slots = slots
 
 -- The events that are noted at the subscriber that they name, and as what. A drain is not.
-abbrev pub noted_as : Happening → Option What
+abbrev pub noted_as : SubscriberEvent → Option What
 noted_as (own.grant key config) = Some Grant
 noted_as (own.revoke key) = Some Revoke
 noted_as (own.announce list) = None
@@ -255,7 +255,7 @@ noted_as own.hangup = Some Hangup
 noted_as (own.command number word) = Some Command
 noted_as (own.drain n) = None
 
-abbrev pub names : Occurrence → Option (ℕ × What)
+abbrev pub names : GatewayEvent → Option (ℕ × What)
 names (add_pmu key) = None
 names (drop_pmu key) = None
 names (add_sub u size bytes) = Some (u, AddSub)
@@ -286,7 +286,7 @@ slots_noted None t slots = slots
 slots_noted (Some named) t slots = at_slot named.0 (with_note (named.1, code_of t)) slots
 
 -- the registered PMUs after a reply, with what each announced and with its counters
-abbrev pub pmus_after : SharedMachine → Occurrence → Told → Pmus
+abbrev pub pmus_after : SharedMachine → GatewayEvent → Told → Pmus
 pmus_after S (add_pmu key) t = if is_refusal t then S.pmus else S.pmus ++ (key, unannounced) ∷ []
 pmus_after S (drop_pmu key) t = if is_refusal t then S.pmus else remove_entry (key_eq key) S.pmus
 pmus_after S (add_sub u size bytes) t = S.pmus
@@ -308,7 +308,7 @@ pmus_after S (who_waits us) t = S.pmus
 pmus_after S (audit u index) t = S.pmus
 pmus_after S (standing u place) t = S.pmus
 
-abbrev pub tick_after : Option ℕ → Occurrence → Option ℕ
+abbrev pub tick_after : Option ℕ → GatewayEvent → Option ℕ
 tick_after last (add_pmu key) = last
 tick_after last (drop_pmu key) = last
 tick_after last (add_sub u size bytes) = last
@@ -325,11 +325,11 @@ tick_after last (audit u index) = last
 tick_after last (standing u place) = last
 
 -- the state after an event and its answer
-abbrev pub next : SharedMachine → Occurrence → Answer → SharedMachine
+abbrev pub next : SharedMachine → GatewayEvent → Answer → SharedMachine
 next S e (tells t) =
     record {
       pmus = pmus_after S e t;
-      subs = slots_noted (names e) t (slots_after (reach S e) t S.subs);
+      subs = slots_noted (names e) t (slots_after (target S e) t S.subs);
       last_tick = tick_after S.last_tick e;
     }
 next S e (sub_counts s) = S

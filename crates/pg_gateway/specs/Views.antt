@@ -2,14 +2,14 @@
 use Rattle.std.specs.Prelude.{◌≢◌, ℕ, ◌≤◌, ◌&&◌, nat_eq, if◌then◌else◌, is_some, List, [], ◌∷◌, ◌++◌, length, Option, Some, None}
 use Rattle.pg_wire.specs.declared.refusal.Refusal.{Refusal}
 use Rattle.pg_wire.specs.declared.refusal.Refusal.TheVariants.{NoMemory}
-use Rattle.pg_session.specs.Events.{Happening}
+use Rattle.pg_session.specs.Events.{SubscriberEvent}
 use Rattle.pg_session.specs.Private as session
 use Rattle.pg_session.specs.Private.{Told, done, refused, handed, frames_of}
 use Rattle.pg_session.specs.Shown.{Model, begin}
 use Rattle.pg_session.specs.ByAll.{by_arrivals, by_numbers}
-use Rattle.pg_gateway.specs.Occurrences.{Occurrence, add_pmu, drop_pmu, add_sub, drop_sub, grant, asks, announce, measure, tick, stats, pmu_stats, audit, standing, who_waits, Answer, tells, sub_counts, pmu_counts, entry, stands, those_waiting}
-use Rattle.pg_gateway.specs.Sharing.{Offer, share}
-use Rattle.pg_gateway.specs.State.{SharedMachine, own_of, refusal, Reach, to_all, to_one, adds, drops, to_none, reach, made, answer, next}
+use Rattle.pg_gateway.specs.GatewayEvents.{GatewayEvent, add_pmu, drop_pmu, add_sub, drop_sub, grant, asks, announce, measure, tick, stats, pmu_stats, audit, standing, who_waits, Answer, tells, sub_counts, pmu_counts, entry, stands, those_waiting}
+use Rattle.pg_gateway.specs.Sharing.{Broadcast, share}
+use Rattle.pg_gateway.specs.State.{SharedMachine, own_of, refusal, Target, to_all, to_one, adds, drops, to_none, target, made, answer, next}
 
 -- what a private gateway is told
 pub data Seen : Type 0 where
@@ -17,14 +17,14 @@ pub data Seen : Type 0 where
   begins : ℕ → ℕ → Option ℕ → Seen
   -- it is dropped
   ends : Seen
-  takes : Happening → Seen
+  takes : SubscriberEvent → Seen
 
 -- the reply of a private gateway that lacks no memory: all frames are kept
 abbrev pub unless_refused : Option Refusal → Told → Told
 unless_refused None told = told
 unless_refused (Some r) told = refused r
 
-abbrev pub full_told : Model → Happening → Told
+abbrev pub full_told : Model → SubscriberEvent → Told
 full_told p x =
     unless_refused (session.refusal by_arrivals by_numbers p x)
     (session.answer by_arrivals by_numbers p x (length (frames_of by_arrivals by_numbers p x)))
@@ -65,41 +65,41 @@ abbrev pub full_by : Option Refusal → Answer → Answer
 full_by None a = a
 full_by (Some r) a = tells (refused r)
 
-abbrev pub full_answer : SharedMachine → Occurrence → Answer
+abbrev pub full_answer : SharedMachine → GatewayEvent → Answer
 full_answer S e = full_by (refusal S e) (answer S e (made S e))
 
-abbrev pub shared_step : SharedMachine → Occurrence → SharedMachine
+abbrev pub shared_step : SharedMachine → GatewayEvent → SharedMachine
 shared_step S e = next S e (full_answer S e)
 
-abbrev pub shared_run : SharedMachine → List Occurrence → SharedMachine
+abbrev pub shared_run : SharedMachine → List GatewayEvent → SharedMachine
 shared_run S [] = S
 shared_run S (e ∷ es) = shared_run (shared_step S e) es
 
-abbrev pub full_answers : SharedMachine → List Occurrence → List Answer
+abbrev pub full_answers : SharedMachine → List GatewayEvent → List Answer
 full_answers S [] = []
 full_answers S (e ∷ es) = full_answer S e ∷ full_answers (shared_step S e) es
 
-abbrev pub as_seen : Option Happening → List Seen
+abbrev pub as_seen : Option SubscriberEvent → List Seen
 as_seen None = []
 as_seen (Some x) = takes x ∷ []
 
-abbrev pub share_seen : Offer → Option Model → List Seen
+abbrev pub share_seen : Broadcast → Option Model → List Seen
 share_seen o None = []
 share_seen o (Some p) = as_seen (share o p.grants)
 
 -- what u, which is this private gateway or not there, sees of an event that reaches so far
-abbrev pub part_of : ℕ → Option Model → Reach → List Seen
+abbrev pub part_of : ℕ → Option Model → Target → List Seen
 part_of u own (to_all o) = share_seen o own
 part_of u own (to_one w x) = if nat_eq u w && is_some own then takes x ∷ [] else []
 part_of u own (adds w size bytes last) = if nat_eq u w then begins size bytes last ∷ [] else []
 part_of u own (drops w) = if nat_eq u w then ends ∷ [] else []
 part_of u own to_none = []
 
-abbrev pub part : ℕ → SharedMachine → Occurrence → List Seen
-part u S e = part_of u (own_of u S) (reach S e)
+abbrev pub part : ℕ → SharedMachine → GatewayEvent → List Seen
+part u S e = part_of u (own_of u S) (target S e)
 
 -- all that u sees of the events, each at the state that those before it leave
-abbrev pub view : ℕ → SharedMachine → List Occurrence → List Seen
+abbrev pub view : ℕ → SharedMachine → List GatewayEvent → List Seen
 view u S [] = []
 view u S (e ∷ es) = part u S e ++ view u (shared_step S e) es
 
@@ -112,7 +112,7 @@ handed_out (those_waiting us) = []
 handed_out (entry found) = []
 handed_out (stands s) = []
 
-abbrev pub handed_one : ℕ → Occurrence → Answer → List Handed
+abbrev pub handed_one : ℕ → GatewayEvent → Answer → List Handed
 handed_one u (add_pmu key) a = []
 handed_one u (drop_pmu key) a = []
 handed_one u (add_sub w size bytes) a = []
@@ -128,7 +128,7 @@ handed_one u (who_waits us) a = []
 handed_one u (audit w index) a = []
 handed_one u (standing w place) a = []
 
-abbrev pub handed_to : ℕ → List Occurrence → List Answer → List Handed
+abbrev pub handed_to : ℕ → List GatewayEvent → List Answer → List Handed
 handed_to u [] answers = []
 handed_to u (e ∷ es) [] = []
 handed_to u (e ∷ es) (a ∷ answers) = handed_one u e a ++ handed_to u es answers

@@ -10,11 +10,11 @@ ghost use Rattle.pg_gateway.specs.Judging.{all_announced, memory_counted};
 ghost use Rattle.pg_gateway.specs.Related.{Related};
 ghost use Rattle.pg_gateway.specs.Sharing.{SubscriberSlots};
 ghost use Rattle.pg_gateway.specs.Shown.{SlotShows};
-ghost use Rattle.pg_gateway.specs.Taking.{offered, IsNoFrame, IsRising, Awaits, HasNone, Fits};
+ghost use Rattle.pg_gateway.specs.Taking.{broadcast_of, IsNoFrame, IsRising, Awaits, HasNone, Fits};
 ghost use Rattle.pg_gateway.specs.Frugal.{AllSlots};
 
+use crate::broadcast::prepare_copies;
 use crate::event::Event;
-use crate::fan::lay_copies;
 use crate::slot::SubscriberSlot;
 use circular_buffer::HeapCircularBuffer;
 use indexmap::IndexMap;
@@ -24,12 +24,12 @@ use pg_session::copy_parts;
 use pg_wire::{PmuKey, Refusal, SubId};
 use std::sync::Arc;
 
-/// Makes all copies that an announcement needs: of what each of those PMUs announced, for the registry, and those that the
+/// Prepares all references that an announcement needs: to what each of those PMUs announced, for the registry, and those that the
 /// subscribers' shares need. Nothing that they show changes.
 ///
 /// # Errors
 ///
-/// `NoMemory`, and then no subscriber's copies lie ready.
+/// `NoMemory`, and then no references lie ready at any subscriber.
 pub(crate) fn copy_announced(
     subs: &mut IndexMap<SubId, SubscriberSlot>,
     event: &Event,
@@ -44,9 +44,9 @@ pub(crate) fn copy_announced(
     requires room { 16 ≤ vec_capacity held.old }
     requires capacity { copies.old.capacity ≡ 16 }
     requires none { AllSlots HasNone subs.old.entries }
-    requires fits { AllSlots (Fits (offered event.now places.now)) subs.old.entries }
+    requires fits { AllSlots (Fits (broadcast_of event.now places.now)) subs.old.entries }
     ensures copied { OnOk result (map arc_value copies.new.items ≡ map config_of (announced_at config.now places.now)) }
-    ensures laid { IfOk result (λ u. AllSlots (Awaits (offered event.now places.now)) subs.new.entries) }
+    ensures prepared { IfOk result (λ u. AllSlots (Awaits (broadcast_of event.now places.now)) subs.new.entries) }
     ensures none { IfErr result (λ refusal. AllSlots HasNone subs.new.entries) }
     ensures memory { IfErr result (λ refusal. refusal ≡ Refusal.NoMemory) }
     ensures shows { (slots : SubscriberSlots) → Related SlotShows subs.old.entries slots → Related SlotShows subs.new.entries slots }
@@ -56,7 +56,7 @@ pub(crate) fn copy_announced(
 {
     copies.clear();
     copy_parts(config, places, copies)?;
-    lay_copies(subs, event, places, held)?;
+    prepare_copies(subs, event, places, held)?;
     Ok(())
 }
 

@@ -9,10 +9,10 @@ ghost use Rattle.pg_session.specs.Events.{grant};
 ghost use Rattle.pg_session.specs.Ready.{IsPlain as PlainReply, NeedsNone};
 ghost use Rattle.pg_gateway.specs.Taking.{GrantsAt};
 ghost use Rattle.indexmap.specs.IndexMap.{index_map_len, get};
-ghost use Rattle.pg_session.specs.Events.{happening, drain};
+ghost use Rattle.pg_session.specs.Events.{subscriber_event, drain};
 ghost use Rattle.pg_session.specs.Ready.{ReturnsBuffer};
 ghost use Rattle.pg_session.specs.Private.{told as private_told, refused};
-ghost use Rattle.pg_gateway.specs.Occurrences.{told, tells};
+ghost use Rattle.pg_gateway.specs.GatewayEvents.{told, tells};
 ghost use Rattle.pg_gateway.specs.Related.{Related};
 ghost use Rattle.pg_gateway.specs.Sharing.{SubscriberSlots};
 ghost use Rattle.pg_gateway.specs.State.{noted_as, code_of, at_slot, with_note, added, slot_of, grant_refusal};
@@ -54,10 +54,10 @@ pub(crate) fn ask_at(
     event: PrivateEvent<'_>,
 ) -> PrivateReply
     requires own { AsksNothing event }
-    requires noted { noted_as (happening event) ≡ Some what }
+    requires noted { noted_as (subscriber_event event) ≡ Some what }
     requires none { AllSlots HasNone subs.old.entries }
     ensures takes { (slots : SubscriberSlots) → Related SlotShows subs.old.entries slots
-        → TakesAt sub (happening event.entry) (private_told result) slots subs.new.entries }
+        → TakesAt sub (subscriber_event event.entry) (private_told result) slots subs.new.entries }
     ensures plain { PlainReply result }
     ensures none { AllSlots HasNone subs.new.entries }
     ensures len { index_map_len subs.new ≡ index_map_len subs.old }

@@ -15,7 +15,7 @@ use pg_registry::Registry;
 use pg_wire::Refusal;
 use std::sync::Arc;
 
-/// How far a SOC may be off the last tick's, in seconds (own rule).
+/// How far a SOC may be off the last tick's, in seconds.
 const MOST_SECONDS: u32 = 30;
 
 /// Whether a SOC is too far off the last tick's.
@@ -71,8 +71,8 @@ fn soc_of(frame: &DataFrame) -> u32
     frame.soc
 }
 
-/// What becomes of the block of a source's PMU: where the PMU is registered, and why the block is refused, if it is. `None` where
-/// the PMU is not registered. It is guessed to stand at the place `near` or at the one before it; `near` is then the place behind it.
+/// The judgement of a block of a source's PMU: the PMU's place in the registry, and the refusal, if there is one. `None` where the PMU is not
+/// registered. The places `near` and the one before it are searched first; `near` becomes the place behind the one that was found.
 fn judge_block(
     config: &SourceConfig,
     soc: u32,
@@ -118,9 +118,9 @@ fn note_judged(
     blocks.push_reserved(block);
 }
 
-/// Which blocks of a frame are taken, by their places, and what is to be counted: each registered PMU's place, and why its block
-/// is refused, if it is. The first PMU is guessed to stand at the place `near` or at the one before it, each other one behind the last;
-/// `near` is then the place behind the last one.
+/// The places of a frame's accepted blocks, and the judgement of each registered one: its PMU's place in the registry, and the refusal, if there
+/// is one. The registry is searched first at `near` and the place before it, then each time behind the last PMU; `near` becomes the place
+/// behind the last one.
 pub(crate) fn judge(
     frame: &DataFrame,
     registry: &Registry,

@@ -4,12 +4,12 @@ use pg_ring::{RingBytes, RingSize};
 use pg_stream::Definition;
 use pg_wire::{PmuKey, StreamId, SubId};
 
-/// What an operator asks of the gateway: each is an event of the gateway of the same name (own rule).
+/// What an operator asks of the gateway: each is an event of the gateway of the same name.
 #[derive(Debug, Drop)]
 pub enum Edit {
     /// A PMU is registered.
     AddPmu(PmuKey),
-    /// A PMU leaves the registry, and is revoked from each subscriber that holds it.
+    /// A PMU leaves the registry, and each grant of it is revoked.
     DropPmu(PmuKey),
     /// A subscriber is added, with the limits of its ring: data frames, and bytes of data frames.
     AddSub(SubId, RingSize, RingBytes),

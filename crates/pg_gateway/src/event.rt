@@ -10,12 +10,12 @@ use pg_stream::Definition;
 use pg_wire::{PmuKey, Refusal, StreamId, SubId};
 use std::sync::Arc;
 
-/// What happens to the gateway (own rule).
+/// What happens to the gateway.
 #[derive(Drop)]
 pub enum Event {
     /// A PMU is registered.
     AddPmu(PmuKey),
-    /// A PMU leaves the registry, and is revoked from each subscriber that holds it.
+    /// A PMU leaves the registry, and each grant of it is revoked.
     DropPmu(PmuKey),
     /// A subscriber is added, with the limits of its ring: data frames, and bytes of data frames.
     AddSub(SubId, RingSize, RingBytes),
@@ -49,9 +49,9 @@ pub enum Event {
     PmuStats(PmuKey),
     /// An entry of a subscriber's audit is asked for: 0 the newest, at most 63.
     Audit(SubId, u8),
-    /// How a subscriber stands is asked for, and its stream at this place: 0 the one that was defined first.
+    /// A question: how does a subscriber stand, and its stream at this place? 0 is the stream that was defined first.
     Standing(SubId, u8),
-    /// For which of these subscribers something waits to be handed out is asked for.
+    /// A question: for which of these subscribers does something wait to be handed out?
     WhoWaits(Vec<SubId>),
 }
 

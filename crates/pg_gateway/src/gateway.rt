@@ -6,7 +6,7 @@ ghost use Rattle.std.specs.Arc.{arc_value};
 ghost use Rattle.std.specs.Option.{option_map_or};
 ghost use Rattle.pg_registry.specs.Registered.{has_source};
 ghost use Rattle.pg_session.specs.Events.{drain};
-ghost use Rattle.pg_gateway.specs.Occurrences.{occurrence, told, measure, asks};
+ghost use Rattle.pg_gateway.specs.GatewayEvents.{gateway_event, told, measure, asks};
 ghost use Rattle.pg_gateway.specs.State.{SharedMachine, opening, slot_of, own_of};
 ghost use Rattle.pg_gateway.specs.Shown.{SlotValue, GatewayShows, Goes, IsWithinLimits};
 ghost use Rattle.pg_gateway.specs.Alike.{LeavesAlike, TakesOwnBlocks};
@@ -17,9 +17,9 @@ ghost use Rattle.pg_gateway.specs.Consistent.{IsPosted};
 ghost use Rattle.pg_gateway.specs.Routes.{KeepsRoutes};
 
 use crate::event::{Event, Reply};
-use crate::kernel::{Kernel, reply_to_all};
 use crate::routes::Routes;
 use crate::slot::announced;
+use crate::state::{GatewayState, reply_to_all};
 use pg_data::DataFrame;
 use pg_ring::OutQueue;
 use pg_wire::{PmuId, Refusal, SubId};
@@ -27,10 +27,10 @@ use std::alloc::Global;
 use std::marker::Model;
 use std::sync::Arc;
 
-/// The gateway of one thread: at most 256 registered PMUs and 64 subscribers (own rule).
+/// The gateway of one thread: at most 256 registered PMUs and 64 subscribers.
 #[derive(Drop)]
 pub struct Gateway {
-    kernel: Kernel,
+    kernel: GatewayState,
     routes: Routes,
 }
 
@@ -48,7 +48,7 @@ impl Model for Gateway {
 
 /// What an event says was read, where a source announced it.
 fn posted(event: &Event)
-    ensures { IsPosted (occurrence event.now) }
+    ensures { IsPosted (gateway_event event.now) }
 {
     if let Event::Announce(config) = event {
         let _count = announced(config).count();
@@ -57,7 +57,7 @@ fn posted(event: &Event)
 
 /// Whether an event changes no grant, no subscriber's place and no PMU's place.
 fn keeps_routes(event: &Event) -> bool
-    ensures { result ≡ true → KeepsRoutes (occurrence event.now) }
+    ensures { result ≡ true → KeepsRoutes (gateway_event event.now) }
 {
     match event {
         Event::AddPmu(_) => false,
@@ -77,21 +77,21 @@ impl Gateway {
         ensures memory { IfErr result (λ refusal. refusal ≡ Refusal.NoMemory) }
     {
         Ok(Gateway {
-            kernel: Kernel::new(alloc)?,
+            kernel: GatewayState::new(alloc)?,
             routes: Routes::new(alloc)?,
         })
     }
 
-    /// Takes one event: an atomic step of the shared machine.
+    /// Applies one event: an atomic step of the shared machine.
     ///
     /// A drain is answered with a drain's reply, and a buffer as long as the event's; all other events without a buffer.
     // Inlined, the reply to a data frame is made where it lies, and not filled and moved.
     #[inline(always)]
     pub fn step(&mut self, event: Event) -> Reply
-        ensures goes { Goes self.old (occurrence event) (told result) self.new }
-        ensures alike { LeavesAlike self.old (occurrence event) (told result) }
-        ensures own_blocks { TakesOwnBlocks self.old (occurrence event) (told result) }
-        ensures frugal { Frugal self.old (occurrence event) (told result) }
+        ensures goes { Goes self.old (gateway_event event) (told result) self.new }
+        ensures alike { LeavesAlike self.old (gateway_event event) (told result) }
+        ensures own_blocks { TakesOwnBlocks self.old (gateway_event event) (told result) }
+        ensures frugal { Frugal self.old (gateway_event event) (told result) }
         ensures answers { Answers event result }
         ensures limits { IsWithinLimits self.new }
     {
@@ -102,8 +102,8 @@ impl Gateway {
         }
     }
 
-    /// Takes one data frame: the step of its `Event::Measure`. It answers how many data frames were made for all subscribers, and how
-    /// many of them found memory; a reply has room for all counters, and costs more to hand on.
+    /// Applies one data frame: the step of its `Event::Measure`. The result is the number of data frames made for all subscribers, and of
+    /// those that found memory. It is smaller than a reply, which has room for all counters.
     ///
     /// # Errors
     ///
@@ -120,7 +120,7 @@ impl Gateway {
         counts
     }
 
-    /// Takes a drain. It is a function of its own, so that nothing of what the other events need is made ready for it.
+    /// Applies a drain. It is a function of its own, so that nothing is set up that only other events need.
     #[inline(never)]
     fn drain(&mut self, sub: SubId, buf: Vec<u8>) -> Reply
         ensures goes { Goes self.old (asks sub (drain (length buf.items))) (told result) self.new }
@@ -135,13 +135,13 @@ impl Gateway {
         reply
     }
 
-    /// Takes any event. It is a function of its own, so that nothing of what the others need is made ready for a data frame.
+    /// Applies any event. It is a function of its own, so that nothing is set up for a data frame that only other events need.
     #[inline(never)]
     fn step_other(&mut self, event: Event) -> Reply
-        ensures goes { Goes self.old (occurrence event) (told result) self.new }
-        ensures alike { LeavesAlike self.old (occurrence event) (told result) }
-        ensures own_blocks { TakesOwnBlocks self.old (occurrence event) (told result) }
-        ensures frugal { Frugal self.old (occurrence event) (told result) }
+        ensures goes { Goes self.old (gateway_event event) (told result) self.new }
+        ensures alike { LeavesAlike self.old (gateway_event event) (told result) }
+        ensures own_blocks { TakesOwnBlocks self.old (gateway_event event) (told result) }
+        ensures frugal { Frugal self.old (gateway_event event) (told result) }
         ensures answers { Answers event result }
         ensures limits { IsWithinLimits self.new }
     {

@@ -1,4 +1,4 @@
-//! Laws of the shared machine, as contracts of functions that do nothing: a caller that needs one calls it.
+//! Lemmas about the shared machine: contracts of functions that do nothing.
 ghost use Rattle.pg_gateway.specs.Laws.{Isolation, EqualViews, SharedFrame, NothingLost};
 
 /// After any events each subscriber is what a private gateway makes of that subscriber's view of them alone, and is handed

@@ -1,21 +1,22 @@
 //! The gateway: which PMUs are registered, and the subscribers, each a private gateway of its own. One event is one atomic
 //! step.
+//! What no clause of IEEE C37.118.2 is named for is a rule of this project.
 #![tactic(auto)]
 
 mod announcing;
 mod asking;
 mod blocks;
+mod broadcast;
+mod deliver;
 mod edit;
 mod event;
-mod fan;
 mod gate;
 mod gateway;
-mod kernel;
 mod laws;
 mod machine;
-mod marked;
 mod routes;
 mod slot;
+mod state;
 
 pub use edit::Edit;
 pub use event::{Event, Reply};

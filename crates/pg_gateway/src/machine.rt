@@ -1,7 +1,7 @@
 //! The gateway as a machine that slots share, and as a gate.
 
 ghost use Rattle.std.specs.Prelude.{[], ◌∷◌, None};
-ghost use Rattle.pg_gateway.specs.Occurrences.{occurrence, told};
+ghost use Rattle.pg_gateway.specs.GatewayEvents.{gateway_event, told};
 ghost use Rattle.pg_gateway.specs.Posting.{Answers, Notes};
 ghost use Rattle.pg_gateway.specs.Shown.{Goes};
 
@@ -35,9 +35,9 @@ impl Gate for Gateway {
     ghost joins = { λ _ _ _ _ _. tt };
 
     fn post(&mut self, event: Event) -> Reply
-        ensures goes { Goes self.old (occurrence event) (told result) self.new }
+        ensures goes { Goes self.old (gateway_event event) (told result) self.new }
         ensures answers { Answers event result }
-        ensures posted { Notes None None ((occurrence event, told result) ∷ []) }
+        ensures posted { Notes None None ((gateway_event event, told result) ∷ []) }
     {
         Gateway::step(self, event)
     }

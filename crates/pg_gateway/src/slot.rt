@@ -8,7 +8,7 @@ ghost use Rattle.pg_config.specs.Parts.{block_id};
 ghost use Rattle.pg_session.specs.Events.{grant};
 ghost use Rattle.pg_session.specs.Ready.{IsPlain as PlainReply};
 ghost use Rattle.pg_entitle.specs.Grants.{has_key};
-ghost use Rattle.pg_session.specs.Events.{happening, drain, announced_at};
+ghost use Rattle.pg_session.specs.Events.{subscriber_event, drain, announced_at};
 ghost use Rattle.pg_session.specs.Private.{told};
 ghost use Rattle.pg_session.specs.Steps.{MakesFew};
 ghost use Rattle.pg_session.specs.Standing.{standing_of};
@@ -16,7 +16,7 @@ ghost use Rattle.pg_session.specs.Ready.{ReturnsBuffer, AreRising};
 ghost use Rattle.pg_gateway.specs.Sharing.{SubscriberSlot as SlotState, announces, revokes};
 ghost use Rattle.pg_gateway.specs.State.{added, with_note, noted_as};
 ghost use Rattle.pg_gateway.specs.Shown.{SlotShows, slot_waits};
-ghost use Rattle.pg_gateway.specs.Taking.{Asks, AsksNothing, HasNone, offered, measured, part_passes, IsNoFrame, IsRising, Fits, LaysShare, Awaits, TakesOffer, TakesGrant, counts_of};
+ghost use Rattle.pg_gateway.specs.Taking.{Asks, AsksNothing, HasNone, broadcast_of, measured, part_passes, IsNoFrame, IsRising, Fits, PreparesShare, Awaits, TakesBroadcast, TakesGrant, counts_of};
 ghost use Rattle.pg_gateway.specs.Routes.{HasBits, HoldsPart, IsOnlyBit, places_at, TellsShare};
 
 use crate::asking::code;
@@ -37,7 +37,7 @@ use std::sync::Arc;
 pub(crate) struct SubscriberSlot {
     pub(crate) subscriber: Subscriber,
     audit: Audit,
-    // Copies were laid for an event that does not concern it, so that it need not be looked at again.
+    // The event of which references were prepared has no share for it.
     spared: bool,
 }
 
@@ -80,10 +80,10 @@ impl SubscriberSlot {
     /// Takes an event for it alone, which is noted.
     pub(crate) fn ask(&mut self, what: What, event: PrivateEvent<'_>) -> PrivateReply
         requires own { AsksNothing event }
-        requires noted { noted_as (happening event) ≡ Some what }
+        requires noted { noted_as (subscriber_event event) ≡ Some what }
         requires none { HasNone self.old }
         ensures takes { (s : SlotState) → SlotShows self.old s
-            → Asks s (happening event.entry) (told result) (Some what) self.new }
+            → Asks s (subscriber_event event.entry) (told result) (Some what) self.new }
         ensures plain { PlainReply result }
         ensures none { HasNone self.new }
     {
@@ -161,9 +161,9 @@ impl SubscriberSlot {
         self.audit.last(usize::from(index))
     }
 
-    /// Lays the copies that its share of an event for all but a data frame needs. Nothing else changes. The one refusal is
+    /// Prepares the references that its share of an event needs, except of a data frame. Nothing else changes. The one refusal is
     /// `NoMemory`.
-    pub(crate) fn lay(
+    pub(crate) fn prepare(
         &mut self,
         event: &Event,
         places: &[usize],
@@ -173,21 +173,21 @@ impl SubscriberSlot {
         requires rising { IsRising event.now places.now }
         requires room { 16 ≤ vec_capacity held.old }
         requires none { HasNone self.old }
-        requires fit { Fits (offered event.now places.now) self.old }
-        ensures lays { LaysShare (offered event.now places.now) self.old result self.new }
+        requires fit { Fits (broadcast_of event.now places.now) self.old }
+        ensures prepares { PreparesShare (broadcast_of event.now places.now) self.old result self.new }
         ensures room { 16 ≤ vec_capacity held.new }
     {
         match event {
             Event::Announce(config) => {
                 let config = announced(config);
-                self.lay_announced(config, places, held)
+                self.prepare_announced(config, places, held)
             }
             _ => Ok(()),
         }
     }
 
-    /// Lays the copies of what granted PMUs announced.
-    fn lay_announced(
+    /// Prepares the references to what granted PMUs announced.
+    fn prepare_announced(
         &mut self,
         config: &SourceConfig,
         places: &[usize],
@@ -197,7 +197,7 @@ impl SubscriberSlot {
         requires room { 16 ≤ vec_capacity held.old }
         requires none { HasNone self.old }
         requires fit { Fits (announces (announced_at config.now places.now)) self.old }
-        ensures lays { LaysShare (announces (announced_at config.now places.now)) self.old result self.new }
+        ensures prepares { PreparesShare (announces (announced_at config.now places.now)) self.old result self.new }
         ensures room { 16 ≤ vec_capacity held.new }
     {
         if !hold(&self.subscriber, config, places, held) {
@@ -209,9 +209,9 @@ impl SubscriberSlot {
         Ok(())
     }
 
-    /// Lays the copies of granted PMUs' blocks that its streams need. It holds the whole of these places, or those whose bits its
-    /// number has. Nothing else changes. The one refusal is `NoMemory`.
-    pub(crate) fn lay_measured(
+    /// Prepares the references to granted blocks that its streams need. The blocks at all of these places are granted to it where `whole`, else
+    /// those in the mask `number`. Nothing else changes. The one refusal is `NoMemory`.
+    pub(crate) fn prepare_measured(
         &mut self,
         frame: &Arc<DataFrame>,
         places: &[usize],
@@ -227,22 +227,22 @@ impl SubscriberSlot {
         requires room { 16 ≤ vec_capacity held.old }
         requires none { HasNone self.old }
         requires fit { Fits (measured (arc_value frame.now) places.now) self.old }
-        ensures lays { LaysShare (measured (arc_value frame.now) places.now) self.old result self.new }
+        ensures prepares { PreparesShare (measured (arc_value frame.now) places.now) self.old result self.new }
         ensures room { 16 ≤ vec_capacity held.new }
     {
         if whole {
-            return self.subscriber.lay_frame(frame, places, stamps);
+            return self.subscriber.prepare_frame(frame, places, stamps);
         }
         match only_bit(number) {
-            Some(bit) => self.lay_block(frame, places[bit as usize], stamps),
-            None => self.lay_some(frame, places, number, held, stamps),
+            Some(bit) => self.prepare_block(frame, places[bit as usize], stamps),
+            None => self.prepare_some(frame, places, number, held, stamps),
         }
     }
 
-    /// Lays the copies that its streams need of a block, the only one that it holds of a frame. Nothing else changes. The one refusal
+    /// Prepares the references that its streams need to the only block of a frame that it is granted. Nothing else changes. The one refusal
     /// is `NoMemory`.
     #[inline(always)]
-    pub(crate) fn lay_block(
+    pub(crate) fn prepare_block(
         &mut self,
         frame: &Arc<DataFrame>,
         place: usize,
@@ -252,14 +252,14 @@ impl SubscriberSlot {
         requires holds { HoldsPart (arc_value frame.now).config place self.old }
         requires none { HasNone self.old }
         requires fit { Fits (measured (arc_value frame.now) (place ∷ [])) self.old }
-        ensures lays { LaysShare (measured (arc_value frame.now) (place ∷ [])) self.old result self.new }
+        ensures prepares { PreparesShare (measured (arc_value frame.now) (place ∷ [])) self.old result self.new }
     {
-        self.subscriber.lay_block(frame, place, stamps)
+        self.subscriber.prepare_block(frame, place, stamps)
     }
 
-    /// Lays the copies of the blocks whose bits its number has: none, where that has none.
+    /// Prepares the references to the blocks in the mask `number`, which may be empty.
     #[inline(never)]
-    fn lay_some(
+    fn prepare_some(
         &mut self,
         frame: &Arc<DataFrame>,
         places: &[usize],
@@ -273,17 +273,17 @@ impl SubscriberSlot {
         requires room { 16 ≤ vec_capacity held.old }
         requires none { HasNone self.old }
         requires fit { Fits (measured (arc_value frame.now) places.now) self.old }
-        ensures lays { LaysShare (measured (arc_value frame.now) places.now) self.old result self.new }
+        ensures prepares { PreparesShare (measured (arc_value frame.now) places.now) self.old result self.new }
         ensures room { 16 ≤ vec_capacity held.new }
     {
         if number == 0 {
             return Ok(());
         }
         hold_all(places, number, held);
-        self.subscriber.lay_frame(frame, held, stamps)
+        self.subscriber.prepare_frame(frame, held, stamps)
     }
 
-    /// Gives up the copies that lie ready. Nothing else changes.
+    /// Gives up the references that lie ready. Nothing else changes.
     pub(crate) fn forget(&mut self)
         ensures none { HasNone self.new }
         ensures own { self.new.subscriber.own ≡ self.old.subscriber.own }
@@ -293,9 +293,9 @@ impl SubscriberSlot {
         self.spared = false;
     }
 
-    /// Takes its share of an event for all but a data frame, if it has one: with `lost` all data frames that it makes are lost. It
-    /// answers the frames made, and those of them that are kept.
-    pub(crate) fn take_share(
+    /// Applies its share of an event, if it has one, except of a data frame. With `lost` all data frames that it makes are lost. The result is
+    /// the number of frames made, and of those kept.
+    pub(crate) fn apply_share(
         &mut self,
         event: &Event,
         places: &[usize],
@@ -305,8 +305,8 @@ impl SubscriberSlot {
         requires event { IsNoFrame event.now }
         requires rising { IsRising event.now places.now }
         requires room { 16 ≤ vec_capacity held.old }
-        requires awaits { Awaits (offered event.now places.now) self.old }
-        ensures takes { TakesOffer (offered event.now places.now) lost self.old result self.new }
+        requires awaits { Awaits (broadcast_of event.now places.now) self.old }
+        ensures takes { TakesBroadcast (broadcast_of event.now places.now) lost self.old result self.new }
         ensures spared { self.new.spared ≡ false }
         ensures room { 16 ≤ vec_capacity held.new }
     {
@@ -315,10 +315,10 @@ impl SubscriberSlot {
             return (0, 0);
         }
         match event {
-            Event::DropPmu(key) => self.take_revoked(key, lost),
+            Event::DropPmu(key) => self.apply_revoked(key, lost),
             Event::Announce(config) => {
                 let config = announced(config);
-                self.take_announced(config, places, held, lost)
+                self.apply_announced(config, places, held, lost)
             }
             Event::Tick(soc) => counts(self.subscriber.take(PrivateEvent::Tick(*soc), lost)),
             _ => (0, 0),
@@ -326,9 +326,9 @@ impl SubscriberSlot {
     }
 
     /// A PMU is dropped, and so revoked where it is granted.
-    fn take_revoked(&mut self, key: &PmuKey, lost: bool) -> (u64, u64)
+    fn apply_revoked(&mut self, key: &PmuKey, lost: bool) -> (u64, u64)
         requires awaits { Awaits (revokes key.now) self.old }
-        ensures takes { TakesOffer (revokes key.now) lost self.old result self.new }
+        ensures takes { TakesBroadcast (revokes key.now) lost self.old result self.new }
         ensures spared { self.new.spared ≡ self.old.spared }
     {
         if !self.subscriber.holds(*key) {
@@ -339,7 +339,7 @@ impl SubscriberSlot {
     }
 
     /// Registered PMUs announced.
-    fn take_announced(
+    fn apply_announced(
         &mut self,
         config: &SourceConfig,
         places: &[usize],
@@ -349,7 +349,7 @@ impl SubscriberSlot {
         requires rising { AreRising 0 (length config.now.parts) places.now }
         requires room { 16 ≤ vec_capacity held.old }
         requires awaits { Awaits (announces (announced_at config.now places.now)) self.old }
-        ensures takes { TakesOffer (announces (announced_at config.now places.now)) lost self.old result self.new }
+        ensures takes { TakesBroadcast (announces (announced_at config.now places.now)) lost self.old result self.new }
         ensures spared { self.new.spared ≡ self.old.spared }
         ensures room { 16 ≤ vec_capacity held.new }
     {
@@ -362,9 +362,9 @@ impl SubscriberSlot {
         )
     }
 
-    /// Takes its share of a data frame's blocks, if it has one, as `take_share` does of other events. It holds the whole of these
-    /// places, or those whose bits its number has.
-    pub(crate) fn take_measured(
+    /// Applies its share of a data frame's blocks, if it has one, as `apply_share` does with other events. The blocks at all of these places are
+    /// granted to it where `whole`, else those in the mask `number`.
+    pub(crate) fn apply_measured(
         &mut self,
         frame: &Arc<DataFrame>,
         places: &[usize],
@@ -380,25 +380,25 @@ impl SubscriberSlot {
         requires tell { TellsShare whole number (arc_value frame.now).config places.now self.old }
         requires room { 16 ≤ vec_capacity held.old }
         requires awaits { Awaits (measured (arc_value frame.now) places.now) self.old }
-        ensures takes { TakesOffer (measured (arc_value frame.now) places.now) lost self.old result self.new }
+        ensures takes { TakesBroadcast (measured (arc_value frame.now) places.now) lost self.old result self.new }
         ensures spared { self.new.spared ≡ false }
         ensures room { 16 ≤ vec_capacity held.new }
     {
         if whole {
-            return counts(self.subscriber.take_frame(frame, places, lost, stamps));
+            return counts(self.subscriber.apply_frame(frame, places, lost, stamps));
         }
         match only_bit(number) {
             Some(bit) => {
                 let place = places[bit as usize];
-                self.take_block(frame, place, lost, stamps)
+                self.apply_block(frame, place, lost, stamps)
             }
-            None => self.take_some(frame, places, number, held, lost, stamps),
+            None => self.apply_some(frame, places, number, held, lost, stamps),
         }
     }
 
-    /// Takes a block, the only one that it holds of a frame.
+    /// Applies the only block of a frame that it is granted.
     #[inline(always)]
-    pub(crate) fn take_block(
+    pub(crate) fn apply_block(
         &mut self,
         frame: &Arc<DataFrame>,
         place: usize,
@@ -408,15 +408,15 @@ impl SubscriberSlot {
         requires place { place < length (arc_value frame.now).config.parts }
         requires holds { HoldsPart (arc_value frame.now).config place self.old }
         requires awaits { Awaits (measured (arc_value frame.now) (place ∷ [])) self.old }
-        ensures takes { TakesOffer (measured (arc_value frame.now) (place ∷ [])) lost self.old result self.new }
+        ensures takes { TakesBroadcast (measured (arc_value frame.now) (place ∷ [])) lost self.old result self.new }
         ensures spared { self.new.spared ≡ false }
     {
-        counts(self.subscriber.take_block(frame, place, lost, stamps))
+        counts(self.subscriber.apply_block(frame, place, lost, stamps))
     }
 
-    /// Takes the blocks whose bits its number has: none, where that has none.
+    /// Applies the blocks in the mask `number`, which may be empty.
     #[inline(never)]
-    fn take_some(
+    fn apply_some(
         &mut self,
         frame: &Arc<DataFrame>,
         places: &[usize],
@@ -430,7 +430,7 @@ impl SubscriberSlot {
         requires tell { TellsShare false number (arc_value frame.now).config places.now self.old }
         requires room { 16 ≤ vec_capacity held.old }
         requires awaits { Awaits (measured (arc_value frame.now) places.now) self.old }
-        ensures takes { TakesOffer (measured (arc_value frame.now) places.now) lost self.old result self.new }
+        ensures takes { TakesBroadcast (measured (arc_value frame.now) places.now) lost self.old result self.new }
         ensures spared { self.new.spared ≡ false }
         ensures room { 16 ≤ vec_capacity held.new }
     {
@@ -439,7 +439,7 @@ impl SubscriberSlot {
             return (0, 0);
         }
         hold_all(places, number, held);
-        counts(self.subscriber.take_frame(frame, held, lost, stamps))
+        counts(self.subscriber.apply_frame(frame, held, lost, stamps))
     }
 }
 
@@ -505,7 +505,7 @@ fn only_bit(number: u64) -> Option<u32>
     Some(first)
 }
 
-/// Of these places of a frame's blocks, those whose bits a number has.
+/// Those of these places whose bits a mask has.
 fn hold_all(places: &[usize], number: u64, held: &mut Vec<usize>)
     requires bits { HasBits (length places.now) number }
     requires few { length places.now ≤ 16 }

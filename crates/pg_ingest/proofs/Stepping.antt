@@ -7,7 +7,7 @@ use Rattle.std.proofs.lemmas.Grind.{flat_map-append}
 use Rattle.std.proofs.lemmas.List.Elements.{filter-append}
 use Rattle.pg_command.specs.Words.{word_number}
 use Rattle.pg_command.specs.Spelling.{written}
-use Rattle.pg_gateway.specs.Occurrences.{Occurrence, Answer}
+use Rattle.pg_gateway.specs.GatewayEvents.{GatewayEvent, Answer}
 use Rattle.pg_gateway.specs.Posting.{Posted, Notes, posted_if}
 use Rattle.pg_wire.specs.declared.refusal.Refusal.{Refusal}
 use Rattle.pg_wire.specs.Reads.{Gave}
@@ -27,7 +27,7 @@ Calls = Option (List Posted)
 
 -- which events a gate takes
 abbrev pub Takes : Type 0
-Takes = Occurrence → Bool
+Takes = GatewayEvent → Bool
 
 -- these steps were done
 abbrev pub Did : Takes → List Step → LinkPast → List ℕ → Linking → Bytes → Bytes → Bytes → Bytes → Calls → Calls → Type 0
@@ -169,12 +169,12 @@ pub ran_nothing : {t : Takes} → (v : Linking) (r w : Bytes) (p : Calls) → Ra
 ran_nothing v r w p = ran_wrote v v r w w p [] (appends_nil w) refl (λ past shows. shows)
 
 -- of an event that is told, what is posted is the event, where the gate takes it
-posted_is : (t : Takes) (o : Occurrence) (a : Answer) (b : Bool) → t o ≡ b → map event_posted (posted_if b o a) ≡ filter t (o ∷ [])
+posted_is : (t : Takes) (o : GatewayEvent) (a : Answer) (b : Bool) → t o ≡ b → map event_posted (posted_if b o a) ≡ filter t (o ∷ [])
 posted_is t o a true e = rw e refl
 posted_is t o a false e = rw e refl
 
 -- what was told was posted, where the gate takes it
-pub from_told : {t : Takes} → (past : LinkPast) (v v' : Linking) (r w : Bytes) (p p' : Calls) (item : Item) (o : Occurrence) (a : Answer) → ShowsLink v' (doing past (tells item))
+pub from_told : {t : Takes} → (past : LinkPast) (v v' : Linking) (r w : Bytes) (p p' : Calls) (item : Item) (o : GatewayEvent) (a : Answer) → ShowsLink v' (doing past (tells item))
     → Notes p p' (posted_if (t o) o a) → events_told item ≡ o ∷ [] → v'.left ≡ v.left → Did t (posts item ∷ []) past v.left v' r r w w p p'
 from_told {t = t} past v v' r w p p' item o a told posted is left =
     from_step past v.left v' r r w p p' (posts item) (posted_if (t o) o a) tt told (consumes_nil r) posted

@@ -16,7 +16,7 @@ use Rattle.pg_ingest.specs.Commands.{tells, asks, told_in}
 use Rattle.pg_ingest.specs.Linking.{Linking}
 use Rattle.pg_ingest.specs.Shown.{LinkPast, ShowsLink, IsAllTold, feeding, doing, word_due}
 use Rattle.pg_wire.specs.Split.{frames_in}
-use Rattle.pg_gateway.specs.Occurrences.{Occurrence, Answer}
+use Rattle.pg_gateway.specs.GatewayEvents.{GatewayEvent, Answer}
 use Rattle.pg_gateway.specs.Posting.{Notes, posted_if}
 use Rattle.pg_ingest.specs.Begun.{Begins}
 use Rattle.pg_ingest.specs.Runs.{Step, begins, reads, posts, stepping, after_steps, events_told, wires, Ran, RanOn}
@@ -112,7 +112,7 @@ ran_begun v v' r w p empty gives past shows told =
     (did.0, (given.0 ∷ [], did.1))
 
 -- what was told was posted, where the gate takes it
-pub ran_told : {t : Takes} → (v v' : Linking) (r w : Bytes) (p p' : Calls) (item : Item) (o : Occurrence) (a : Answer) (u : Takes) → u ≡ t
+pub ran_told : {t : Takes} → (v v' : Linking) (r w : Bytes) (p p' : Calls) (item : Item) (o : GatewayEvent) (a : Answer) (u : Takes) → u ≡ t
     → ((past : LinkPast) → ShowsLink v past → ShowsLink v' (doing past (tells item)))
     → Notes p p' (posted_if (u o) o a) → events_told item ≡ o ∷ [] → v'.left ≡ v.left → Ran Posted v v' (wires r w p t) (wires r w p' t)
 ran_told v v' r w p p' item o a u same told posted is left past shows =

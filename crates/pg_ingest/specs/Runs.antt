@@ -5,7 +5,7 @@ use Rattle.std.specs.Io.KnownBytes.{Appends, Consumes}
 use Rattle.pg_command.specs.declared.word.Word.{Word}
 use Rattle.pg_command.specs.Words.{word_number}
 use Rattle.pg_command.specs.Spelling.{written}
-use Rattle.pg_gateway.specs.Occurrences.{Occurrence, announce, measure}
+use Rattle.pg_gateway.specs.GatewayEvents.{GatewayEvent, announce, measure}
 use Rattle.pg_gateway.specs.Posting.{Posted, Notes}
 use Rattle.pg_ingest.specs.Items.{Item, announces, measures, skips, rejects_config, rejects_data, passes_over}
 use Rattle.pg_ingest.specs.Commands.{asks, tells}
@@ -46,7 +46,7 @@ bytes_of (begins word) = []
 bytes_of (reads piece) = piece
 bytes_of (posts item) = []
 
-abbrev pub events_told : Item → List Occurrence
+abbrev pub events_told : Item → List GatewayEvent
 events_told (announces config) = announce config ∷ []
 events_told (measures m) = measure m ∷ []
 events_told (skips r) = []
@@ -54,7 +54,7 @@ events_told (rejects_config r) = []
 events_told (rejects_data r) = []
 events_told passes_over = []
 
-abbrev pub events_of : Step → List Occurrence
+abbrev pub events_of : Step → List GatewayEvent
 events_of (begins word) = []
 events_of (reads piece) = []
 events_of (posts item) = events_told item
@@ -64,7 +64,7 @@ frame_of source (begins word) = written source 0 (word_number word)
 frame_of source (reads piece) = []
 frame_of source (posts item) = []
 
-abbrev pub event_posted : Posted → Occurrence
+abbrev pub event_posted : Posted → GatewayEvent
 event_posted p = p.0
 
 -- What stands at the other ends of a link, as far as they tell it: the bytes that its reader has left, the bytes that its writer
@@ -73,9 +73,9 @@ pub record Wires : Type 0 where
   pub unread : Option (List ℕ)
   pub written : Option (List ℕ)
   pub posted : Option (List Posted)
-  pub takes : Occurrence → Bool
+  pub takes : GatewayEvent → Bool
 
-abbrev pub wires : Option (List ℕ) → Option (List ℕ) → Option (List Posted) → (Occurrence → Bool) → Wires
+abbrev pub wires : Option (List ℕ) → Option (List ℕ) → Option (List Posted) → (GatewayEvent → Bool) → Wires
 wires unread written posted takes = record { unread = unread; written = written; posted = posted; takes = takes }
 
 -- From this past, with these bytes left to write, some steps were done: the reader gave the pieces, those of their events that the

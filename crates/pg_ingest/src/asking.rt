@@ -17,7 +17,7 @@ pub(crate) enum Start {
     Given,
 }
 
-/// What a link asks its source for (own rule): its configuration at the start and wherever it may have changed, and data
+/// What a link asks its source for: its configuration at the start and wherever it may have changed, and data
 /// once a configuration was accepted.
 #[derive(Clone, Copy)]
 pub(crate) struct Asking {
@@ -28,7 +28,7 @@ pub(crate) struct Asking {
 }
 
 impl Asking {
-    /// A link that was told nothing asks for the configuration.
+    /// A new link owes command 5, send CFG-2.
     pub(crate) fn new() -> Asking
         ensures { result ≡ asking_of [] }
     {

@@ -1,4 +1,4 @@
-//! Laws of what is told and of what is owed, as contracts of functions that do nothing.
+//! Lemmas about the events of a source's bytes and the commands that are due: contracts of functions that do nothing.
 
 ghost use Rattle.std.specs.Prelude.{◌≡◌, ◌<◌, ◌↔◌, ℕ, true, false, List, [], ◌∷◌, ◌++◌, reverse, All, Some, None};
 ghost use Rattle.std.specs.List.{list_any};

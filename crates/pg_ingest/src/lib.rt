@@ -1,4 +1,5 @@
 //! The link to a source: its bytes become announcements and measurements, and it is asked for what is missing.
+//! What no clause of IEEE C37.118.2 is named for is a rule of this project.
 #![tactic(auto)]
 
 mod asking;

@@ -42,7 +42,7 @@ pub enum LinkEvent {
     More,
 }
 
-/// The link to one source (own rule). It makes events of the source's bytes, and tells which commands the source is owed:
+/// The link to one source. It makes events of the source's bytes, and tells which commands the source is owed:
 /// 5, send CFG-2, at the start and where the configuration may have changed, and 2, start data, once a configuration was
 /// accepted.
 #[derive(Drop)]
@@ -159,7 +159,7 @@ impl Link {
         self.spares.keep(frame);
     }
 
-    /// Keeps what a frame tells, counts it, and tells it.
+    /// Keeps and counts what was read of a frame, and gives its event.
     #[inline(always)]
     fn take(&mut self, told: Told) -> LinkEvent
         requires { IsPaired told }
@@ -190,7 +190,7 @@ impl Link {
         }
     }
 
-    /// Counts a frame that is ignored, and tells why.
+    /// Counts a frame that is ignored, and gives the reason.
     fn ignore(&mut self, refusal: Refusal) -> LinkEvent
         ensures event { result ≡ LinkEvent.Ignored refusal }
         ensures state { self.new ≡ record self.old { stats = ignoring self.old.stats refusal } }

@@ -2,7 +2,7 @@
 
 ghost use Rattle.std.specs.Prelude.{◌≡◌, ◌<◌, ℕ, Bool, List, [], length, false, Option, Some, None, IfSome};
 ghost use Rattle.pg_wire.specs.Held.{IsBreak};
-ghost use Rattle.pg_gateway.specs.Occurrences.{Occurrence};
+ghost use Rattle.pg_gateway.specs.GatewayEvents.{GatewayEvent};
 ghost use Rattle.pg_gateway.specs.Posting.{Posted};
 ghost use Rattle.pg_ingest.specs.Ends.{is_cut};
 ghost use Rattle.pg_ingest.specs.Transfers.{IsStuck};
@@ -18,7 +18,7 @@ use pg_wire::Refusal;
 use std::io::{Read, Write};
 use std::sync::Arc;
 
-/// How a call of `run_link` ended (own rule).
+/// How a call of `run_link` ended.
 #[derive(Clone, Copy, Debug, PartialEq, Eq)]
 pub enum End {
     /// The reader has ended.
@@ -33,7 +33,7 @@ pub enum End {
 
 /// Writes what is left of a command.
 fn push_left<W: Write>(link: &mut Link, writer: &mut W) -> Option<End>
-    ensures ran { (r : Option (List ℕ)) (p : Option (List Posted)) (t : Occurrence → Bool)
+    ensures ran { (r : Option (List ℕ)) (p : Option (List Posted)) (t : GatewayEvent → Bool)
         → Ran (λ past steps. steps ≡ []) link.old link.new (wires r (W.contents writer.old) p t) (wires r (W.contents writer.new) p t) }
     ensures whole { result ≡ None → link.new.left ≡ [] }
     ensures same { link.new ≡ record link.old { left = link.new.left } }
@@ -46,7 +46,7 @@ fn push_left<W: Write>(link: &mut Link, writer: &mut W) -> Option<End>
 
 /// Writes what is left of a command, and then all commands that are owed.
 fn write_owed<W: Write>(link: &mut Link, writer: &mut W) -> Option<End>
-    ensures ran { (r : Option (List ℕ)) (p : Option (List Posted)) (t : Occurrence → Bool)
+    ensures ran { (r : Option (List ℕ)) (p : Option (List Posted)) (t : GatewayEvent → Bool)
         → RanOn (λ past steps. OnlyBegins steps) link.old link.new (wires r (W.contents writer.old) p t) (wires r (W.contents writer.new) p t) }
     ensures whole { result ≡ None → link.new.left ≡ [] }
     ensures none { result ≡ None → (past : LinkPast) → ShowsLink link.new past → word_due past ≡ None }
@@ -121,7 +121,7 @@ fn turn<R: Read, W: Write, G: Gate>(
     }
 }
 
-/// Serves a link (own rule): each turn writes what the source is owed, reads at most 4,096 of its bytes, and posts those of their
+/// Serves a link: each turn writes what the source is owed, reads at most 4,096 of its bytes, and posts those of their
 /// events that the gate takes. It ends where the reader ends, fails or would block, where the writer fails or would block, where the bytes break,
 /// and after `turns` reads.
 pub fn run_link<R: Read, W: Write, G: Gate>(

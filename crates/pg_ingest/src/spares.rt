@@ -11,7 +11,7 @@ use std::sync::Arc;
 /// The most frames that are kept: a stream that waits for others holds as many of one source as its window has slots.
 const MOST_SPARES: usize = 64;
 
-/// Data frames of a source that were told. The memory of one that nobody else holds any more is a later one's.
+/// Data frames of a source whose events were given. The memory of one that nobody else holds any more is used for a later one.
 #[derive(Drop)]
 pub(crate) struct Spares {
     last: Option<Arc<DataFrame>>,

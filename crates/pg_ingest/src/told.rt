@@ -1,4 +1,4 @@
-//! What a frame is to the link of its source.
+//! A frame of a source, read.
 
 ghost use Rattle.std.specs.Prelude.{◌≡◌, ◌/◌, option_map, slice_index, MatchResult};
 ghost use Rattle.std.specs.Arc.{arc_value};
@@ -16,7 +16,7 @@ use std::sync::Arc;
 /// What a frame is to the link of its source.
 #[derive(Drop)]
 pub(crate) enum Told {
-    /// A CFG-2 frame that is accepted: its configuration, once for the link and once for whoever is told.
+    /// A CFG-2 frame that is accepted: its configuration, one reference for the link and one for the event.
     Config(Arc<SourceConfig>, Arc<SourceConfig>),
     /// A data frame that is read.
     Data(Arc<DataFrame>),
@@ -30,8 +30,8 @@ pub(crate) enum Told {
     Other,
 }
 
-/// Reads a frame of a source, by the configuration that it announced last. Each frame is read once, into memory that
-/// whoever is told shares: that of `spare`, a data frame that is done with, if it can.
+/// Reads a frame of a source, by the configuration that it announced last. Each frame is read once, into memory that all its readers
+/// share: that of `spare`, a data frame that is done with, if it can.
 #[inline(always)]
 pub(crate) fn tell(
     alloc: Global,

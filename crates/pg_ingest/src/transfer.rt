@@ -9,10 +9,10 @@ use crate::run::End;
 use std::io;
 use std::io::{ErrorKind, Write};
 
-/// The bytes that a turn of a link or of a session reads at most (own rule).
+/// The bytes that a turn of a link or of a session reads at most.
 pub const PIECE: usize = 4096;
 
-/// How a call ends after this read (own rule): `Closed` where the reader has ended, `Quiet` where it would block, `Fault(39)`
+/// How a call ends after this read: `Closed` where the reader has ended, `Quiet` where it would block, `Fault(39)`
 /// where the read failed, and not where bytes came.
 pub fn end_of_read(read: io::Result<usize>) -> Option<End>
     ensures is { EndsAs result read }
@@ -28,7 +28,7 @@ pub fn end_of_read(read: io::Result<usize>) -> Option<End>
     }
 }
 
-/// Writes these bytes as far as the writer takes them (own rule): how many it took, and how a call ends where it did not take
+/// Writes these bytes as far as the writer takes them: how many it took, and how a call ends where it did not take
 /// all: `Stalled`, or `Fault(40)` where a write failed or took no byte.
 pub fn write_bytes<W: Write>(writer: &mut W, bytes: &[u8]) -> (usize, Option<End>)
     ensures within { result.0 ≤ length bytes.now }

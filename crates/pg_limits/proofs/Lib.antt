@@ -1,1 +1,5 @@
 mod Cutting
+mod Apart
+mod Windowing
+mod Verdicts
+mod Reader

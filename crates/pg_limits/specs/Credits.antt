@@ -1,5 +1,6 @@
 -- How many frames may be made before those that were made are handed out.
-use Rattle.std.specs.Prelude.{ℕ, ◌+◌, ◌-◌, ◌*◌, ◌^◌, min, max, Bool, nat_le}
+use Rattle.std.specs.Prelude.{ℕ, ◌+◌, ◌-◌, ◌*◌, ◌^◌, ◌/◌, min, max, Bool, nat_le, List, map}
+use Rattle.std.specs.List.{fold}
 
 -- how many events may make frames before those that were made are known to be handed out, those of them before the mark that are not, and
 -- those since
@@ -34,3 +35,13 @@ marked a = record a { before = capped (a.before + a.since); since = 0 }
 -- what stands before the mark is handed out
 abbrev pub confirmed : Account → Account
 confirmed a = record a { before = 0 }
+
+-- ---- how many events fill a ring
+
+-- the events that fill a ring of so many frames, where each makes a frame of each of so many streams: one at least
+abbrev pub room_of : ℕ × ℕ → ℕ
+room_of ring = max (ring.0 / max ring.1 1) 1
+
+-- the least of that of some rings, of each the frames and the streams; no ring holds more than 1,024 frames
+abbrev pub least_room : List (ℕ × ℕ) → ℕ
+least_room rings = fold min 1024 (map room_of rings)

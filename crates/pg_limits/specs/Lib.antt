@@ -5,8 +5,13 @@ pub mod Clocks
 pub mod Credits
 pub mod Sources
 pub mod Layouts
+pub mod Switched
+pub mod Windows
+pub mod Connections
+pub mod Misreading
+pub mod Reading
 pub mod Tcp
 pub mod Moved
 pub mod Acknowledged
 pub mod Plans
-pub mod Patience
+pub mod Timers

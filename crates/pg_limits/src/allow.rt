@@ -7,7 +7,7 @@ ghost use Rattle.pg_limits.specs.Hosts.{is_of, is_allowed};
 use std::marker::Model;
 use std::net::Ipv4Addr;
 
-/// Hosts whose addresses begin alike: the first `bits` bits of an address, 0 to 32 (own rule).
+/// Hosts whose addresses begin alike: the first `bits` bits of an address, 0 to 32.
 #[derive(Clone, Copy, Debug, PartialEq, Eq)]
 pub struct Network {
     address: u32,
@@ -48,7 +48,7 @@ impl Network {
     }
 }
 
-/// The hosts that may connect: those of some networks, or every host (own rule).
+/// The hosts that may connect: those of some networks, or every host.
 #[derive(Debug, Drop)]
 pub struct Allow {
     /// The networks; `None` where every host may connect.

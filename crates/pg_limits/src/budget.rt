@@ -8,7 +8,7 @@ use std::io;
 use std::io::{ErrorKind, Read};
 
 /// A reader that answers `WouldBlock` once it has given so many reads, so that one peer who sends without end costs the others at most
-/// one turn (own rule). It gives just the bytes of the reader inside, none of which is lost.
+/// one turn. It gives just the bytes of the reader inside, none of which is lost.
 #[derive(Drop)]
 pub struct Budget<R> {
     /// Where the bytes come from.

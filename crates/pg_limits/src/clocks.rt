@@ -5,7 +5,7 @@ ghost use Rattle.pg_limits.specs.Sources.{both, none, one, wrong_by};
 use crate::guard::is_clock_wrong;
 use std::marker::Model;
 
-/// How the clocks of connected sources stand to this machine's (own rule): how many sources there are, how many are refused since the time
+/// How the clocks of connected sources stand to this machine's: how many sources there are, how many are refused since the time
 /// of their data is ahead of this machine's clock, and how many since it is behind.
 #[derive(Clone, Copy, Debug, PartialEq, Eq)]
 pub struct Clocks {

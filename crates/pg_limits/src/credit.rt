@@ -4,7 +4,7 @@ ghost use Rattle.pg_limits.specs.Credits.{confirmed, is_half_free, left_of, mark
 
 use std::marker::Model;
 
-/// How many events may make frames before those are known to be handed out that were made before (own rule): `most`. They are counted in
+/// How many events may make frames before those are known to be handed out that were made before: `most`. They are counted in
 /// two parts, those before a mark, of which it is waited that they are handed out, and those since. Once all are out it is waited until
 /// half of them are handed out, so that who makes frames and who hands them out change over seldom.
 #[derive(Clone, Copy, Debug)]

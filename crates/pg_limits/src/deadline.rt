@@ -5,7 +5,7 @@ ghost use Rattle.std.specs.Time.{instant_nanos};
 
 use std::time::{Duration, Instant};
 
-/// What is waited for, and how long at most (own rule): a source's next event (*silence*), a byte that a subscriber's socket takes
+/// What is waited for, and how long at most: a source's next event (*silence*), a byte that a subscriber's socket takes
 /// (*stall*), any byte of a subscriber (*idle*), a connection that is being made.
 #[derive(Clone, Copy, Debug)]
 pub struct Deadline {

@@ -2,7 +2,7 @@
 ghost use Rattle.std.specs.Prelude.{◌≡◌, ◌<◌, ◌≤◌, ◌^◌, count_by, nat_le};
 ghost use Rattle.pg_limits.specs.Clocks.{ahead_by, has_half, is_ahead, is_near, is_wrong, lower_median, millis_of, reference};
 
-/// How far a source's measurements may be from this machine's clock (own rule).
+/// How far a source's measurements may be from this machine's clock.
 #[derive(Clone, Copy, Debug)]
 pub struct ClockGuard {
     /// Milliseconds, 1 to 30,000.
@@ -23,7 +23,7 @@ impl ClockGuard {
     }
 }
 
-/// How far a source's measurements may be ahead of the reference (own rule); see [`reference`].
+/// How far a source's measurements may be ahead of the reference; see [`reference`].
 #[derive(Clone, Copy, Debug)]
 pub struct AheadGuard {
     /// Milliseconds, 1 to 30,000.
@@ -63,7 +63,7 @@ pub fn lower_median(times: &[u64]) -> Option<u64>
         .min()
 }
 
-/// What a measurement's time is held against (own rule): this machine's clock, or the lower median of the newest times of all connected
+/// What a measurement's time is held against: this machine's clock, or the lower median of the newest times of all connected
 /// sources where that is later. Where there are not two such sources it is the clock alone. All in milliseconds since 1970-01-01 00:00 UTC.
 pub fn reference(clock: u64, newest: &[u64]) -> u64
     ensures { result ≡ reference clock newest.now }
@@ -106,7 +106,7 @@ impl Stamp {
     }
 }
 
-/// Whether this machine's clock is probably the wrong one (own rule): of so many connected sources more than half are refused for the same
+/// Whether this machine's clock is probably the wrong one: of so many connected sources more than half are refused for the same
 /// direction, and two at least.
 pub fn is_clock_wrong(connected: u32, refused: u32) -> bool
     ensures { result ≡ is_wrong connected refused }

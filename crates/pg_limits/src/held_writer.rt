@@ -8,7 +8,7 @@ use crate::layout_changes::LayoutChanges;
 use std::io;
 use std::io::{ErrorKind, Write};
 
-/// A writer between a session and its socket (own rule). It takes the bytes that were drained before its subscriber's streams were asked
+/// A writer between a session and its socket. It takes the bytes that were drained before its subscriber's streams were asked
 /// about last. Of those behind it takes none once the answer is not valid any more: it answers `WouldBlock`, so that they stay with the
 /// session until the streams were asked about again. So each drain waits for one question at most, however many changes there are.
 #[derive(Drop)]

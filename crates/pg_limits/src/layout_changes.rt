@@ -2,7 +2,7 @@
 
 use std::sync::atomic::{AtomicUsize, Ordering};
 
-/// Counts of the edits and announcements that may change the layouts of streams (own rule): how many were begun, and how many of them are
+/// Counts of the edits and announcements that may change the layouts of streams: how many were begun, and how many of them are
 /// done. Each is counted as begun before it is posted, and as done behind that. So what was found out about a stream's layout while all were
 /// done holds until another one is begun.
 #[derive(Drop)]

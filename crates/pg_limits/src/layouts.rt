@@ -2,8 +2,9 @@
 ghost use Rattle.std.specs.Prelude.{◌≡◌, ◌≤◌, ◌==◌, not};
 ghost use Rattle.std.specs.List.{list_all};
 ghost use Rattle.pg_limits.specs.Layouts.{are_apart, are_unlike};
+ghost use Rattle.pg_limits.specs.Windows.{is_keep, is_safe};
 
-/// What is done where the effective blocks of a stream change while it is on (own rule).
+/// What is done where the effective blocks of a stream change while it is on.
 #[derive(Clone, Copy, Debug, PartialEq, Eq)]
 pub enum OnChange {
     /// Its subscriber is hung up where a data frame could be read by the layout of another one; else a CFG-2 is put among its replies.
@@ -12,6 +13,28 @@ pub enum OnChange {
     HangUp,
     /// Nothing.
     Keep,
+}
+
+impl OnChange {
+    /// Whether it sends a CFG-2 where that is safe.
+    pub(crate) fn is_safe(self) -> bool
+        ensures { result ≡ is_safe self }
+    {
+        match self {
+            OnChange::Safe => true,
+            OnChange::HangUp | OnChange::Keep => false,
+        }
+    }
+
+    /// Whether it does nothing.
+    pub(crate) fn is_keep(self) -> bool
+        ensures { result ≡ is_keep self }
+    {
+        match self {
+            OnChange::Keep => true,
+            OnChange::Safe | OnChange::HangUp => false,
+        }
+    }
 }
 
 /// Whether this length is none of these.

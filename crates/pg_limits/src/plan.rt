@@ -10,19 +10,19 @@ use crate::pause::Pause;
 use std::marker::Model;
 use std::time::{Duration, Instant};
 
-/// How long a connection may take to be made, in seconds (own rule).
+/// How long a connection may take to be made, in seconds.
 const CALL_SECONDS: u64 = 10;
 
-/// How long a look-up of a name may take before it is reported, in seconds (own rule).
+/// How long a look-up of a name may take before it is reported, in seconds.
 const LOOKUP_SECONDS: u64 = 5;
 
-/// The least time from one call of a source to the next, and without a byte before a source is asked again, in seconds (own rule).
+/// The least time from one call of a source to the next, and without a byte before a source is asked again, in seconds.
 const APART_SECONDS: u64 = 1;
 
-/// How long a connection may be without a measurement before its source is asked again (own rule).
+/// How long a connection may be without a measurement before its source is asked again.
 const ASK_SECONDS: u64 = 3;
 
-/// How long the measurements of a connection last that sets the pause back (own rule).
+/// How long the measurements of a connection last that sets the pause back.
 const PROVEN_SECONDS: u64 = 10;
 
 /// What the line to a source is doing.
@@ -58,7 +58,7 @@ struct Span {
     last: Instant,
 }
 
-/// When a source is called, asked again over its connection, and called anew (own rule):
+/// When a source is called, asked again over its connection, and called anew:
 ///
 /// - A connection may take 10 seconds to be made, and the look-up of a name 5.
 /// - A connection without a measurement for 3 seconds, and without a byte in the last one, is asked again for configuration and data; again

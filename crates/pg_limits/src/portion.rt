@@ -6,7 +6,7 @@ ghost use Rattle.std.specs.Io.KnownBytes.{ReadConsumes};
 use std::io;
 use std::io::Read;
 
-/// A reader of which each read gives so many bytes at most, so that no more frames end in them than there is room for (own rule). It gives
+/// A reader of which each read gives so many bytes at most, so that no more frames end in them than there is room for. It gives
 /// just the bytes of the reader inside, none of which is lost.
 #[derive(Drop)]
 pub struct Portion<R> {

@@ -6,7 +6,7 @@ ghost use Rattle.pg_limits.specs.Acknowledged.{fresh, looked};
 use std::marker::Model;
 use std::time::Instant;
 
-/// Since when the other side of a connection acknowledged nothing, though bytes wait for that (own rule): so a host that lost its power is
+/// Since when the other side of a connection acknowledged nothing, though bytes wait for that: so a host that lost its power is
 /// found.
 #[derive(Debug, Drop)]
 pub struct Unacknowledged {

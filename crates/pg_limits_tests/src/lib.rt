@@ -5,6 +5,8 @@
 #[cfg(test)]
 mod asserts;
 #[cfg(test)]
+mod layouts;
+#[cfg(test)]
 mod limits;
 #[cfg(test)]
 mod plans;

@@ -1,4 +1,4 @@
-//! Addresses, as lines and the setup file write them (own rules).
+//! Addresses, as lines and the setup file write them.
 ghost use Rattle.std.specs.Prelude.{◌≡◌, option_map};
 ghost use Rattle.std.specs.Net.Addr.{ipv4_bits};
 ghost use Rattle.pg_lines.specs.Addresses.{endpoint, endpoint_in, host_in, part_in, parts_in, port_in};

@@ -1,4 +1,5 @@
 //! The lines of an operator, one edit each, and the words of lines and of the setup file.
+//! What no clause of IEEE C37.118.2 is named for is a rule of this project.
 #![tactic(auto)]
 
 pub mod address;

@@ -16,7 +16,7 @@ use pg_ring::RingBytes;
 use pg_wire::{PmuKey, Refusal, StreamId, SubId};
 use std::alloc::{AllocError, Global};
 
-/// The edit that a line asks for (own rule). A line is a verb and its words:
+/// The edit that a line asks for. A line is a verb and its words:
 ///
 /// | Line | Edit |
 /// |---|---|

@@ -12,7 +12,7 @@ use pg_wire::{PmuId, Refusal, SubId};
 use std::alloc::Global;
 use std::net::{Ipv4Addr, SocketAddrV4};
 
-/// What a line asks of the running service (own rule).
+/// What a line asks of the running service.
 #[derive(Clone, Copy, Debug, PartialEq, Eq)]
 pub enum Steer {
     /// The source is called at this address from now on.
@@ -54,7 +54,7 @@ impl Way {
     }
 }
 
-/// What a line asks of the running service, or `None` for a line that is none of these (own rule):
+/// What a line asks of the running service, or `None` for a line that is none of these:
 ///
 /// | Line | Steers |
 /// |---|---|

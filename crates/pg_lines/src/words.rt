@@ -1,4 +1,4 @@
-//! The words of lines and of the setup file: numbers, keys of PMUs, hexadecimal (own rules).
+//! The words of lines and of the setup file: numbers, keys of PMUs, hexadecimal.
 //!
 //! Each reader answers `None`, or `BadLine`, for a word that is not of its form.
 

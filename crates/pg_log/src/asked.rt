@@ -1,6 +1,6 @@
 //! What an edit asks for, in words.
 
-use crate::journal::Whom;
+use crate::journal::Subject;
 use pg_gateway::Edit;
 use pg_wire::{PmuId, PmuKey, Refusal, StreamId};
 use std::fmt;
@@ -28,18 +28,18 @@ pub enum Asked {
 
 impl Asked {
     /// What this edit asks for, and of whom; `None` where it asks for counters alone.
-    pub fn of(edit: &Edit) -> Option<(Whom, Asked)> {
+    pub fn of(edit: &Edit) -> Option<(Subject, Asked)> {
         let asked = match edit {
-            Edit::AddPmu(key) => (Whom::Source(key.source), Asked::AddPmu(key.pmu)),
-            Edit::DropPmu(key) => (Whom::Source(key.source), Asked::DropPmu(key.pmu)),
-            Edit::AddSub(sub, ..) => (Whom::Subscriber(*sub), Asked::AddSub),
-            Edit::DropSub(sub) => (Whom::Subscriber(*sub), Asked::DropSub),
-            Edit::Grant(sub, key) => (Whom::Subscriber(*sub), Asked::Grant(*key)),
-            Edit::Revoke(sub, key) => (Whom::Subscriber(*sub), Asked::Revoke(*key)),
+            Edit::AddPmu(key) => (Subject::Source(key.source), Asked::AddPmu(key.pmu)),
+            Edit::DropPmu(key) => (Subject::Source(key.source), Asked::DropPmu(key.pmu)),
+            Edit::AddSub(sub, ..) => (Subject::Subscriber(*sub), Asked::AddSub),
+            Edit::DropSub(sub) => (Subject::Subscriber(*sub), Asked::DropSub),
+            Edit::Grant(sub, key) => (Subject::Subscriber(*sub), Asked::Grant(*key)),
+            Edit::Revoke(sub, key) => (Subject::Subscriber(*sub), Asked::Revoke(*key)),
             Edit::Define(sub, definition) => {
-                (Whom::Subscriber(*sub), Asked::Define(definition.stream))
+                (Subject::Subscriber(*sub), Asked::Define(definition.stream))
             }
-            Edit::Remove(sub, stream) => (Whom::Subscriber(*sub), Asked::Remove(*stream)),
+            Edit::Remove(sub, stream) => (Subject::Subscriber(*sub), Asked::Remove(*stream)),
             Edit::Stats(_) | Edit::PmuStats(_) | Edit::Audit(..) => return None,
         };
         Some(asked)
@@ -89,19 +89,19 @@ pub(crate) fn write_asked<W: fmt::Write>(asked: Asked, f: &mut fmt::Formatter<W>
 /// Why a running gateway refuses an edit.
 pub(crate) fn why(refusal: Refusal) -> &'static str {
     match refusal {
-        Refusal::NoMemory => "there is no memory for it",
+        Refusal::NoMemory => "out of memory",
         Refusal::NoSuchPmu => "the PMU is not registered",
-        Refusal::PmuExists => "it is registered already",
-        Refusal::PmusFull => "256 are registered, and no more may be",
-        Refusal::NoSuchSub => "the subscriber is not there",
-        Refusal::SubExists => "it is there already",
-        Refusal::SubsFull => "64 are there, and no more may be",
-        Refusal::GrantsFull => "it has 32 grants, and no more may be",
-        Refusal::NotGranted => "it has no such grant",
-        Refusal::NoSuchStream => "it has no such stream",
-        Refusal::StreamExists => "it has such a stream already",
-        Refusal::StreamsFull => "it has 8 streams, and no more may be",
-        Refusal::BadDefinition => "its definition is outside the limits",
+        Refusal::PmuExists => "the PMU is registered already",
+        Refusal::PmusFull => "256 PMUs are registered, the most possible",
+        Refusal::NoSuchSub => "there is no such subscriber",
+        Refusal::SubExists => "there is a subscriber of this number already",
+        Refusal::SubsFull => "there are 64 subscribers, the most possible",
+        Refusal::GrantsFull => "the subscriber has 32 grants, the most possible",
+        Refusal::NotGranted => "the PMU is not granted to it",
+        Refusal::NoSuchStream => "the subscriber has no such stream",
+        Refusal::StreamExists => "the subscriber has a stream of this IDCODE already",
+        Refusal::StreamsFull => "the subscriber has 8 streams, the most possible",
+        Refusal::BadDefinition => "a value of it is outside its range",
         _ => "the gateway refuses it",
     }
 }

@@ -9,7 +9,7 @@ const FORMAT: usize = 18;
 /// Where the channel names begin.
 const NAMES: usize = 26;
 
-/// What differs between two configurations of a source (own rule). CFGCNT is no difference.
+/// What differs between two configurations of a source. CFGCNT is no difference.
 #[derive(Clone, Copy, Debug, PartialEq, Eq)]
 pub struct ConfigChange {
     /// The PMUs, their order or their station names.

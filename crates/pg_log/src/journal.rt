@@ -1,4 +1,4 @@
-//! What the service notes of what it meets.
+//! What the service logs and counts.
 
 use crate::asked::Asked;
 use crate::change::ConfigChange;
@@ -6,29 +6,29 @@ use log::{Level, LevelFilter};
 use pg_wire::{PmuId, Refusal, SubId};
 use std::alloc::Global;
 use std::io::ErrorKind;
-use std::mem;
 use std::net::SocketAddr;
 use std::rt::Clock;
 use std::sync::atomic::{AtomicU64, Ordering};
 use std::sync::{Mutex, Wait};
 use std::time::SystemTime;
+use std::{io, mem};
 
-/// What the service meets that nobody is answered (own rule).
+/// What the service logs or counts, since no reply says it.
 #[derive(Clone, Copy, Debug, PartialEq, Eq)]
-pub enum Notice {
-    /// A source was called.
+pub enum LogEvent {
+    /// A connection to a source was begun.
     Called = 0,
     /// A connection to a source was made.
     Made = 1,
-    /// A call of a source failed.
+    /// A connection to a source could not be made.
     NotMade = 2,
-    /// A call of a source was given up after 10 seconds.
+    /// A source did not answer within 10 seconds.
     GivenUp = 3,
     /// A source's name has no address.
     NoAddress = 4,
     /// A connection to a source ended or failed.
     SourceEnded = 5,
-    /// A source gave no event for as long as it may.
+    /// A source sent no data for as long as `silence` says.
     Silent = 6,
     /// A measurement was too far from this machine's clock.
     FarMeasurement = 7,
@@ -40,29 +40,29 @@ pub enum Notice {
     Refused = 10,
     /// A subscriber's connection ended or failed.
     GuestEnded = 11,
-    /// A subscriber was hung up for its socket took nothing.
+    /// A subscriber was disconnected, since its socket took no data.
     Stalled = 12,
-    /// A subscriber was hung up for nothing went either way.
+    /// A subscriber was disconnected, since there was no traffic.
     Idle = 13,
-    /// A subscriber was hung up for another connection of it, or by an order.
+    /// A subscriber was disconnected by a command.
     HungUp = 14,
     /// A connection could not be accepted.
     NotAccepted = 15,
     /// A socket could not be waited for, or an option of it not set.
     SocketFault = 16,
-    /// The system did not tell which sockets are ready.
+    /// The system failed to wait for sockets.
     PollFault = 17,
     /// A clock could not be read.
     ClockFault = 18,
-    /// A worker could not be woken, or found no memory for what it was told.
+    /// A worker could not be woken, or there was no memory for a message to it.
     MailFault = 19,
-    /// Answers could not be written, or lines not be read.
+    /// A command could not be read, or its answer not be written.
     ConsoleFault = 20,
     /// A source announced its configuration, as the first of its connection.
     Announced = 21,
     /// Frames of a source were ignored.
     Ignored = 22,
-    /// Frames were handed out that others were dropped before.
+    /// Data frames were dropped; this is noted when a later one is sent.
     Gap = 23,
     /// A stream was started by its subscriber.
     Started = 24,
@@ -70,25 +70,25 @@ pub enum Notice {
     Stopped = 25,
     /// A port is listened on.
     Listening = 26,
-    /// Of what was met more was not kept for the log.
+    /// Entries were lost, since too many waited for the log.
     Untold = 27,
-    /// A source is called no longer.
+    /// No connection to a source is made any more.
     Undialed = 28,
-    /// A port is listened on no longer.
+    /// A port was closed.
     Unlistened = 29,
     /// The setup was read again, and what changed was done.
     Reloaded = 30,
-    /// The setup was to be read again and could not be, or had a fault: nothing changed.
+    /// The setup was to be read again and could not be, or had a mistake: nothing changed.
     NotReloaded = 31,
-    /// A worker did not tell in time how its sources or ports stand.
+    /// A worker did not report the state of its sources or ports in time.
     Unanswered = 32,
     /// The page and the metrics are served.
     Shown = 33,
-    /// Lines are taken at the control socket.
+    /// The control socket accepts commands.
     Opened = 34,
-    /// A subscriber was hung up, since another connection of it took its place.
+    /// A subscriber was disconnected, since a new connection replaced it.
     Replaced = 35,
-    /// An edit was refused, by a line or a reload.
+    /// An edit of a command or a reload was refused.
     NotDone = 36,
     /// The port of a setup that was read again could not be bound.
     NotBound = 37,
@@ -100,17 +100,17 @@ pub enum Notice {
     WrongClock = 40,
     /// The address of a source's name was not found in time.
     NotFound = 41,
-    /// An edit was done, by a line or a reload.
+    /// An edit of a command or a reload was done.
     Edited = 42,
     /// A subscriber was disconnected, since a data frame of a stream could be read by an old CFG-2.
     Misread = 43,
     /// The blocks of a stream changed, and its CFG-2 was put among the replies unasked.
     ConfigSent = 44,
-    /// A subscriber was hung up, since its host acknowledged nothing of what was sent.
+    /// A subscriber was disconnected, since its host acknowledged no data.
     Unacknowledged = 45,
     /// The system's table of TCP connections could not be read.
     NoTable = 46,
-    /// The line `quit` has come.
+    /// The command `quit` was given.
     Quit = 47,
     /// A client of the control socket was closed for another one, since it had sent nothing for 60 seconds.
     SilentClientClosed = 48,
@@ -120,88 +120,91 @@ pub enum Notice {
     IdlePageClosed = 50,
     /// A connection of the page was answered 503, since as many are served as may be.
     PageBusy = 51,
+    /// The setup that was read again has warnings.
+    Warned = 52,
 }
 
 /// The PMUs of a configuration at most.
 pub const MOST_PMUS: usize = 16;
 
 /// How many kinds of notices there are.
-const KINDS: usize = 52;
+const KINDS: usize = 53;
 
-impl Notice {
-    /// The kinds that are counted where nobody is named, so that the log tells how often they were met.
-    pub const UNNAMED: [Notice; 6] = [
-        Notice::PollFault,
-        Notice::ClockFault,
-        Notice::MailFault,
-        Notice::ConsoleFault,
-        Notice::Untold,
-        Notice::Unanswered,
+impl LogEvent {
+    /// The kinds that are counted without an entry; the log has their counts.
+    pub const UNNAMED: [LogEvent; 6] = [
+        LogEvent::PollFault,
+        LogEvent::ClockFault,
+        LogEvent::MailFault,
+        LogEvent::ConsoleFault,
+        LogEvent::Untold,
+        LogEvent::Unanswered,
     ];
 
-    /// How much it matters (own rule): an error is a fault of this machine, a warning what an operator may have to mend.
+    /// How much it matters: an error is a failure of this machine, a warning what an operator may have to mend.
     pub fn level(self) -> Level {
         match self {
-            Notice::PollFault
-            | Notice::ClockFault
-            | Notice::MailFault
-            | Notice::SocketFault
-            | Notice::WrongClock => Level::Error,
-            Notice::NotMade
-            | Notice::GivenUp
-            | Notice::NoAddress
-            | Notice::NotFound
-            | Notice::SourceEnded
-            | Notice::Silent
-            | Notice::FarMeasurement
-            | Notice::AskedAgain
-            | Notice::Reconfigured
-            | Notice::Foreign
-            | Notice::Refused
-            | Notice::Stalled
-            | Notice::Idle
-            | Notice::NotAccepted
-            | Notice::ConsoleFault
-            | Notice::Ignored
-            | Notice::Gap
-            | Notice::Untold
-            | Notice::Unanswered
-            | Notice::NotDone
-            | Notice::NotBound
-            | Notice::NotReloaded
-            | Notice::Misread
-            | Notice::Unacknowledged
-            | Notice::NoTable
-            | Notice::SilentClientClosed
-            | Notice::ClientRefused
-            | Notice::IdlePageClosed
-            | Notice::PageBusy => Level::Warn,
-            Notice::Called
-            | Notice::Made
-            | Notice::Connected
-            | Notice::GuestEnded
-            | Notice::HungUp
-            | Notice::Replaced
-            | Notice::Announced
-            | Notice::Started
-            | Notice::Stopped
-            | Notice::Listening
-            | Notice::Undialed
-            | Notice::Unlistened
-            | Notice::Shown
-            | Notice::Opened
-            | Notice::Edited
-            | Notice::ConfigSent
-            | Notice::Quit
-            | Notice::Reloaded => Level::Info,
+            LogEvent::PollFault
+            | LogEvent::ClockFault
+            | LogEvent::MailFault
+            | LogEvent::SocketFault
+            | LogEvent::WrongClock => Level::Error,
+            LogEvent::NotMade
+            | LogEvent::GivenUp
+            | LogEvent::NoAddress
+            | LogEvent::NotFound
+            | LogEvent::SourceEnded
+            | LogEvent::Silent
+            | LogEvent::FarMeasurement
+            | LogEvent::AskedAgain
+            | LogEvent::Reconfigured
+            | LogEvent::Foreign
+            | LogEvent::Refused
+            | LogEvent::Stalled
+            | LogEvent::Idle
+            | LogEvent::NotAccepted
+            | LogEvent::ConsoleFault
+            | LogEvent::Ignored
+            | LogEvent::Gap
+            | LogEvent::Untold
+            | LogEvent::Unanswered
+            | LogEvent::NotDone
+            | LogEvent::NotBound
+            | LogEvent::NotReloaded
+            | LogEvent::Misread
+            | LogEvent::Unacknowledged
+            | LogEvent::NoTable
+            | LogEvent::SilentClientClosed
+            | LogEvent::ClientRefused
+            | LogEvent::IdlePageClosed
+            | LogEvent::PageBusy
+            | LogEvent::Warned => Level::Warn,
+            LogEvent::Called
+            | LogEvent::Made
+            | LogEvent::Connected
+            | LogEvent::GuestEnded
+            | LogEvent::HungUp
+            | LogEvent::Replaced
+            | LogEvent::Announced
+            | LogEvent::Started
+            | LogEvent::Stopped
+            | LogEvent::Listening
+            | LogEvent::Undialed
+            | LogEvent::Unlistened
+            | LogEvent::Shown
+            | LogEvent::Opened
+            | LogEvent::Edited
+            | LogEvent::ConfigSent
+            | LogEvent::Quit
+            | LogEvent::Reloaded => Level::Info,
         }
     }
 }
 
-/// Whom a notice is of.
+/// What a notice concerns.
 #[derive(Clone, Copy, Debug, PartialEq, Eq)]
-pub enum Whom {
-    /// Nobody, or the service itself.
+pub enum Subject {
+    /// The service itself.
     Nobody,
     /// A source.
     Source(PmuId),
@@ -220,10 +223,12 @@ pub enum Detail {
     Because(Refusal),
     /// The other side closed the connection.
     ClosedByPeer,
-    /// The connection ended by the fault of this number (the numbers of refusals).
+    /// The connection ended for this reason (the number of a refusal).
     Fault(u8),
     /// What the system said.
     System(ErrorKind),
+    /// The system's number of an error that is of no kind.
+    Errno(i32),
     /// The configuration that was announced: its DATA_RATE, and the IDCODEs of its PMUs in their order, 0 behind the last.
     Config(i16, [u16; MOST_PMUS]),
     /// Of this stream.
@@ -238,47 +243,55 @@ pub enum Detail {
     Off(i64),
     /// What differs between two configurations.
     Differs(ConfigChange),
-    /// From where a connection came that was refused, and from where the one came that stands.
+    /// The address of a connection that was refused, and of the current one.
     Between(SocketAddr, SocketAddr),
 }
 
-/// What was met, for the log.
+/// An entry of the log.
 #[derive(Clone, Copy, Debug)]
 pub struct Entry {
-    /// What.
-    pub notice: Notice,
-    /// Of whom.
-    pub whom: Whom,
+    /// What happened.
+    pub event: LogEvent,
+    /// To what.
+    pub subject: Subject,
     /// What is known beside.
     pub detail: Detail,
     /// How often, or how many frames.
     pub times: u64,
-    /// When it was first met, by this machine's clock; `None` where the clock can't be read, or it is not in the journal yet.
+    /// When it first happened, by this machine's clock; `None` if the clock can't be read, or it is not in the journal yet.
     pub time: Option<SystemTime>,
 }
 
 impl Entry {
-    /// It was met once.
-    pub fn new(notice: Notice, whom: Whom, detail: Detail) -> Entry {
+    /// It happened once.
+    pub fn new(event: LogEvent, subject: Subject, detail: Detail) -> Entry {
         Entry {
-            notice,
-            whom,
+            event,
+            subject,
             detail,
             times: 1,
             time: None,
         }
     }
 
-    /// Whether it is of the same kind, of the same one and for the same reason, so that one line may stand for both. Addresses and times are
+    /// Whether both are of the same kind, concern the same and have the same reason, so that one line may report both. Addresses and times are
     /// no reasons.
     pub fn is_like(&self, other: &Entry) -> bool {
-        self.notice == other.notice
-            && self.whom == other.whom
+        self.event == other.event
+            && self.subject == other.subject
             && (self.detail == other.detail || self.detail.is_of_kind(&other.detail))
     }
 }
 
 impl Detail {
+    /// What the system said by this error: its kind, or its number where it is of no kind.
+    pub fn of_error(error: &io::Error) -> Detail {
+        match (error.kind(), error.raw_os_error()) {
+            (ErrorKind::Uncategorized, Some(number)) => Detail::Errno(number),
+            (kind, _) => Detail::System(kind),
+        }
+    }
+
     /// Whether both are addresses, or both are times.
     fn is_of_kind(&self, other: &Detail) -> bool {
         matches!(
@@ -290,10 +303,10 @@ impl Detail {
     }
 }
 
-/// As many entries of one source or subscriber, or of none, wait for the log at most (own rule): so that none hides what another does.
+/// As many entries of one source or subscriber, or of none, wait for the log at most: so that none hides what another does.
 const WAITING: usize = 128;
 
-/// What the service met, which all its workers share: its counts, what waits for the log, and what the log tells of it.
+/// What all workers of the service share of the log: the counts, the entries that wait for it, and its level.
 #[derive(Drop)]
 pub struct Journal {
     counts: Vec<AtomicU64>,
@@ -302,7 +315,7 @@ pub struct Journal {
 }
 
 impl Journal {
-    /// Nothing was met. The log tells what is of the level Info or graver.
+    /// Nothing happened. The log has entries of the level Info and above.
     ///
     /// # Errors
     ///
@@ -319,63 +332,63 @@ impl Journal {
         })
     }
 
-    /// From now on the log tells what this allows.
+    /// From now on the log has what this allows.
     pub fn set_filter<R: Wait>(&self, rt: &R, filter: LevelFilter) {
         let mut held = self.filter.lock(rt);
         *held = filter;
     }
 
-    /// What the log tells.
+    /// What the log has.
     pub fn filter<R: Wait>(&self, rt: &R) -> LevelFilter {
         *self.filter.lock(rt)
     }
 
-    /// Counts what was met, and keeps it for the log with the time by now. Where too much waits there, it is counted alone.
+    /// Counts an entry, and keeps it for the log with the current time. If too many wait there, it is only counted.
     pub fn tell<R: Wait + Clock>(&self, rt: &R, mut entry: Entry) {
         entry.time = SystemTime::now(rt).ok();
-        let notice = entry.notice;
+        let event = entry.event;
         let times = entry.times;
-        self.add(notice, times);
+        self.add(event, times);
         let mut entries = self.entries.lock(rt);
         let is_kept = keep(&mut *entries, entry);
         drop(entries);
         if !is_kept {
-            self.add(Notice::Untold, times);
+            self.add(LogEvent::Untold, times);
         }
     }
 
-    /// What waits for the log, in the order in which it was met.
+    /// What waits for the log, in order.
     pub fn take<R: Wait>(&self, rt: &R, alloc: Global) -> Vec<Entry> {
         let mut entries = self.entries.lock(rt);
         mem::replace(&mut *entries, Vec::new(alloc))
     }
 
-    /// Counts what was met.
-    pub fn note(&self, notice: Notice) {
-        self.add(notice, 1);
+    /// Counts it once.
+    pub fn note(&self, event: LogEvent) {
+        self.add(event, 1);
     }
 
-    /// Counts what was met so often.
-    pub fn add(&self, notice: Notice, times: u64) {
+    /// Counts it so often.
+    pub fn add(&self, event: LogEvent, times: u64) {
         if times == 0 {
             return;
         }
-        if let Some(count) = self.counts.get(notice as usize) {
+        if let Some(count) = self.counts.get(event as usize) {
             count.fetch_add(times, Ordering::Relaxed);
         }
     }
 
-    /// How often something of this kind was met.
-    pub fn count(&self, notice: Notice) -> u64 {
-        match self.counts.get(notice as usize) {
+    /// How often something of this kind happened.
+    pub fn count(&self, event: LogEvent) -> u64 {
+        match self.counts.get(event as usize) {
             Some(count) => count.load(Ordering::Relaxed),
             None => 0,
         }
     }
 }
 
-/// Keeps an entry behind the others, and tells whether there was room for one more of its source or subscriber. One that is like the last is
-/// counted with it.
+/// Keeps an entry behind the others, and returns whether there was room for one more of its source or subscriber. One that is like the last
+/// is counted with it.
 fn keep(entries: &mut Vec<Entry>, entry: Entry) -> bool {
     if let Some(last) = entries.last_mut() {
         if last.is_like(&entry) && last.detail == entry.detail {
@@ -383,6 +396,9 @@ fn keep(entries: &mut Vec<Entry>, entry: Entry) -> bool {
             return true;
         }
     }
-    let own = entries.iter().filter(|it| it.whom == entry.whom).count();
+    let own = entries
+        .iter()
+        .filter(|it| it.subject == entry.subject)
+        .count();
     own < WAITING && entries.push(entry).is_ok()
 }

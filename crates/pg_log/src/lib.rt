@@ -4,12 +4,12 @@
 
 mod asked;
 mod change;
-mod digest;
 mod journal;
-mod words;
+mod messages;
+mod throttle;
 
 pub use asked::Asked;
 pub use change::ConfigChange;
-pub use digest::Digest;
-pub use journal::{Detail, Entry, Journal, MOST_PMUS, Notice, Whom};
-pub use words::system_words;
+pub use journal::{Detail, Entry, Journal, LogEvent, MOST_PMUS, Subject};
+pub use messages::system_words;
+pub use throttle::LogThrottle;

@@ -312,16 +312,16 @@ abbrev pub path_in : Data → Option Text
 path_in (string s) = if is_path s then Some s else None
 path_in _ = None
 
--- a name for people: 1 to 64 characters of ASCII that can be printed
+-- the gateway's name: 1 to 64 printable ASCII characters
 abbrev pub is_printable : ℕ → Bool
 is_printable b = nat_le 32 b && nat_le b 126
 
-abbrev pub is_title : Text → Bool
-is_title w = (nat_lt 0 (length w) && nat_le (length w) 64) && list_all is_printable w
+abbrev pub is_gateway_name : Text → Bool
+is_gateway_name w = (nat_lt 0 (length w) && nat_le (length w) 64) && list_all is_printable w
 
-abbrev pub title_in : Data → Option Text
-title_in (string s) = if is_title s then Some s else None
-title_in _ = None
+abbrev pub name_in : Data → Option Text
+name_in (string s) = if is_gateway_name s then Some s else None
+name_in _ = None
 
 pub record General : Type 0 where
   pub tick_ms : ℕ
@@ -349,7 +349,7 @@ abbrev pub general_by : Members → Option General
 general_by ms =
     option_and_then (λ tick. option_and_then (λ ingest. option_and_then (λ serve. option_and_then (λ log. option_and_then (λ control. option_and_then (λ status. option_map
     (λ name. record { tick_ms = tick; ingest = ingest; serve = serve; log = log; control = control; status = status; name = name })
-    (absent_or title_in (codes "name") ms))
+    (absent_or name_in (codes "name") ms))
     (absent_or endpoint_text_in (codes "status") ms))
     (absent_or path_in (codes "control") ms))
     (optional level.Info level_in (codes "log") ms))

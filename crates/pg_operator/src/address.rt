@@ -1,4 +1,4 @@
-//! Names of hosts, addresses and networks, as the setup file writes them (own rules).
+//! Names of hosts, addresses and networks, as the setup file writes them.
 ghost use Rattle.std.specs.Prelude.{◌≡◌, Some, None, option_map};
 ghost use Rattle.std.specs.Char.{is_ascii_digit};
 ghost use Rattle.std.specs.List.{list_all};

@@ -11,7 +11,7 @@ use std::alloc::Global;
 use std::net::Ipv4Addr;
 use toml::{Table, Value};
 
-/// Who may connect to a subscriber's port, when it is hung up, and what is done where the blocks of a stream change (own rule).
+/// Who may connect to a subscriber's port, when it is hung up, and what is done where the blocks of a stream change.
 #[derive(Debug, Drop)]
 pub struct PortRules {
     /// The subscriber.

@@ -40,10 +40,10 @@ pub enum Wrong {
     #[error("{0}; it has to be {1}")]
     Is(Misfit, Kind),
     /// Another table of this source gives its address too.
-    #[error("is given twice for the source {}; one table of a source gives it", .0.get())]
+    #[error("is given twice for source {}; only one of its tables may have it", .0.get())]
     Twice(PmuId),
     /// Another table of this source says otherwise.
-    #[error("differs from that in another table of the source {}; they have to say the same", .0.get())]
+    #[error("differs from another table of source {}; all its tables have to agree", .0.get())]
     Differs(PmuId),
 }
 
@@ -63,7 +63,7 @@ fn write_fault<W: fmt::Write>(
 
 /// The keys that are right in such a table.
 fn write_unknown<W: fmt::Write>(heading: &Heading, f: &mut fmt::Formatter<W>) -> fmt::Result {
-    f.write_str("is no key here; the keys here are ")?;
+    f.write_str("unknown key; known keys: ")?;
     match heading {
         Heading::File => write_names(f, &TOP),
         Heading::Pmu => write_names(f, &PMU),
@@ -85,7 +85,7 @@ fn write_names<W: fmt::Write>(f: &mut fmt::Formatter<W>, rules: &[Rule]) -> fmt:
     Ok(())
 }
 
-/// What is wrong with a setup file: each fault, in the order of their lines (own rule). Where `read_setup` takes the text they are the
+/// What is wrong with a setup file: each fault, in the order of their lines. Where `read_setup` takes the text they are the
 /// numbers of streams that are beyond a definition's ranges, which the gateway refuses. The time that it takes grows with the length of
 /// the text.
 ///

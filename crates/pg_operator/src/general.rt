@@ -3,7 +3,7 @@ ghost use Rattle.std.specs.Prelude.{◌≡◌, ◌⊎◌, ◌==◌, IfOk, IfErr,
 ghost use Rattle.std.specs.List.{list_all};
 ghost use Rattle.toml.specs.View.{view, table_view};
 ghost use Rattle.pg_lines.specs.Addresses.{endpoint};
-ghost use Rattle.pg_operator.specs.Setups.{absent_or, endpoint_text_in, general_by, general_of, is_path, is_printable, is_title, level_in, level_of, optional, path_in, title_in, whole_in};
+ghost use Rattle.pg_operator.specs.Setups.{absent_or, endpoint_text_in, general_by, general_of, is_path, is_printable, is_gateway_name, level_in, level_of, optional, path_in, name_in, whole_in};
 
 use crate::{address, table};
 use pg_wire::Refusal;
@@ -132,7 +132,7 @@ fn status_at(table: &Table) -> Option<Option<SocketAddrV4>>
 
 /// The gateway's name, or none where it is left out.
 fn name_at(table: &Table) -> Option<Option<&str>>
-    ensures { option_map (λ o. option_map (λ s. s.now) o) result ≡ absent_or title_in (codes "name") (table_view table.now) }
+    ensures { option_map (λ o. option_map (λ s. s.now) o) result ≡ absent_or name_in (codes "name") (table_view table.now) }
 {
     match table::value_at(table, "name") {
         Some(value) => match name(value) {
@@ -185,19 +185,19 @@ fn no_zero(bytes: &[u8]) -> bool
 /// The most characters of a gateway's name.
 const NAME_LIMIT: usize = 64;
 
-/// A name for people.
+/// The gateway's name.
 pub(crate) fn name(value: &Value) -> Option<&str>
-    ensures { option_map (λ s. s.now) result ≡ title_in (view value.now) }
+    ensures { option_map (λ s. s.now) result ≡ name_in (view value.now) }
 {
     match value {
-        Value::String(text) if is_title(text.as_bytes()) => Some(text.as_str()),
+        Value::String(text) if is_gateway_name(text.as_bytes()) => Some(text.as_str()),
         _ => None,
     }
 }
 
-/// One to 64 characters of ASCII that can be printed.
-fn is_title(bytes: &[u8]) -> bool
-    ensures { result ≡ is_title bytes.now }
+/// Whether this can be a gateway's name: 1 to 64 printable ASCII characters.
+pub fn is_gateway_name(bytes: &[u8]) -> bool
+    ensures { result ≡ is_gateway_name bytes.now }
 {
     if bytes.is_empty() || bytes.len() > NAME_LIMIT {
         return false;

@@ -152,13 +152,13 @@ impl fmt::Display for Kind {
             Kind::Path => {
                 f.write_str("the path of a socket, a text of 1 to 107 bytes without a zero byte")
             }
-            Kind::Name => f.write_str("a text of 1 to 64 characters of ASCII that can be printed"),
+            Kind::Name => f.write_str("a text of 1 to 64 printable ASCII characters"),
             Kind::Networks => f.write_str("a list of texts \"A.B.C.D\" or \"A.B.C.D/BITS\""),
             Kind::Grants => f.write_str(
-                "a list of PMUs, each a number or a text \"SOURCE/PMU\", from 1 to 65534",
+                "a list of PMUs, each a number from 1 to 65534 or a text \"SOURCE/PMU\" of two",
             ),
             Kind::Members => f.write_str(
-                "a list of 1 to 32 PMUs, each a number or a text \"SOURCE/PMU\", from 1 to 65534",
+                "a list of 1 to 32 PMUs, each a number from 1 to 65534 or a text \"SOURCE/PMU\" of two",
             ),
             Kind::Text => f.write_str("a text"),
             Kind::Tables(heading) => write!(f, "one table or more, each under {heading}"),
@@ -186,7 +186,7 @@ pub enum Found {
 impl fmt::Display for Found {
     fn fmt<W: fmt::Write>(&self, f: &mut fmt::Formatter<W>) -> fmt::Result {
         match self {
-            Found::Whole(number) => write!(f, "the number {number}"),
+            Found::Whole(number) => write!(f, "{number}"),
             Found::Text(text) => write!(f, "the text {:?}", text.as_str()),
             Found::Truth(truth) => write!(f, "{truth}"),
             Found::List(count) => write!(f, "a list with {count} items"),
@@ -203,7 +203,7 @@ pub enum Misfit {
     #[error("is {0}")]
     Value(Found),
     /// The item with this number, from 1.
-    #[error("has as item {0} {1}")]
+    #[error("item {0} is {1}")]
     Item(usize, Found),
 }
 

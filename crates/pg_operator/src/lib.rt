@@ -1,5 +1,6 @@
 //! What an operator writes: lines, and the setup file with what it asks for and what is wrong with it. Lines are read by pg_lines,
 //! whose names stand here too; a program that needs no setup file stands on that crate alone.
+//! What no clause of IEEE C37.118.2 is named for is a rule of this project.
 #![tactic(auto)]
 
 mod address;
@@ -17,7 +18,7 @@ mod table;
 
 pub use door::PortRules;
 pub use faults::{Fault, Wrong, setup_faults};
-pub use general::LogLevel;
+pub use general::{LogLevel, is_gateway_name};
 pub use kind::{Found, Heading, Kind, Misfit};
 pub use lines::{SetupLines, SetupTable};
 pub use pg_lines::{Steer, parse_line, parse_steer, words_of};

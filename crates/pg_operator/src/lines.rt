@@ -98,7 +98,7 @@ impl<'a> SetupLines<'a> {
         Ok(lines)
     }
 
-    /// The line, from 1, of a key of a table (own rule). Where the key is not there it is that of the table's heading, or of the value that
+    /// The line, from 1, of a key of a table. Where the key is not there it is that of the table's heading, or of the value that
     /// the table stands in.
     pub fn line_of(&self, table: SetupTable, key: &str) -> usize {
         let (table, key) = self.headed(table, key);

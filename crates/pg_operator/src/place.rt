@@ -17,7 +17,7 @@ pub enum BoundBy {
     Control,
 }
 
-/// The line, from 1, of the key of a setup file that asks to bind (own rule). In a list or a text of several lines it is the first of
+/// The line, from 1, of the key of a setup file that asks to bind. In a list or a text of several lines it is the first of
 /// them. `None` where the text can't be read, has no such key, or memory runs out.
 pub fn line_of_key(alloc: Global, text: &str, by: BoundBy) -> Option<usize> {
     let table = toml::table_from_str(alloc, text).ok()?;

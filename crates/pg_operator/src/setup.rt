@@ -39,11 +39,11 @@ pub struct Setup {
     pub control: Option<String>,
     /// The address on which the page and the metrics are served; `None` where they are not.
     pub status: Option<SocketAddrV4>,
-    /// The gateway's name for people: 1 to 64 characters of ASCII that can be printed; `None` for the host's name.
+    /// The gateway's name: 1 to 64 printable ASCII characters; `None` for the host's name.
     pub name: Option<String>,
 }
 
-/// What a setup file asks for (own rule). It is TOML, with these keys and no other:
+/// What a setup file asks for. It is TOML, with these keys and no other:
 ///
 /// | Key | Values | If absent |
 /// |---|---|---|
@@ -52,7 +52,7 @@ pub struct Setup {
 /// | `log` | `"error"`, `"warn"`, `"info"`, `"debug"` | `"info"` |
 /// | `control` | path of a Unix socket: a text of 1 to 107 bytes without a zero byte | no socket |
 /// | `status` | text `A.B.C.D:PORT`, of the page and the metrics | no page |
-/// | `name` | text of 1 to 64 characters of ASCII that can be printed | the host's name |
+/// | `name` | text of 1 to 64 printable ASCII characters | the host's name |
 /// | `pmu`, `subscriber` | tables | required |
 /// | `pmu.id` | 1 to 65534 | required |
 /// | `pmu.source` | 1 to 65534 | equal to `id` |

@@ -13,7 +13,7 @@ const SILENCE: u16 = 10;
 /// How many milliseconds a source may be ahead of the reference where its tables do not say it.
 const AHEAD_MS: u16 = 200;
 
-/// How a source is watched (own rule).
+/// How a source is watched.
 #[derive(Clone, Copy, Debug)]
 pub struct SourceRules {
     /// The source.

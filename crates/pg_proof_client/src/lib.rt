@@ -5,7 +5,8 @@
 ghost use Rattle.std.specs.Prelude.{◌≡◌, ◌≤◌, ◌⊎◌, Some, None, IfOk, IfErr};
 ghost use Rattle.pg_serve.specs.Inputs.{facts, outcomes};
 ghost use Rattle.pg_serve.specs.Shown.{queue_shown};
-ghost use Rattle.pg_serve.specs.Full.{HasAnswered, OutcomesLossless, Headline, handed_over};
+ghost use Rattle.pg_serve.specs.Full.{handed_over};
+ghost use Rattle.pg_serve.specs.Headline.{HasAnswered, OutcomesLossless, Headline};
 ghost use Rattle.pg_serve.specs.Others.{without_others, adds_in};
 ghost use Rattle.pg_serve.specs.Framed.{SameButUngranted};
 ghost use Rattle.pg_serve.specs.Beside.{SeeAlike, ServesAlike, StandsBeside};

@@ -1,7 +1,7 @@
 -- Where the last Connect of two equal views is the one of a seat, the views up to it are equal.
 use Rattle.std.proofs.Common.{◌≡◌, ◌≢◌, refl, sym, ap, ap₂, subst, ◌∙◌, ℕ, List, [], ◌∷◌, ◌++◌, append_assoc}
 use Rattle.pg_session.specs.Events.{connect}
-use Rattle.pg_gateway.specs.Occurrences.{Occurrence, occurrence}
+use Rattle.pg_gateway.specs.GatewayEvents.{GatewayEvent, gateway_event}
 use Rattle.pg_gateway.specs.State.{SharedMachine, opening}
 use Rattle.pg_gateway.specs.Laws.{after}
 use Rattle.pg_gateway.specs.Views.{Seen, takes, part, shared_step, shared_run, view}
@@ -11,9 +11,9 @@ use Rattle.pg_proof_service.specs.Since.{SeesNoConnect, ConnectsLast}
 
 events_more : (a b : List Call) → events_in (a ++ b) ≡ events_in a ++ events_in b
 events_more [] b = refl
-events_more (x ∷ a) b = ap (λ l. occurrence x.0 ∷ l) (events_more a b)
+events_more (x ∷ a) b = ap (λ l. gateway_event x.0 ∷ l) (events_more a b)
 
-view_more : (u : ℕ) (S : SharedMachine) (es fs : List Occurrence) → view u S (es ++ fs) ≡ view u S es ++ view u (shared_run S es) fs
+view_more : (u : ℕ) (S : SharedMachine) (es fs : List GatewayEvent) → view u S (es ++ fs) ≡ view u S es ++ view u (shared_run S es) fs
 view_more u S [] fs = refl
 view_more u S (e ∷ es) fs =
     ap (λ v. part u S e ++ v) (view_more u (shared_step S e) es fs)

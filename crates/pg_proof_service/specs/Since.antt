@@ -5,7 +5,7 @@ use Rattle.pg_session.specs.Events.{connect}
 use Rattle.pg_session.specs.Commands.{Hearing}
 use Rattle.pg_gateway.specs.declared.event.Event.{Event}
 use Rattle.pg_gateway.specs.declared.event.Reply.{Reply}
-use Rattle.pg_gateway.specs.Occurrences.{occurrence, asks}
+use Rattle.pg_gateway.specs.GatewayEvents.{gateway_event, asks}
 use Rattle.pg_gateway.specs.State.{opening}
 use Rattle.pg_gateway.specs.Histories.{Legal}
 use Rattle.pg_gateway.specs.Laws.{after, answers_of}
@@ -26,7 +26,7 @@ going_on v between call = record {
 pub record Connects (u : ℕ) (v w : Known Event Reply) : Type 0 where
   pub between : List Call
   pub call : Call
-  pub asks : occurrence call.0 ≡ asks u connect
+  pub asks : gateway_event call.0 ≡ asks u connect
   pub seat : w ≡ going_on v between call
   pub legal : Legal opening (history_of w.seen)
 

@@ -17,7 +17,7 @@ use pg_operator::Setup;
 use pg_wire::Refusal;
 use std::alloc::Global;
 
-/// What is to be done so that a gateway that runs by one setup runs by another (own rule).
+/// What is to be done so that a gateway that runs by one setup runs by another.
 #[derive(Debug, Drop)]
 pub struct Changes {
     /// The edits, in the order in which they are posted.
@@ -28,7 +28,7 @@ pub struct Changes {
     pub restarts: Vec<Restart>,
 }
 
-/// What is to be done so that a gateway that runs by the old setup runs by the new one (own rule).
+/// What is to be done so that a gateway that runs by the old setup runs by the new one.
 ///
 /// The edits are, in this order:
 ///

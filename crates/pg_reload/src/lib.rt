@@ -1,4 +1,5 @@
-//! What is to be done so that a gateway that runs by one setup runs by another (own rule).
+//! What is to be done so that a gateway that runs by one setup runs by another.
+//! What no clause of IEEE C37.118.2 is named for is a rule of this project.
 #![tactic(auto)]
 
 mod alike;

@@ -8,7 +8,7 @@ use pg_operator::{Setup, SourceRules};
 use pg_wire::{PmuId, Refusal, SubId};
 use std::alloc::Global;
 
-/// A source that is called (own rule).
+/// A source that is called.
 #[derive(Debug, Drop)]
 pub struct Call {
     /// The source.
@@ -19,7 +19,7 @@ pub struct Call {
     pub rules: SourceRules,
 }
 
-/// What is to be done about a source or a port (own rule).
+/// What is to be done about a source or a port.
 #[derive(Debug, Drop)]
 pub enum Order {
     /// The connection of a source ends, and it is called no longer.

@@ -11,7 +11,7 @@ use pg_operator::{PortRules, Setup};
 use pg_wire::{Refusal, SubId};
 use std::alloc::Global;
 
-/// A port of a subscriber (own rule).
+/// A port of a subscriber.
 #[derive(Debug, Drop)]
 pub struct Port {
     /// Its number: 1 to 65535.

@@ -10,7 +10,7 @@ use pg_wire::Refusal;
 use std::alloc::Global;
 use std::net::SocketAddrV4;
 
-/// A key of the setup whose change needs a new start (own rule).
+/// A key of the setup whose change needs a new start.
 #[derive(Clone, Copy, Debug, PartialEq, Eq)]
 pub enum Restart {
     /// `tick_ms`.

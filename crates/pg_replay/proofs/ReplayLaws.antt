@@ -10,7 +10,8 @@ use Rattle.pg_gateway.specs.State.{SharedMachine, slot_of}
 use Rattle.pg_gateway.specs.Shown.{GatewayShows}
 use Rattle.pg_serve.specs.Inputs.{Fact, Outcome}
 use Rattle.pg_serve.specs.Moments.{Moment, opening, outcome_of, after_turn, after_turns, all_outcomes}
-use Rattle.pg_serve.specs.Full.{OutcomesLossless, HasAnswered, Headline, full_turn, full_turns, moment_of}
+use Rattle.pg_serve.specs.Full.{full_turn, full_turns, moment_of}
+use Rattle.pg_serve.specs.Headline.{OutcomesLossless, HasAnswered, Headline}
 use Rattle.pg_serve.proofs.Determined.{turns_are_full}
 use Rattle.pg_serve.proofs.Isolating.{isolated}
 use Rattle.pg_serve.specs.Shown.{WorldValue, queue_shown, link_counted, session_counted}

@@ -2,7 +2,7 @@
 use Rattle.std.specs.Prelude.{ℕ, ◌==◌, Bool, false, List, [], ◌∷◌, Option, Some, None, option_map, if◌then◌else◌, codes, find}
 use Rattle.std.specs.Str.{bytes_eq, is_utf8}
 use Rattle.pg_session.specs.Events.{connect, hangup, drain}
-use Rattle.pg_gateway.specs.Occurrences.{asks, tick}
+use Rattle.pg_gateway.specs.GatewayEvents.{asks, tick}
 use Rattle.pg_shared.specs.Edits.{edited}
 use Rattle.pg_serve.specs.Inputs.{Fact, fact, link_up, pmu_bytes, sub_bytes, names}
 use Rattle.pg_lines.specs.Words.{Text, number_in, pmu_id_in, subscriber_in, frame_in}

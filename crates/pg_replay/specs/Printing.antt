@@ -10,7 +10,7 @@ use Rattle.pg_audit.specs.declared.audit.Entry.{Entry}
 use Rattle.pg_audit.specs.Noting.{what_number, result_number}
 use Rattle.pg_ring.specs.Shown.{Framed, Queue}
 use Rattle.pg_session.specs.Private.{done, refused, handed}
-use Rattle.pg_gateway.specs.Occurrences.{Answer, tells, sub_counts, pmu_counts, entry, stands, those_waiting}
+use Rattle.pg_gateway.specs.GatewayEvents.{Answer, tells, sub_counts, pmu_counts, entry, stands, those_waiting}
 use Rattle.pg_serve.specs.Inputs.{Noted, replied, ignored, closed, Outcome}
 
 -- text, as its bytes

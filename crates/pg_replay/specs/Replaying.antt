@@ -13,7 +13,8 @@ use Rattle.pg_gateway.specs.Shown.{GatewayShows}
 use Rattle.pg_serve.specs.Inputs.{Fact, Outcome}
 use Rattle.pg_serve.specs.Moments.{absence, outcome_of}
 use Rattle.pg_serve.specs.Shown.{WorldValue, queue_shown, link_counted, session_counted}
-use Rattle.pg_serve.specs.Full.{OutcomesLossless, HasAnswered, full_turn, moment_of, queue_of, view_of, link_counts_of, session_counts_of}
+use Rattle.pg_serve.specs.Full.{full_turn, moment_of, queue_of, view_of, link_counts_of, session_counts_of}
+use Rattle.pg_serve.specs.Headline.{OutcomesLossless, HasAnswered}
 use Rattle.pg_replay.specs.Lines.{Asked, nothing, hands, queue, link_stats, session_stats, asked_in}
 use Rattle.pg_replay.specs.Printing.{Text, refusal_line, queue_lines, counters_line, output_lines}
 

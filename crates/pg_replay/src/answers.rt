@@ -3,7 +3,7 @@
 ghost use Rattle.std.specs.Prelude.{◌≡◌, take, OnOk};
 ghost use Rattle.std.specs.List.{flat_map};
 ghost use Rattle.std.specs.Io.KnownBytes.{Appends};
-ghost use Rattle.pg_gateway.specs.Occurrences.{told};
+ghost use Rattle.pg_gateway.specs.GatewayEvents.{told};
 ghost use Rattle.pg_serve.specs.Inputs.{all_noted, outcome};
 ghost use Rattle.pg_replay.specs.Printing.{figure, refusal_line, done_line, answer_line, note_lines, hex_end, drained_line, stats_line, counters_line, reasons_end, reason_text, entry_line, reply_line, frame_line, queue_lines, output_lines, send_lines};
 

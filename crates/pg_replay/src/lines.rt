@@ -11,7 +11,7 @@ use pg_serve::Input;
 use pg_wire::{PmuId, Refusal, SubId};
 use std::alloc::Global;
 
-/// What a line of a script asks for (own rule).
+/// What a line of a script asks for.
 #[derive(Drop)]
 pub enum Line {
     /// Nothing: an empty line, or a comment.

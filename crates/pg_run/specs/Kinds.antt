@@ -13,6 +13,6 @@ Gives (worker.Names it) seat = seat ≡ None
 Gives (worker.Connections it) seat = seat ≡ None
 Gives (worker.Ticks it) seat = seat ≡ Some it
 Gives (worker.Lines it) seat = seat ≡ Some it
-Gives (worker.Window it) seat = is_some seat ≡ true
+Gives (worker.Admin it) seat = is_some seat ≡ true
 Gives (worker.Reloads it) seat = seat ≡ Some it
 Gives (worker.Log it) seat = seat ≡ None

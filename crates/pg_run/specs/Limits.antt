@@ -1,7 +1,7 @@
 -- Limits of time. They are nanoseconds.
 use Rattle.std.specs.Prelude.{ℕ, zero, suc, ◌*◌, ◌==◌, if◌then◌else◌, Option, Some, None, option_map}
 use Rattle.pg_operator.specs.declared.source.SourceRules.{SourceRules}
-use Rattle.pg_service.specs.declared.watched.Guards.{Guards}
+use Rattle.pg_service.specs.declared.metered_gate.Guards.{Guards}
 
 -- so many seconds; 0 is no limit
 abbrev pub limit_of : ℕ → Option ℕ

@@ -17,8 +17,8 @@ pub enum Failure {
     /// Nothing runs by the setup, for these mistakes.
     #[error("{0}")]
     Unfit(Trouble),
-    /// What a key of the setup names can't be bound.
-    #[error("what a key of the setup names can't be bound")]
+    /// An address or a path of the setup can't be bound.
+    #[error("an address or a path of the setup can't be bound")]
     NotBound {
         /// Which key.
         by: BoundBy,
@@ -30,7 +30,7 @@ pub enum Failure {
 }
 
 impl Failure {
-    /// The reason by which the program ends: want of memory, or that what it listens to can't be had.
+    /// The reason by which the program ends: `NoMemory`, or `ReadFault` where an address or a path can't be bound.
     pub fn refusal(&self) -> Refusal {
         match self {
             Failure::Refused(refusal) => *refusal,
@@ -43,7 +43,7 @@ impl Failure {
     }
 }
 
-/// What a key of the setup names can't be bound.
+/// An address or a path of the setup can't be bound.
 pub(crate) fn not_bound(by: BoundBy, address: Option<SocketAddr>, error: io::Error) -> Failure {
     Failure::NotBound {
         by,

@@ -1,12 +1,12 @@
 //! The gateway as it runs: its setup is posted, its workers serve, and an operator's lines are answered.
+//! What no clause of IEEE C37.118.2 is named for is a rule of this project.
 #![tactic(auto)]
 
+mod admin_listeners;
 mod failure;
-mod making;
+mod make_workers;
 mod naming;
-mod opening;
 mod operator;
-mod patient;
 mod redefined;
 mod reload_worker;
 mod reloading;
@@ -15,6 +15,7 @@ mod runtime;
 mod served;
 mod serving;
 mod steering;
+mod stoppable_stdin;
 mod workers;
 
 pub use failure::Failure;

@@ -1,5 +1,6 @@
 //! The gateway's name.
 
+use pg_operator::is_gateway_name;
 use pg_wire::Refusal;
 use std::alloc::Global;
 use std::fs;
@@ -7,11 +8,7 @@ use std::fs;
 /// Where the system shows the host's name.
 const HOST_NAME: &str = "/proc/sys/kernel/hostname";
 
-/// The most characters of a name.
-const NAME_LIMIT: usize = 64;
-
-/// The name that a setup gives; else the host's; else `pdcgw`, where the host's can't be read or is no text of 1 to 64 characters of
-/// ASCII that can be printed (own rule).
+/// The name that a setup gives; else the host's; else `pdcgw`, where the host's can't be read or can be no gateway's name.
 pub(crate) fn name_of(
     files: &HostRuntime,
     alloc: Global,
@@ -35,10 +32,7 @@ fn host_name(mut bytes: Vec<u8>) -> Option<String> {
     if bytes.last() == Some(&b'\n') {
         bytes.pop();
     }
-    let is_name = !bytes.is_empty()
-        && bytes.len() <= NAME_LIMIT
-        && bytes.iter().all(|byte| matches!(*byte, b' '..=b'~'));
-    if is_name {
+    if is_gateway_name(bytes.as_slice()) {
         String::from_utf8(bytes).ok()
     } else {
         None

@@ -2,10 +2,10 @@
 
 ghost use Rattle.std.specs.Prelude.{◌≡◌};
 
-use crate::patient::Patient;
-use crate::reloading::InForce;
-use pg_console::{Console, Told, answer_lines};
-use pg_service::Watched;
+use crate::reloading::SetupManager;
+use crate::stoppable_stdin::StoppableStdin;
+use pg_console::{Console, ServiceHandle, answer_lines};
+use pg_service::MeteredGate;
 use pg_shared::{Named, SharedGate, Work};
 use std::alloc::Global;
 use std::io::{BufReader, BufWriter, Printer, StdinLock};
@@ -17,7 +17,7 @@ use std::sync::Wait;
 /// Standard input, where an operator's lines come from, and standard output, where they are answered.
 #[derive(Drop)]
 pub(crate) struct StandardIo<'a, R: Print> {
-    pub(crate) input: BufReader<Patient<'a>>,
+    pub(crate) input: BufReader<StoppableStdin<'a>>,
     pub(crate) output: BufWriter<Printer<'a, R>>,
 }
 
@@ -29,10 +29,10 @@ pub struct Operator<
     N: Named,
 > {
     rt: &'a R,
-    gate: Watched<SharedGate<'a, R, N>>,
-    reader: BufReader<Patient<'a>>,
+    gate: MeteredGate<SharedGate<'a, R, N>>,
+    reader: BufReader<StoppableStdin<'a>>,
     console: Console<'a, BufWriter<Printer<'a, R>>>,
-    in_force: InForce<'a, R>,
+    in_force: SetupManager<'a, R>,
 }
 
 impl<'a, R: Wait + Input<Reader = StdinLock<'static>> + Print + Net + Clock, N: Named> Model
@@ -58,17 +58,17 @@ impl<'a, R: Wait + Input<Reader = StdinLock<'static>> + Print + Net + Clock, N: 
         alloc: Global,
         gate: SharedGate<'a, R, N>,
         lines: StandardIo<'a, R>,
-        told: Told<'a>,
-        in_force: InForce<'a, R>,
+        service: ServiceHandle<'a>,
+        in_force: SetupManager<'a, R>,
     ) -> Operator<'a, R, N>
         ensures seat { result ≡ gate.entry }
     {
         let StandardIo { input, output } = lines;
         Operator {
             rt,
-            gate: Watched::new(gate),
+            gate: MeteredGate::new(gate),
             reader: input,
-            console: Console::new(alloc, output, told),
+            console: Console::new(alloc, output, service),
             in_force,
         }
     }

@@ -1,9 +1,9 @@
 //! Streams that a reload removes while they are on.
 
-use pg_console::Told;
+use pg_console::ServiceHandle;
 use pg_gateway::{Edit, Event, Gate, Reply};
 use pg_operator::Setup;
-use pg_service::Watched;
+use pg_service::MeteredGate;
 use pg_stream::Definition;
 use pg_wire::{StreamId, SubId};
 use std::alloc::{AllocError, Global};
@@ -12,7 +12,7 @@ use std::sync::Wait;
 /// The streams of a subscriber at most.
 const STREAMS: u8 = 8;
 
-/// A stream that is on and is removed by a reload (own rule).
+/// A stream that is on and is removed by a reload.
 #[derive(Drop)]
 pub(crate) struct Started {
     sub: SubId,
@@ -23,11 +23,11 @@ pub(crate) struct Started {
 
 impl Started {
     /// Has it go on, or its subscriber hung up, so that no stream falls silent, or has other members, under an open connection.
-    pub(crate) fn follow<R: Wait>(&self, rt: &R, told: Told<'_>) {
+    pub(crate) fn follow<R: Wait>(&self, rt: &R, service: ServiceHandle<'_>) {
         if self.goes_on {
-            told.resume(rt, self.sub, self.stream);
+            service.resume(rt, self.sub, self.stream);
         } else {
-            told.hang_up(rt, self.sub);
+            service.hang_up(rt, self.sub);
         }
     }
 }
@@ -39,7 +39,7 @@ impl Started {
 /// There is no memory for them.
 pub(crate) fn started_streams<G: Gate>(
     alloc: Global,
-    gate: &mut Watched<G>,
+    gate: &mut MeteredGate<G>,
     old: &Setup,
     edits: &[Edit],
 ) -> Result<Vec<Started>, AllocError> {
@@ -62,7 +62,7 @@ pub(crate) fn started_streams<G: Gate>(
 }
 
 /// Whether a stream is on.
-fn is_on<G: Gate>(gate: &mut Watched<G>, sub: SubId, stream: StreamId) -> bool {
+fn is_on<G: Gate>(gate: &mut MeteredGate<G>, sub: SubId, stream: StreamId) -> bool {
     for place in 0..STREAMS {
         let Reply::Standing(standing) = gate.post(Event::Standing(sub, place)) else {
             return false;

@@ -2,10 +2,10 @@
 
 ghost use Rattle.std.specs.Prelude.{◌≡◌};
 
-use crate::reloading::InForce;
-use pg_console::{Console, Reloads, Told};
-use pg_log::Notice;
-use pg_service::{Waiting, Watched};
+use crate::reloading::SetupManager;
+use pg_console::{Console, Reloads, ServiceHandle};
+use pg_log::LogEvent;
+use pg_service::{MeteredGate, Poller};
 use pg_shared::{Named, SharedGate, Work};
 use std::alloc::Global;
 use std::marker::Model;
@@ -16,18 +16,18 @@ use std::sync::Wait;
 use std::time::Duration;
 
 /// How long a turn waits at most, so that the worker does not miss that it is to stop, in milliseconds.
-const PATIENCE_MS: u64 = 1_000;
+const LONGEST_WAIT_MS: u64 = 1_000;
 
-/// A worker that does the reloads that clients of the control socket ask for (own rule), one in each turn, while the control socket, the page and
+/// A worker that does the reloads that clients of the control socket ask for, one in each turn, while the control socket, the page and
 /// the metrics are served.
 #[derive(Drop)]
 pub struct ReloadWorker<'a, R: Wait + Net + Clock, N: Named> {
     rt: &'a R,
-    gate: Watched<SharedGate<'a, R, N>>,
-    waiting: Waiting,
+    gate: MeteredGate<SharedGate<'a, R, N>>,
+    waiting: Poller,
     reloads: &'a Reloads,
     console: Console<'a, Vec<u8>>,
-    in_force: InForce<'a, R>,
+    in_force: SetupManager<'a, R>,
 }
 
 impl<'a, R: Wait + Net + Clock, N: Named> Model for ReloadWorker<'a, R, N> {
@@ -47,19 +47,19 @@ impl<'a, R: Wait + Net + Clock, N: Named> ReloadWorker<'a, R, N> {
         rt: &'a R,
         alloc: Global,
         gate: SharedGate<'a, R, N>,
-        waiting: Waiting,
+        waiting: Poller,
         reloads: &'a Reloads,
-        told: Told<'a>,
-        in_force: InForce<'a, R>,
+        service: ServiceHandle<'a>,
+        in_force: SetupManager<'a, R>,
     ) -> ReloadWorker<'a, R, N>
         ensures seat { result ≡ gate.entry }
     {
         ReloadWorker {
             rt,
-            gate: Watched::new(gate),
+            gate: MeteredGate::new(gate),
             waiting,
             reloads,
-            console: Console::new(alloc, Vec::new(alloc), told),
+            console: Console::new(alloc, Vec::new(alloc), service),
             in_force,
         }
     }
@@ -75,24 +75,24 @@ impl<'a, R: Wait + Net + Clock, N: Named> ReloadWorker<'a, R, N> {
 
     /// Does the reload of this number, and leaves its answer for the worker that serves the control socket.
     fn reload(&mut self, number: u64) {
-        let told = self.console.told();
+        let service = self.console.service();
         let done = self
             .in_force
             .renew(self.rt, &mut self.console, &mut self.gate);
         if done.is_err() {
-            told.neighbours.journal.note(Notice::ConsoleFault);
+            service.handles.journal.note(LogEvent::ConsoleFault);
         }
         let empty = Vec::new(self.console.alloc());
         let answer = mem::replace(self.console.out_mut(), empty);
         self.reloads.answer(self.rt, number, answer);
-        told.wake_window();
+        service.wake_window();
     }
 }
 
 impl<R: Wait + Net + Clock, N: Named> Work for ReloadWorker<'_, R, N> {
     fn turn(&mut self) -> bool {
-        let journal = self.console.told().neighbours.journal;
-        let most = Duration::from_millis(PATIENCE_MS);
+        let journal = self.console.service().handles.journal;
+        let most = Duration::from_millis(LONGEST_WAIT_MS);
         self.waiting.wait(self.rt, journal, most);
         if let Some(number) = self.reloads.next(self.rt, self.console.alloc()) {
             self.reload(number);

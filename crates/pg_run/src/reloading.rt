@@ -1,18 +1,18 @@
 //! The line `reload`: the setup file is read again, and what changed is done.
 
 use crate::redefined::{Started, started_streams};
-use crate::running::{dial_by, door_rules, rules_of};
+use crate::running::{connection_rules, dial_by, rules_of};
 use crate::workers::told_as;
 use log::LevelFilter;
 use mio::net::TcpListener as PortListener;
 use pg_check::check_setup;
-use pg_console::{Console, Told};
+use pg_console::{Console, ServiceHandle};
 use pg_gateway::{Gate, Reply};
-use pg_log::{Asked, Detail, Entry, Journal, Notice, Whom, system_words};
+use pg_log::{Asked, Detail, Entry, Journal, LogEvent, Subject, system_words};
 use pg_operator::{LogLevel, Setup, SourceRules, read_setup};
 use pg_reload::{Call, Changes, Order, Port, Restart, changes_between};
 use pg_replay::{Fault, print_refusal};
-use pg_service::Watched;
+use pg_service::MeteredGate;
 use pg_wire::{PmuId, Refusal, SubId};
 use std::alloc::Global;
 use std::io::{ErrorKind, Read, Write};
@@ -35,7 +35,7 @@ const AHEAD_MS: u16 = 200;
 
 /// The setup by which the gateway runs, and the file that it stands in.
 #[derive(Drop)]
-pub struct InForce<'a, R: Net + Clock> {
+pub struct SetupManager<'a, R: Net + Clock> {
     rt: &'a R,
     files: &'a HostRuntime,
     file: &'a str,
@@ -45,7 +45,7 @@ pub struct InForce<'a, R: Net + Clock> {
     turn: &'a Mutex<()>,
 }
 
-impl<'a, R: Net + Clock> InForce<'a, R> {
+impl<'a, R: Net + Clock> SetupManager<'a, R> {
     /// The gateway runs by this setup of this file. A reload that changes it holds `turn`, so that one is done after another.
     pub fn new(
         rt: &'a R,
@@ -53,8 +53,8 @@ impl<'a, R: Net + Clock> InForce<'a, R> {
         file: &'a str,
         setup: &'a Mutex<Setup>,
         turn: &'a Mutex<()>,
-    ) -> InForce<'a, R> {
-        InForce {
+    ) -> SetupManager<'a, R> {
+        SetupManager {
             rt,
             files,
             file,
@@ -64,7 +64,7 @@ impl<'a, R: Net + Clock> InForce<'a, R> {
     }
 }
 
-impl<R: Net + Clock> InForce<'_, R> {
+impl<R: Net + Clock> SetupManager<'_, R> {
     /// The bytes of the file.
     fn contents(&self, alloc: Global) -> io::Result<Vec<u8>> {
         let mut file = fs::open(self.files, self.file)?;
@@ -74,7 +74,7 @@ impl<R: Net + Clock> InForce<'_, R> {
     }
 
     /// The setup that the file has now. Where it has none that can run, that is answered.
-    fn read<W: Write>(&self, alloc: Global, out: &mut W) -> Result<Option<Setup>, Fault> {
+    fn read<W: Write>(&self, alloc: Global, out: &mut W) -> Result<Option<NewSetup>, Fault> {
         let bytes = match self.contents(alloc) {
             Ok(bytes) => bytes,
             Err(error) => {
@@ -85,17 +85,27 @@ impl<R: Net + Clock> InForce<'_, R> {
             }
         };
         let Ok(text) = str::from_utf8(bytes.as_slice()) else {
-            write_all(writeln!(out, "{}: it is no text in UTF-8, as a setup is", self.file))?;
+            write_all(writeln!(
+                out,
+                "{}: is no text; a setup file is TOML in UTF-8",
+                self.file
+            ))?;
             print_refusal(out, "refused", Refusal::BadSetup)?;
             return Ok(None);
         };
-        if let Err(trouble) = check_setup(alloc, self.file, text) {
-            write_all(write!(out, "{}", trouble.told.as_str()))?;
-            print_refusal(out, "refused", trouble.refusal)?;
-            return Ok(None);
-        }
+        let has_warnings = match check_setup(alloc, self.file, text) {
+            Ok(checked) => !checked.warnings.is_empty(),
+            Err(trouble) => {
+                write_all(write!(out, "{}", trouble.told.as_str()))?;
+                print_refusal(out, "refused", trouble.refusal)?;
+                return Ok(None);
+            }
+        };
         match read_setup(alloc, text) {
-            Ok(setup) => Ok(Some(setup)),
+            Ok(setup) => Ok(Some(NewSetup {
+                setup,
+                has_warnings,
+            })),
             Err(refusal) => {
                 print_refusal(out, "refused", refusal)?;
                 Ok(None)
@@ -112,7 +122,7 @@ impl<R: Net + Clock> InForce<'_, R> {
         &self,
         rt: &Q,
         alloc: Global,
-        gate: &mut Watched<G>,
+        gate: &mut MeteredGate<G>,
         new: &Setup,
     ) -> Result<(Changes, Vec<Started>), Refusal> {
         let setup = self.setup.lock(rt);
@@ -126,7 +136,7 @@ impl<R: Net + Clock> InForce<'_, R> {
         &self,
         rt: &Q,
         console: &mut Console<'_, W>,
-        gate: &mut Watched<G>,
+        gate: &mut MeteredGate<G>,
         changes: Changes,
         started: Vec<Started>,
     ) -> Report {
@@ -135,7 +145,7 @@ impl<R: Net + Clock> InForce<'_, R> {
             orders,
             restarts,
         } = changes;
-        let told = console.told();
+        let service = console.service();
         let alloc = console.alloc();
         let mut report = Report::new(alloc);
         for edit in edits {
@@ -144,20 +154,28 @@ impl<R: Net + Clock> InForce<'_, R> {
             report.edited(asked, &reply);
         }
         for stream in started {
-            stream.follow(rt, told);
+            stream.follow(rt, service);
         }
-        told.bind_again(rt);
+        service.bind_again(rt);
         for order in orders {
-            if told.is_over() {
+            if service.is_over() {
                 break;
             }
-            self.obey(rt, told, order, &mut report);
+            self.obey(rt, service, order, &mut report);
         }
         for restart in restarts {
             report.restarted(restart);
         }
         report
     }
+}
+
+/// A setup that was read again and can run.
+#[derive(Drop)]
+struct NewSetup {
+    setup: Setup,
+    // Whether something in it is seldom meant.
+    has_warnings: bool,
 }
 
 /// What was done by a reload.
@@ -182,17 +200,17 @@ impl Report {
     }
 
     /// An edit that asks for this was answered so. Where it was refused, a line says whom it concerns, what was asked for, and why.
-    fn edited(&mut self, asked: Option<(Whom, Asked)>, reply: &Reply) {
-        let (Reply::Refused(refusal), Some((whom, asked))) = (reply, asked) else {
+    fn edited(&mut self, asked: Option<(Subject, Asked)>, reply: &Reply) {
+        let (Reply::Refused(refusal), Some((subject, asked))) = (reply, asked) else {
             self.edits = self.edits.saturating_add(1);
             return;
         };
-        let entry = Entry::new(Notice::NotDone, whom, Detail::Edit(asked, *refusal));
+        let entry = Entry::new(LogEvent::NotDone, subject, Detail::Edit(asked, *refusal));
         let written = writeln!(self.lines, "{entry}");
         self.refused(written, *refusal);
     }
 
-    /// Something was refused, of which was told in words.
+    /// Something was refused, which was reported in words.
     fn refused(&mut self, written: io::Result<()>, refusal: Refusal) {
         let printed = print_refusal(&mut self.lines, "refused", refusal);
         self.is_whole = self.is_whole && written.is_ok() && printed.is_ok();
@@ -207,20 +225,20 @@ impl Report {
         address: SocketAddr,
         error: io::Error,
     ) {
-        let detail = Detail::System(error.kind());
+        let detail = Detail::of_error(&error);
         journal.tell(
             rt,
-            Entry::new(Notice::NotBound, Whom::Subscriber(sub), detail),
+            Entry::new(LogEvent::NotBound, Subject::Subscriber(sub), detail),
         );
         let (number, why) = (sub.get(), system_words(error.kind()));
         let written = writeln!(self.lines, "subscriber {number}: port {address}: {why}");
         self.refused(written, told_as(error));
     }
 
-    /// This key needs a new start.
+    /// A change of this key takes effect at the next restart.
     fn restarted(&mut self, restart: Restart) {
         let key = key_of(restart);
-        let written = writeln!(self.lines, "{key} needs a new start");
+        let written = writeln!(self.lines, "{key}: takes effect at the next restart");
         self.is_whole = self.is_whole && written.is_ok();
     }
 
@@ -231,34 +249,45 @@ impl Report {
             print_refusal(out, "refused", Refusal::NoMemory)?;
         }
         let (edits, orders) = (self.edits, self.orders);
-        write_all(writeln!(out, "reloaded: {edits} edits, {orders} orders"))
+        let edit = if edits == 1 { "edit" } else { "edits" };
+        let change = if orders == 1 { "change" } else { "changes" };
+        write_all(writeln!(
+            out,
+            "reloaded: {edits} {edit}, {orders} {change} of connections and ports"
+        ))
     }
 }
 
-impl<R: Net + Clock> InForce<'_, R> {
+impl<R: Net + Clock> SetupManager<'_, R> {
     /// Has workers do what is to be done about a source or a port.
-    fn obey<Q: Wait + Clock>(&self, rt: &Q, told: Told<'_>, order: Order, report: &mut Report) {
+    fn obey<Q: Wait + Clock>(
+        &self,
+        rt: &Q,
+        service: ServiceHandle<'_>,
+        order: Order,
+        report: &mut Report,
+    ) {
         match order {
-            Order::Undial(source) => told.undial(rt, source),
+            Order::Undial(source) => service.undial(rt, source),
             Order::Dial(call) => {
                 let Call {
                     source,
                     address,
                     rules,
                 } = call;
-                told.dial(rt, dial_by(source, address, &rules));
+                service.dial(rt, dial_by(source, address, &rules));
             }
-            Order::Unlisten(sub) => told.close(rt, sub),
+            Order::Unlisten(sub) => service.close(rt, sub),
             Order::Listen(port) => {
                 let Port { port, rules } = port;
                 let address = SocketAddr::from((rules.address, port));
                 match self.bind(address) {
-                    Ok(listener) => told.open(rt, rules.sub, door_rules(rules), listener),
+                    Ok(listener) => service.open(rt, rules.sub, connection_rules(rules), listener),
                     Err(error) => {
-                        let journal = told.neighbours.journal;
+                        let journal = service.handles.journal;
                         let sub = rules.sub;
                         report.not_bound(rt, journal, sub, address, error);
-                        told.bind_later(rt, sub, door_rules(rules), address);
+                        service.bind_later(rt, sub, connection_rules(rules), address);
                         return;
                     }
                 }
@@ -281,7 +310,7 @@ impl<R: Net + Clock> InForce<'_, R> {
     }
 }
 
-impl<R: Net + Clock> InForce<'_, R> {
+impl<R: Net + Clock> SetupManager<'_, R> {
     /// Reads the setup again and does what changed; answers it when all is done, so that a writer that fails keeps nothing from
     /// being done.
     ///
@@ -292,14 +321,20 @@ impl<R: Net + Clock> InForce<'_, R> {
         &self,
         rt: &Q,
         console: &mut Console<'_, W>,
-        gate: &mut Watched<G>,
+        gate: &mut MeteredGate<G>,
     ) -> Result<(), Fault> {
         let alloc = console.alloc();
-        let journal = console.told().neighbours.journal;
-        let Some(new) = self.read(alloc, console.out_mut())? else {
+        let journal = console.service().handles.journal;
+        let Some(
+            NewSetup {
+                setup: new,
+                has_warnings,
+            },
+        ) = self.read(alloc, console.out_mut())?
+        else {
             journal.tell(
                 rt,
-                Entry::new(Notice::NotReloaded, Whom::Nobody, Detail::Nothing),
+                Entry::new(LogEvent::NotReloaded, Subject::Nobody, Detail::Nothing),
             );
             return Ok(());
         };
@@ -312,14 +347,18 @@ impl<R: Net + Clock> InForce<'_, R> {
                 drop(turn);
                 journal.tell(
                     rt,
-                    Entry::new(Notice::Reloaded, Whom::Nobody, Detail::Nothing),
+                    Entry::new(LogEvent::Reloaded, Subject::Nobody, Detail::Nothing),
                 );
+                if has_warnings {
+                    let entry = Entry::new(LogEvent::Warned, Subject::Nobody, Detail::Nothing);
+                    journal.tell(rt, entry);
+                }
                 report.print(console.out_mut())
             }
             Err(refusal) => {
                 journal.tell(
                     rt,
-                    Entry::new(Notice::NotReloaded, Whom::Nobody, Detail::Nothing),
+                    Entry::new(LogEvent::NotReloaded, Subject::Nobody, Detail::Nothing),
                 );
                 print_refusal(console.out_mut(), "refused", refusal)?;
                 Ok(())

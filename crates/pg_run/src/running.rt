@@ -5,16 +5,16 @@ ghost use Rattle.std.specs.Duration.{as_nanos};
 ghost use Rattle.pg_run.specs.Doors.{opened_by};
 ghost use Rattle.pg_run.specs.Limits.{guards_by, limit_of};
 
+use crate::admin_listeners::AdminListeners;
 use crate::failure::{Failure, not_bound};
-use crate::making::Place;
+use crate::make_workers::Place;
 use crate::naming::name_of;
-use crate::opening::Openings;
 use crate::operator::StandardIo;
-use crate::patient::Patient;
 use crate::reloading::filter_of;
 use crate::runtime::Runtime;
 use crate::served::Served;
-use crate::serving::{Known, Plan, serve_all};
+use crate::serving::{Plan, SharedState, serve_all};
+use crate::stoppable_stdin::StoppableStdin;
 use crate::workers::told_as;
 use log::Level;
 use mio::net::TcpListener as PortListener;
@@ -23,7 +23,7 @@ use pg_console::{SetUp, set_up};
 use pg_limits::{AheadGuard, ClockGuard};
 use pg_log::Journal;
 use pg_operator::{BoundBy, PortRules, Setup, SourceRules, read_setup};
-use pg_service::{Address, Board, Dial, DoorRules, Guards, Logger, Registered};
+use pg_service::{Address, ConnectionRules, Dial, Directory, Guards, Logger, StatusCollector};
 use pg_subscribers::Port;
 use pg_wire::{PmuId, Refusal, SubId};
 use std::alloc::Global;
@@ -48,7 +48,7 @@ pub struct Start<'a> {
 }
 
 /// The work of `pdcgw run`, with the lines of standard input, answered on standard output: reads the setup, posts its edits, listens
-/// on the subscribers' ports and where an operator is served, and then serves until the line `quit` comes (own rule). The end of the
+/// on the subscribers' ports and where an operator is served, and then serves until the line `quit` comes. The end of the
 /// lines ends nothing. The log begins with what is served, and ends with the end.
 ///
 /// # Errors
@@ -65,7 +65,7 @@ pub fn run<'a, R: Runtime + Alloc<A = Global>>(
     let Ok(output) = BufWriter::new(alloc, io::writer(rt)) else {
         return Err(Failure::Refused(Refusal::NoMemory));
     };
-    let lines = match Patient::new(rt, alloc, &stop) {
+    let lines = match StoppableStdin::new(rt, alloc, &stop) {
         Ok(lines) => lines,
         Err(error) => return Err(Failure::Refused(told_as(error))),
     };
@@ -83,7 +83,11 @@ fn run_at<'a, R: Runtime + Alloc<A = Global>>(
     lines: StandardIo<'a, R>,
     stop: &'a AtomicBool,
 ) -> Result<(), Failure> {
-    let (mut setup, in_force) = setups_in(files, rt.alloc(), start.file)?;
+    let Setups {
+        mut setup,
+        in_force,
+        warnings,
+    } = setups_in(files, rt.alloc(), start.file)?;
     let name = name_of(files, rt.alloc(), setup.name.take())?;
     let in_force = Mutex::new(in_force);
     let turn = Mutex::new(());
@@ -94,15 +98,16 @@ fn run_at<'a, R: Runtime + Alloc<A = Global>>(
         setup: &in_force,
         turn: &turn,
     };
-    run_by(rt, place, start, setup, lines, stop)
+    run_by(rt, place, start, setup, warnings.as_str(), lines, stop)
 }
 
-/// Serves by this setup, whose edits are posted before anything is listened to.
+/// Serves by this setup, whose edits are posted before anything is listened to. The log has its warnings, a line each.
 fn run_by<'a, R: Runtime + Alloc<A = Global>>(
     rt: &'a R,
     place: Place<'a>,
     start: Start<'a>,
     mut setup: Setup,
+    warnings: &str,
     lines: StandardIo<'a, R>,
     stop: &'a AtomicBool,
 ) -> Result<(), Failure> {
@@ -118,9 +123,10 @@ fn run_by<'a, R: Runtime + Alloc<A = Global>>(
     let (plan, control) = plan_of(rt, place.files, alloc, setup)?;
     let mut log = logger_of(rt, alloc, &known, plan.now)?;
     log.write(Level::Info, None, &served);
+    write_warnings(&mut log, warnings);
     let ended = serve_all::<R, Brand>(rt, alloc, &shared, seat, plan, lines, &known, place, stop);
     log.write_rest();
-    log.write(Level::Info, None, &"the service has ended");
+    log.write(Level::Info, None, &"the gateway has ended");
     if let Some(path) = control {
         // Where it can't be removed, the next start replaces it.
         let _ = fs::remove_file(place.files, path.as_str());
@@ -129,11 +135,18 @@ fn run_by<'a, R: Runtime + Alloc<A = Global>>(
     Ok(())
 }
 
-/// A log of what these workers meet.
+/// Writes the warnings of the setup, a line each.
+fn write_warnings<R: Wait + Clock + Eprint + Net>(log: &mut Logger<'_, R>, warnings: &str) {
+    for warning in warnings.lines() {
+        log.write(Level::Warn, None, &warning);
+    }
+}
+
+/// A log of what these workers report.
 pub(crate) fn logger_of<'a, R: Wait + Clock + Eprint + Net>(
     rt: &'a R,
     alloc: Global,
-    known: &'a Known,
+    known: &'a SharedState,
     now: Instant,
 ) -> Result<Logger<'a, R>, Refusal> {
     match Logger::new(rt, alloc, &known.journal, known.has_priority, now) {
@@ -148,14 +161,14 @@ fn known_by<R: Wait>(
     alloc: Global,
     setup: &Setup,
     start: Start<'_>,
-    registered: Registered,
-) -> Result<Known, Refusal> {
+    registered: Directory,
+) -> Result<SharedState, Refusal> {
     let journal = Journal::new(alloc)?;
     journal.set_filter(rt, filter_of(setup.log));
-    Ok(Known {
+    Ok(SharedState {
         journal,
         has_priority: start.has_priority,
-        board: Board::new(alloc),
+        collector: StatusCollector::new(alloc),
         registered: Mutex::new(registered),
     })
 }
@@ -186,7 +199,7 @@ fn plan_of<R: Net + Clock>(
     let plan = Plan {
         ports: ports_of(rt, alloc, port_plans(alloc, &ports, doors)?)?,
         dials: dials_of(alloc, &links, &sources)?,
-        openings: Openings::of(rt, files, &control, status)?,
+        openings: AdminListeners::of(rt, files, &control, status)?,
         tick: Duration::from_millis(u64::from(tick_ms)),
         ingest: usize::from(ingest),
         serve: usize::from(serve),
@@ -195,8 +208,19 @@ fn plan_of<R: Net + Clock>(
     Ok((plan, control))
 }
 
-/// The setup that a file has, twice: to serve by it, and to compare a later one with it.
-fn setups_in(files: &HostRuntime, alloc: Global, file: &str) -> Result<(Setup, Setup), Failure> {
+/// The setup that a file has.
+#[derive(Drop)]
+struct Setups {
+    // To serve by it.
+    setup: Setup,
+    // The same, to compare a later one with it.
+    in_force: Setup,
+    // A line for each thing in it that is allowed and seldom meant.
+    warnings: String,
+}
+
+/// The setup that a file has.
+fn setups_in(files: &HostRuntime, alloc: Global, file: &str) -> Result<Setups, Failure> {
     let bytes = match fs::read(files, file) {
         Ok(bytes) => bytes,
         Err(error) => return Err(Failure::Refused(told_as(error))),
@@ -205,7 +229,11 @@ fn setups_in(files: &HostRuntime, alloc: Global, file: &str) -> Result<(Setup, S
         return Err(Failure::Refused(Refusal::BadSetup));
     };
     match check_setup(alloc, file, text) {
-        Ok(_) => Ok((read_setup(alloc, text)?, read_setup(alloc, text)?)),
+        Ok(checked) => Ok(Setups {
+            setup: read_setup(alloc, text)?,
+            in_force: read_setup(alloc, text)?,
+            warnings: checked.warnings,
+        }),
         Err(trouble) => Err(Failure::Unfit(trouble)),
     }
 }
@@ -271,14 +299,14 @@ fn port_plan(port: (SubId, u16), rules: PortRules) -> Result<PortPlan, Refusal>
 }
 
 /// How a port is served by the rules of the setup.
-pub(crate) fn door_rules(rules: PortRules) -> DoorRules
+pub(crate) fn connection_rules(rules: PortRules) -> ConnectionRules
     ensures allow { result.allow ≡ rules.allow }
     ensures takeover { result.takeover ≡ rules.takeover }
     ensures stall { option_map as_nanos result.stall ≡ limit_of rules.stall }
     ensures idle { option_map as_nanos result.idle ≡ limit_of rules.idle }
     ensures change { result.change ≡ rules.change }
 {
-    DoorRules {
+    ConnectionRules {
         allow: rules.allow,
         takeover: rules.takeover,
         stall: limit_of(rules.stall),
@@ -294,7 +322,7 @@ fn port_of<R: Net>(rt: &R, plan: PortPlan) -> Result<Port, Failure>
     let PortPlan { sub, port, rules } = plan;
     let address = SocketAddr::from((rules.address, port));
     match PortListener::bind(rt, address) {
-        Ok(listener) => Ok(Port::new(sub, door_rules(rules), listener)),
+        Ok(listener) => Ok(Port::new(sub, connection_rules(rules), listener)),
         Err(error) => Err(not_bound(BoundBy::Port(sub), Some(address), error)),
     }
 }

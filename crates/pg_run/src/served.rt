@@ -45,12 +45,12 @@ impl fmt::Display for Served<'_> {
         let Start { file, version, .. } = self.start;
         write!(
             f,
-            "the service starts: pdcgw {version}, name {}, setup {file}, ",
+            "the gateway starts: pdcgw {version}, name {}, setup {file}, ",
             self.name
         )?;
         let (pmus, sources) = (self.pmus, self.sources);
-        write!(f, "{pmus} PMUs, {sources} sources that are called, ")?;
+        write!(f, "PMUs: {pmus}, sources with connect: {sources}, ")?;
         let (subscribers, streams) = (self.subscribers, self.streams);
-        write!(f, "{subscribers} subscribers, {streams} streams")
+        write!(f, "subscribers: {subscribers}, streams: {streams}")
     }
 }

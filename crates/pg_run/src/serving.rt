@@ -3,15 +3,16 @@
 ghost use Rattle.std.specs.Prelude.{◌≡◌, IfOk};
 ghost use Rattle.pg_console.specs.Joining.{Begins};
 
-use crate::making::{Makings, Place, make_workers};
-use crate::opening::Openings;
+use crate::admin_listeners::AdminListeners;
+use crate::make_workers::{Place, WorkerContext, make_workers};
 use crate::operator::StandardIo;
 use crate::runtime::Runtime;
 use crate::workers::{Worker, mailbox, mailboxes};
-use pg_console::{Reloads, Told, serve_by};
+use pg_console::{Reloads, ServiceHandle, serve_by};
 use pg_log::Journal;
 use pg_service::{
-    Board, Dial, Mailbox, Neighbours, PortOrder, Registered, Resolver, SourceOrder, Waiting,
+    Dial, Directory, Mailbox, Poller, PortOrder, Resolver, SourceOrder, StatusCollector,
+    WorkerHandles,
 };
 use pg_shared::{Named, Seat, Shared};
 use pg_subscribers::Port;
@@ -27,7 +28,7 @@ use std::time::{Duration, Instant};
 pub(crate) struct Plan {
     pub(crate) ports: Vec<Port>,
     pub(crate) dials: Vec<Dial>,
-    pub(crate) openings: Openings,
+    pub(crate) openings: AdminListeners,
     pub(crate) tick: Duration,
     pub(crate) ingest: usize,
     pub(crate) serve: usize,
@@ -36,12 +37,12 @@ pub(crate) struct Plan {
 
 /// What all workers know.
 #[derive(Drop)]
-pub(crate) struct Known {
+pub(crate) struct SharedState {
     pub(crate) journal: Journal,
     // Whether each line of the log begins with its priority.
     pub(crate) has_priority: bool,
-    pub(crate) board: Board,
-    pub(crate) registered: Mutex<Registered>,
+    pub(crate) collector: StatusCollector,
+    pub(crate) registered: Mutex<Directory>,
 }
 
 /// What workers wait with and are told by.
@@ -57,11 +58,11 @@ struct Boxes {
 /// The waits of the workers of each kind.
 #[derive(Drop)]
 pub(crate) struct Waits {
-    pub(crate) sources: Vec<Waiting>,
-    pub(crate) ports: Vec<Waiting>,
-    pub(crate) names: Waiting,
-    pub(crate) window: Option<Waiting>,
-    pub(crate) reloads: Option<Waiting>,
+    pub(crate) sources: Vec<Poller>,
+    pub(crate) ports: Vec<Poller>,
+    pub(crate) names: Poller,
+    pub(crate) window: Option<Poller>,
+    pub(crate) reloads: Option<Poller>,
 }
 
 /// Serves by workers until they are stopped. Their seats are split from this one, and joined to it at the end.
@@ -72,7 +73,7 @@ pub(crate) fn serve_all<R: Runtime, N: Named + Send>(
     seat: Seat,
     plan: Plan,
     lines: StandardIo<'_, R>,
-    known: &Known,
+    known: &SharedState,
     place: Place<'_>,
     stop: &AtomicBool,
 ) -> Result<Seat, Refusal>
@@ -98,7 +99,7 @@ fn workers_of<'a, R: Runtime, N: Named>(
     waits: Waits,
     boxes: &'a Boxes,
     lines: StandardIo<'a, R>,
-    known: &'a Known,
+    known: &'a SharedState,
     place: Place<'a>,
     stop: &'a AtomicBool,
 ) -> Result<(Seat, Vec<Worker<'a, R, N>>), Refusal>
@@ -106,19 +107,19 @@ fn workers_of<'a, R: Runtime, N: Named>(
     requires seat { seat.table ≡ N.table }
     ensures seat { IfOk result (λ made. made.0 ≡ seat) }
 {
-    let neighbours = Neighbours {
+    let handles = WorkerHandles {
         ports: &boxes.ports,
         resolver: &boxes.resolver,
         journal: &known.journal,
-        board: &known.board,
+        collector: &known.collector,
     };
-    let makings = Makings {
+    let context = WorkerContext {
         rt,
         alloc,
         shared,
-        told: Told {
+        service: ServiceHandle {
             sources: &boxes.sources,
-            neighbours,
+            handles,
             name: place.name,
             registered: &known.registered,
             window: boxes.window.as_ref(),
@@ -129,7 +130,7 @@ fn workers_of<'a, R: Runtime, N: Named>(
         known,
         now: plan.now,
     };
-    make_workers(&makings, seat, plan, waits, lines)
+    make_workers(&context, seat, plan, waits, lines)
 }
 
 /// What the workers of this plan wait with, and the mailboxes by which they are told.

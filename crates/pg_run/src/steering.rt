@@ -1,16 +1,16 @@
 //! Lines about the sources and ports of the running service.
 
-use crate::reloading::{InForce, write_all};
-use crate::running::{dial_to, door_of, door_rules};
+use crate::reloading::{SetupManager, write_all};
+use crate::running::{connection_rules, dial_to, door_of};
 use crate::workers::told_as;
-use pg_console::{Console, Steering};
+use pg_console::{Console, ServiceCommands};
 use pg_gateway::{Event, Gate, Reply};
 use pg_limits::{Allow, OnChange};
 use pg_lines::Steer;
 use pg_log::system_words;
 use pg_operator::PortRules;
 use pg_replay::{Fault, print_refusal};
-use pg_service::{Address, Watched};
+use pg_service::{Address, MeteredGate};
 use pg_wire::{PmuId, Refusal, SubId};
 use std::alloc::Global;
 use std::io::Write;
@@ -22,7 +22,7 @@ use std::sync::Wait;
 /// for it.
 const STALL: u16 = 30;
 
-impl<R: Net + Clock> InForce<'_, R> {
+impl<R: Net + Clock> SetupManager<'_, R> {
     /// Calls a registered source at this address from now on.
     fn dial<W: Write, Q: Wait>(
         &self,
@@ -35,9 +35,9 @@ impl<R: Net + Clock> InForce<'_, R> {
             return Err(Refusal::NoSuchPmu);
         }
         let address = Address::Known(SocketAddr::V4(address));
-        let told = console.told();
-        told.undial(rt, source);
-        told.dial(rt, dial_to(source, address, &self.rules_of(rt, source)));
+        let service = console.service();
+        service.undial(rt, source);
+        service.dial(rt, dial_to(source, address, &self.rules_of(rt, source)));
         Ok(())
     }
 
@@ -82,7 +82,7 @@ impl<R: Net + Clock> InForce<'_, R> {
         &self,
         rt: &Q,
         console: &mut Console<'_, W>,
-        gate: &mut Watched<G>,
+        gate: &mut MeteredGate<G>,
         sub: SubId,
         port: u16,
         host: Ipv4Addr,
@@ -97,9 +97,9 @@ impl<R: Net + Clock> InForce<'_, R> {
         let address = SocketAddr::from((host, port));
         match self.bind(address) {
             Ok(listener) => {
-                let told = console.told();
-                told.close(rt, sub);
-                told.open(rt, sub, door_rules(rules), listener);
+                let service = console.service();
+                service.close(rt, sub);
+                service.open(rt, sub, connection_rules(rules), listener);
                 Ok(Ok(()))
             }
             Err(error) => {
@@ -114,12 +114,12 @@ impl<R: Net + Clock> InForce<'_, R> {
     }
 }
 
-impl<R: Net + Clock> Steering for InForce<'_, R> {
+impl<R: Net + Clock> ServiceCommands for SetupManager<'_, R> {
     fn reload<W: Write, Q: Wait + Clock, G: Gate>(
         &mut self,
         rt: &Q,
         console: &mut Console<'_, W>,
-        gate: &mut Watched<G>,
+        gate: &mut MeteredGate<G>,
     ) -> Result<(), Fault> {
         self.renew(rt, console, gate)
     }
@@ -128,18 +128,18 @@ impl<R: Net + Clock> Steering for InForce<'_, R> {
         &mut self,
         rt: &Q,
         console: &mut Console<'_, W>,
-        gate: &mut Watched<G>,
+        gate: &mut MeteredGate<G>,
         steer: Steer,
     ) -> Result<(), Fault> {
         let mut done = Ok(());
         match steer {
             Steer::Dial(source, address) => done = self.dial(rt, console, source, address),
-            Steer::Undial(source) => console.told().undial(rt, source),
+            Steer::Undial(source) => console.service().undial(rt, source),
             Steer::Listen(sub, port, host) => {
                 done = self.listen(rt, console, gate, sub, port, host)?;
             }
-            Steer::Unlisten(sub) => console.told().close(rt, sub),
-            Steer::Disconnect(sub) => console.told().hang_up(rt, sub),
+            Steer::Unlisten(sub) => console.service().close(rt, sub),
+            Steer::Disconnect(sub) => console.service().hang_up(rt, sub),
         }
         match done {
             Ok(()) => write_all(writeln!(console.out_mut(), "done 0 0")),

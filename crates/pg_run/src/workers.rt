@@ -6,14 +6,14 @@ ghost use Rattle.pg_run.specs.Kinds.{Gives};
 
 use crate::operator::Operator;
 use crate::reload_worker::ReloadWorker;
-use crate::reloading::InForce;
+use crate::reloading::SetupManager;
 use crate::runtime::Runtime;
-use pg_console::{Counter, Seated};
-use pg_service::{ConnectionsWorker, Dial, Logger, Mailbox, ResolverWorker, Rota, Waiting};
+use pg_admin::AdminServer;
+use pg_console::{ControlBackend, HoldsSeat};
+use pg_service::{Assignment, ConnectionsWorker, Dial, Logger, Mailbox, Poller, ResolverWorker};
 use pg_shared::{Named, Seat, Work};
 use pg_sources::{SourceWorker, Ticker};
 use pg_subscribers::{Port, PortWorker};
-use pg_window::Window;
 use pg_wire::Refusal;
 use std::alloc::Global;
 use std::io;
@@ -31,7 +31,7 @@ pub enum Worker<'a, R: Runtime, N: Named> {
     Connections(ConnectionsWorker<'a, R>),
     Ticks(Ticker<'a, R, N>),
     Lines(Operator<'a, R, N>),
-    Window(Window<'a, R, Counter<'a, R, N, InForce<'a, R>>>),
+    Admin(AdminServer<'a, R, ControlBackend<'a, R, N, SetupManager<'a, R>>>),
     Reloads(ReloadWorker<'a, R, N>),
     Log(Logger<'a, R>),
 }
@@ -45,14 +45,14 @@ impl<R: Runtime, N: Named> Work for Worker<'_, R, N> {
             Worker::Connections(worker) => worker.turn(),
             Worker::Ticks(worker) => worker.turn(),
             Worker::Lines(worker) => worker.turn(),
-            Worker::Window(worker) => worker.turn(),
+            Worker::Admin(worker) => worker.turn(),
             Worker::Reloads(worker) => worker.turn(),
             Worker::Log(worker) => worker.turn(),
         }
     }
 }
 
-impl<R: Runtime, N: Named> Seated for Worker<'_, R, N> {
+impl<R: Runtime, N: Named> HoldsSeat for Worker<'_, R, N> {
     ghost table = { N.table };
 
     // Its own, or none.
@@ -66,7 +66,7 @@ impl<R: Runtime, N: Named> Seated for Worker<'_, R, N> {
             Worker::Connections(_) => None,
             Worker::Ticks(worker) => Some(worker.into_gate().into_seat()),
             Worker::Lines(worker) => Some(worker.into_gate().into_seat()),
-            Worker::Window(worker) => Some(worker.into_clerk().into_gate().into_seat()),
+            Worker::Admin(worker) => Some(worker.into_backend().into_gate().into_seat()),
             Worker::Reloads(worker) => Some(worker.into_gate().into_seat()),
             Worker::Log(_) => None,
         }
@@ -86,8 +86,8 @@ pub fn told_as(error: io::Error) -> Refusal
 }
 
 /// What a worker waits with, and its mailbox.
-pub fn mailbox<R: Net, O: Drop>(rt: &R, alloc: Global) -> Result<(Waiting, Mailbox<O>), Refusal> {
-    let made = match Waiting::new(rt, alloc) {
+pub fn mailbox<R: Net, O: Drop>(rt: &R, alloc: Global) -> Result<(Poller, Mailbox<O>), Refusal> {
+    let made = match Poller::new(rt, alloc) {
         Ok(made) => made,
         Err(error) => return Err(told_as(error)),
     };
@@ -102,7 +102,7 @@ pub fn mailboxes<R: Net, O: Drop>(
     rt: &R,
     alloc: Global,
     count: usize,
-) -> Result<(Vec<Waiting>, Vec<Mailbox<O>>), Refusal> {
+) -> Result<(Vec<Poller>, Vec<Mailbox<O>>), Refusal> {
     let mut waits = Vec::new(alloc);
     let mut boxes = Vec::new(alloc);
     for _ in 0..count {
@@ -115,7 +115,7 @@ pub fn mailboxes<R: Net, O: Drop>(
 
 /// Gives each source to its worker.
 pub fn share_sources<R: Wait + Net + Clock, N: Named>(
-    callers: &mut Rota,
+    callers: &mut Assignment,
     workers: &mut Vec<SourceWorker<'_, R, N>>,
     dials: Vec<Dial>,
 ) -> Result<(), Refusal> {
@@ -131,7 +131,7 @@ pub fn share_sources<R: Wait + Net + Clock, N: Named>(
 
 /// Gives each port to its worker.
 pub fn share_ports<R: Wait + Net + Clock, N: Named>(
-    servers: &mut Rota,
+    servers: &mut Assignment,
     workers: &mut Vec<PortWorker<'_, R, N>>,
     ports: Vec<Port>,
 ) -> Result<(), Refusal> {

@@ -7,7 +7,7 @@ use Rattle.pg_config.specs.Parts.{Part, Source, data_len}
 use Rattle.pg_data.specs.Measurements.{Measurement, block_of, block_in}
 use Rattle.pg_data.proofs.Blocks.{block_at}
 use Rattle.pg_session.specs.Events.{key_in}
-use Rattle.pg_gateway.specs.Occurrences.{measure}
+use Rattle.pg_gateway.specs.GatewayEvents.{measure}
 use Rattle.pg_gateway.specs.State.{own_of}
 use Rattle.pg_gateway.specs.Views.{view, part, shared_step, shared_run}
 use Rattle.pg_gateway.specs.Related.{Related}

@@ -20,16 +20,16 @@ use Rattle.pg_registry.specs.Registered.{Pmu, Pmus, changed, announcing, refusin
 use Rattle.pg_registry.proofs.Lists.{keys-changed}
 use Rattle.pg_ingest.specs.Items as link
 use Rattle.pg_session.specs.Events as session
-use Rattle.pg_session.specs.Events.{Happening, Announcing, Sample}
+use Rattle.pg_session.specs.Events.{SubscriberEvent, Announcing, Sample}
 use Rattle.pg_session.specs.Private as private
 use Rattle.pg_session.specs.Private.{Told, done, refuse, refused_at}
 use Rattle.pg_session.specs.Shown.{Model}
 use Rattle.pg_session.specs.ByAll.{by_arrivals, by_numbers}
 use Rattle.pg_session.specs.Commands.{Item, commands, ignores, item_of, items_of, break_in}
-use Rattle.pg_gateway.specs.Occurrences.{Occurrence, add_pmu, drop_pmu, add_sub, drop_sub, grant, asks, announce, measure, tick, stats, pmu_stats, audit, standing, who_waits, Answer, tells, sub_counts, pmu_counts, entry, stands, those_waiting}
+use Rattle.pg_gateway.specs.GatewayEvents.{GatewayEvent, add_pmu, drop_pmu, add_sub, drop_sub, grant, asks, announce, measure, tick, stats, pmu_stats, audit, standing, who_waits, Answer, tells, sub_counts, pmu_counts, entry, stands, those_waiting}
 use Rattle.pg_gateway.specs.Judging.{registered_of, block_counted, blocks_counted, memory_counted, all_announced}
-use Rattle.pg_gateway.specs.Sharing.{SubscriberSlot, Offer, revokes, announces, measures, ticks, some_announced, some_measured, share}
-use Rattle.pg_gateway.specs.State.{SharedMachine, slot_of, own_of, refusal, Reach, to_all, to_one, adds, drops, to_none, unless, reach, reached_answer, frames_reached, granting, judged_in, is_refusal, wants_memory, pmus_after, next}
+use Rattle.pg_gateway.specs.Sharing.{SubscriberSlot, Broadcast, revokes, announces, measures, ticks, some_announced, some_measured, share}
+use Rattle.pg_gateway.specs.State.{SharedMachine, slot_of, own_of, refusal, Target, to_all, to_one, adds, drops, to_none, unless, target, reached_answer, frames_reached, granting, judged_in, is_refusal, wants_memory, pmus_after, next}
 use Rattle.pg_gateway.specs.Histories.{state_after}
 use Rattle.pg_gateway.specs.Views.{takes, unless_refused, full_told, private_run, as_seen, share_seen, part_of, full_by, full_answer, shared_step}
 use Rattle.pg_gateway.proofs.SlotLaws.{Alone, SameNumbers, Alone-same, Alone-removed, same_itself, lookup-removed, owned}
@@ -60,7 +60,7 @@ keys_announced pmus (a ∷ list) =
     keys_announced (changed (announcing a.config) a.key pmus) list ∙ keys-changed (announcing a.config) a.key pmus
 
 -- an event that registers or drops no PMU
-abbrev KeepsKeys : Occurrence → Type 0
+abbrev KeepsKeys : GatewayEvent → Type 0
 KeepsKeys (add_pmu key) = ⊥
 KeepsKeys (drop_pmu key) = ⊥
 KeepsKeys (add_sub u size bytes) = Unit {0}
@@ -76,7 +76,7 @@ KeepsKeys (who_waits us) = Unit {0}
 KeepsKeys (audit u index) = Unit {0}
 KeepsKeys (standing u place) = Unit {0}
 
-keys_after : (S : SharedMachine) (e : Occurrence) (t : Told) → KeepsKeys e → keys_of (pmus_after S e t) ≡ keys_of S.pmus
+keys_after : (S : SharedMachine) (e : GatewayEvent) (t : Told) → KeepsKeys e → keys_of (pmus_after S e t) ≡ keys_of S.pmus
 keys_after S (add_pmu key) t keeps = absurd keeps
 keys_after S (drop_pmu key) t keeps = absurd keeps
 keys_after S (add_sub u size bytes) t keeps = refl
@@ -106,7 +106,7 @@ keys_after S (who_waits us) t keeps = refl
 keys_after S (audit u index) t keeps = refl
 keys_after S (standing u place) t keeps = refl
 
-pub sources_kept : (S : SharedMachine) (e : Occurrence) (a : Answer) (s : ℕ) → KeepsKeys e → has_source (next S e a) s ≡ has_source S s
+pub sources_kept : (S : SharedMachine) (e : GatewayEvent) (a : Answer) (s : ℕ) → KeepsKeys e → has_source (next S e a) s ≡ has_source S s
 sources_kept S e (tells t) s keeps = ap (list_source s) (keys_after S e t keeps)
   where
     list_source : ℕ → List PmuKey → Bool
@@ -220,7 +220,7 @@ set_alone test v xs alone = Alone-same xs (set_value test xs v) (set_same test v
 
 -- ---- what keeps a subscriber connected or not
 
-abbrev Keeps : Happening → Type 0
+abbrev Keeps : SubscriberEvent → Type 0
 Keeps (session.grant key config) = Unit {0}
 Keeps (session.revoke key) = Unit {0}
 Keeps (session.announce list) = Unit {0}
@@ -233,7 +233,7 @@ Keeps session.hangup = ⊥
 Keeps (session.command number word) = Unit {0}
 Keeps (session.drain n) = Unit {0}
 
-kept_by : (p : Model) (x : Happening) → Keeps x → (r : Option Refusal)
+kept_by : (p : Model) (x : SubscriberEvent) → Keeps x → (r : Option Refusal)
     → (private.next by_arrivals by_numbers p x (unless_refused r (private.answer by_arrivals by_numbers p x (length (private.frames_of by_arrivals by_numbers p x))))).connected ≡ p.connected
 kept_by p (session.grant key config) k None = by (has_key p.grants key)
   where
@@ -267,10 +267,10 @@ kept_by p (session.command number word) k (Some r) = by p.connected
 kept_by p (session.drain n) k None = refl
 kept_by p (session.drain n) k (Some r) = refl
 
-some_keeps : (x y : Happening) → Some x ≡ Some y → Keeps x → Keeps y
+some_keeps : (x y : SubscriberEvent) → Some x ≡ Some y → Keeps x → Keeps y
 some_keeps x y e k = let same : x ≡ y = cc in subst Keeps same k
 
-share_keeps : (o : Offer) (p : Model) (x : Happening) → share o p.grants ≡ Some x → Keeps x
+share_keeps : (o : Broadcast) (p : Model) (x : SubscriberEvent) → share o p.grants ≡ Some x → Keeps x
 share_keeps (revokes key) p x is = by (has_key p.grants key) is
   where
     by : (b : Bool) → (if b then Some (session.revoke key) else None) ≡ Some x → Keeps x
@@ -288,36 +288,36 @@ share_keeps (measures soc quality frac samples) p x is = by (filter (λ s. has_k
     by (a ∷ l) s = some_keeps (session.measure soc quality frac (a ∷ l)) x s tt
 share_keeps (ticks soc) p x is = some_keeps (session.tick soc) x is tt
 
-run_share : (o : Offer) (own : Option Model) → connected_in (private_run own (share_seen o own)) ≡ connected_in own
+run_share : (o : Broadcast) (own : Option Model) → connected_in (private_run own (share_seen o own)) ≡ connected_in own
 run_share o None = refl
 run_share o (Some p) = by (share o p.grants) refl
   where
-    by : (x : Option Happening) → share o p.grants ≡ x → connected_in (private_run (Some p) (as_seen x)) ≡ p.connected
+    by : (x : Option SubscriberEvent) → share o p.grants ≡ x → connected_in (private_run (Some p) (as_seen x)) ≡ p.connected
     by None is = refl
     by (Some x) is = kept_by p x (share_keeps o p x is) (private.refusal by_arrivals by_numbers p x)
 
-abbrev KeepsReach : Reach → Type 0
-KeepsReach (to_all o) = Unit {0}
-KeepsReach (to_one w x) = Keeps x
-KeepsReach (adds w size bytes last) = ⊥
-KeepsReach (drops w) = ⊥
-KeepsReach to_none = Unit {0}
+abbrev KeepsTarget : Target → Type 0
+KeepsTarget (to_all o) = Unit {0}
+KeepsTarget (to_one w x) = Keeps x
+KeepsTarget (adds w size bytes last) = ⊥
+KeepsTarget (drops w) = ⊥
+KeepsTarget to_none = Unit {0}
 
-reach_keeps : (u : ℕ) (own : Option Model) (to : Reach) → KeepsReach to → connected_in (private_run own (part_of u own to)) ≡ connected_in own
-reach_keeps u own (to_all o) k = run_share o own
-reach_keeps u own (to_one w x) k = by (nat_eq u w) own
+target_keeps : (u : ℕ) (own : Option Model) (to : Target) → KeepsTarget to → connected_in (private_run own (part_of u own to)) ≡ connected_in own
+target_keeps u own (to_all o) k = run_share o own
+target_keeps u own (to_one w x) k = by (nat_eq u w) own
   where
     by : (b : Bool) (o : Option Model) → connected_in (private_run o (if b && is_some o then takes x ∷ [] else [])) ≡ connected_in o
     by true None = refl
     by true (Some p) = kept_by p x k (private.refusal by_arrivals by_numbers p x)
     by false None = refl
     by false (Some p) = refl
-reach_keeps u own (adds w size bytes last) k = absurd k
-reach_keeps u own (drops w) k = absurd k
-reach_keeps u own to_none k = refl
+target_keeps u own (adds w size bytes last) k = absurd k
+target_keeps u own (drops w) k = absurd k
+target_keeps u own to_none k = refl
 
 -- an event that neither adds nor drops a subscriber, connects it or hangs it up
-abbrev KeepsSessions : Occurrence → Type 0
+abbrev KeepsSessions : GatewayEvent → Type 0
 KeepsSessions (add_pmu key) = Unit {0}
 KeepsSessions (drop_pmu key) = Unit {0}
 KeepsSessions (add_sub u size bytes) = ⊥
@@ -333,18 +333,18 @@ KeepsSessions (who_waits us) = Unit {0}
 KeepsSessions (audit u index) = Unit {0}
 KeepsSessions (standing u place) = Unit {0}
 
-unless_keeps : (r : Option Refusal) (o : Offer) → KeepsReach (unless r (to_all o))
+unless_keeps : (r : Option Refusal) (o : Broadcast) → KeepsTarget (unless r (to_all o))
 unless_keeps None o = tt
 unless_keeps (Some r) o = tt
 
-keeps_reach : (S : SharedMachine) (e : Occurrence) → KeepsSessions e → KeepsReach (reach S e)
+keeps_reach : (S : SharedMachine) (e : GatewayEvent) → KeepsSessions e → KeepsTarget (target S e)
 keeps_reach S (add_pmu key) k = tt
 keeps_reach S (drop_pmu key) k = unless_keeps (refusal S (drop_pmu key)) _
 keeps_reach S (add_sub u size bytes) k = absurd k
 keeps_reach S (drop_sub u) k = absurd k
 keeps_reach S (grant u key) k = by (registered.has_key S.pmus key)
   where
-    by : (b : Bool) → KeepsReach (if b then to_one u (granting S key) else to_none)
+    by : (b : Bool) → KeepsTarget (if b then to_one u (granting S key) else to_none)
     by true = tt
     by false = tt
 keeps_reach S (asks u x) k = k
@@ -357,8 +357,8 @@ keeps_reach S (who_waits us) k = tt
 keeps_reach S (audit u index) k = tt
 keeps_reach S (standing u place) k = tt
 
-sessions_kept : (S : SharedMachine) (e : Occurrence) (u : ℕ) → Alone S.subs → KeepsSessions e → connected_in (own_of u (shared_step S e)) ≡ connected_in (own_of u S)
-sessions_kept S e u alone k = ap connected_in (own-step u S e alone) ∙ reach_keeps u (own_of u S) (reach S e) (keeps_reach S e k)
+sessions_kept : (S : SharedMachine) (e : GatewayEvent) (u : ℕ) → Alone S.subs → KeepsSessions e → connected_in (own_of u (shared_step S e)) ≡ connected_in (own_of u S)
+sessions_kept S e u alone k = ap connected_in (own-step u S e alone) ∙ target_keeps u (own_of u S) (target S e) (keeps_reach S e k)
 
 -- ---- what connects a subscriber, and what ends that
 
@@ -503,7 +503,7 @@ record Stays (S T : SharedMachine) : Type 0 where
 stays_itself : (S : SharedMachine) → Alone S.subs → Stays S S
 stays_itself S alone = record { alone = alone; sources = λ s. refl; connected = λ u. refl }
 
-stays_step : (S : SharedMachine) (e : Occurrence) → Alone S.subs → KeepsKeys e → KeepsSessions e → Stays S (shared_step S e)
+stays_step : (S : SharedMachine) (e : GatewayEvent) → Alone S.subs → KeepsKeys e → KeepsSessions e → Stays S (shared_step S e)
 stays_step S e alone keys sessions = record {
   alone = Alone-next S e (full_answer S e) alone;
   sources = λ s. sources_kept S e (full_answer S e) s keys;
@@ -669,7 +669,7 @@ heard_belongs m u piece is = by (lookup (nat_eq u) m.fed) refl
 
 -- ---- events by their names
 
-quiet_belongs : (m : Moment) (e : Occurrence) → Belongs m → KeepsKeys e → KeepsSessions e → Belongs (record { shared = shared_step m.shared e; lines = m.lines; fed = m.fed })
+quiet_belongs : (m : Moment) (e : GatewayEvent) → Belongs m → KeepsKeys e → KeepsSessions e → Belongs (record { shared = shared_step m.shared e; lines = m.lines; fed = m.fed })
 quiet_belongs m e is keys sessions =
     moment_stays m (shared_step m.shared e) m.lines m.fed is (stays_step m.shared e is.alone keys sessions) is.lines_alone (λ s. refl) is.fed_alone is.whole (λ u. refl)
 
@@ -713,7 +713,7 @@ left_lines lines pmus left k is other less = by (registered.has_source left k) r
     by false none = (Alone-removed (nat_eq k) lines is.0, λ s. ap is_some (lookup-removed s k lines is.0) ∙ goes none s (nat_eq s k) refl)
 
 -- an event that changes keys and no session
-keys_belong : (m : Moment) (e : Occurrence) (lines : List (ℕ × SourceLinkPast)) → Belongs m → KeepsSessions e → LinesBelong lines (shared_step m.shared e).pmus
+keys_belong : (m : Moment) (e : GatewayEvent) (lines : List (ℕ × SourceLinkPast)) → Belongs m → KeepsSessions e → LinesBelong lines (shared_step m.shared e).pmus
     → Belongs (record { shared = shared_step m.shared e; lines = lines; fed = m.fed })
 keys_belong m e lines is sessions so = record {
   alone = Alone-next m.shared e (full_answer m.shared e) is.alone;
@@ -750,7 +750,7 @@ drop_belongs m key is = keys_belong m (drop_pmu key) _ is tt (by (refusal m.shar
     by (Some r) = left (private.refused r) true refl
 
 -- an event that changes a session and no key
-session_belongs : (m : Moment) (e : Occurrence) (fed : List (ℕ × List ℕ)) → Belongs m → KeepsKeys e → Alone fed → AllWhole fed
+session_belongs : (m : Moment) (e : GatewayEvent) (fed : List (ℕ × List ℕ)) → Belongs m → KeepsKeys e → Alone fed → AllWhole fed
     → ((u : ℕ) → is_some (lookup (nat_eq u) fed) ≡ connected_in (own_of u (shared_step m.shared e)))
     → Belongs (record { shared = shared_step m.shared e; lines = m.lines; fed = fed })
 session_belongs m e fed is keys alone whole so = record {
@@ -763,7 +763,7 @@ session_belongs m e fed is keys alone whole so = record {
 }
 
 -- a session that ends where that is done
-ends_belong : (m : Moment) (e : Occurrence) (w : ℕ) (done_so : Bool) → Belongs m → KeepsKeys e → (done_so ≡ false → connected_in (own_of w m.shared) ≡ false)
+ends_belong : (m : Moment) (e : GatewayEvent) (w : ℕ) (done_so : Bool) → Belongs m → KeepsKeys e → (done_so ≡ false → connected_in (own_of w m.shared) ≡ false)
     → ((u : ℕ) → connected_in (own_of u (shared_step m.shared e)) ≡ (if nat_eq u w then false else connected_in (own_of u m.shared)))
     → Belongs (record { shared = shared_step m.shared e; lines = m.lines; fed = (if done_so then remove_entry (nat_eq w) m.fed else m.fed) })
 ends_belong m e w true is keys none after =
@@ -816,7 +816,7 @@ connect_belongs m w false is so =
 not_there : (S : SharedMachine) (w : ℕ) → is_some (slot_of w S.subs) ≡ false → connected_in (own_of w S) ≡ false
 not_there S w none = ap (λ o. connected_in (option_map (λ s. s.own) o)) (none_of (slot_of w S.subs) none)
 
-asks_belong : (m : Moment) (w : ℕ) (x : Happening) → Belongs m → Belongs (after_turn m (full_turn m (names (asks w x))))
+asks_belong : (m : Moment) (w : ℕ) (x : SubscriberEvent) → Belongs m → Belongs (after_turn m (full_turn m (names (asks w x))))
 asks_belong m w session.connect is = connect_belongs m w (is_done (full_answer m.shared (asks w session.connect))) is (connect_done m.shared w)
 asks_belong m w session.hangup is =
     ends_belong m (asks w session.hangup) w (is_done (full_answer m.shared (asks w session.hangup))) is tt
@@ -831,7 +831,7 @@ asks_belong m w (session.tick soc) is = quiet_belongs m (asks w (session.tick so
 asks_belong m w (session.command number word) is = quiet_belongs m (asks w (session.command number word)) is tt tt
 asks_belong m w (session.drain n) is = quiet_belongs m (asks w (session.drain n)) is tt tt
 
-named_belongs : (m : Moment) (e : Occurrence) → Belongs m → Belongs (after_turn m (full_turn m (names e)))
+named_belongs : (m : Moment) (e : GatewayEvent) → Belongs m → Belongs (after_turn m (full_turn m (names e)))
 named_belongs m (add_pmu key) is = add_belongs m key is
 named_belongs m (drop_pmu key) is = drop_belongs m key is
 named_belongs m (add_sub w size bytes) is =

@@ -1,7 +1,7 @@
 -- Where two worlds' events agree on what a subscriber is to see, its views of both are the same, and so it is served alike.
 use Rattle.std.proofs.Common.{◌≡◌, ℕ, List, [], ◌∷◌, ◌++◌, None, refl, sym, ap, ap₂, ◌∙◌}
 use Rattle.std.proofs.lemmas.List.{append_assoc}
-use Rattle.pg_gateway.specs.Occurrences.{Occurrence}
+use Rattle.pg_gateway.specs.GatewayEvents.{GatewayEvent}
 use Rattle.pg_gateway.specs.State.{SharedMachine, opening as shared_opening, own_of}
 use Rattle.pg_gateway.specs.Views.{Seen, shared_step, shared_run, part, view, private_run, handed_in}
 use Rattle.pg_gateway.proofs.SlotLaws.{Alone}
@@ -9,12 +9,13 @@ use Rattle.pg_gateway.proofs.ViewLaws.{own-run}
 use Rattle.pg_gateway.proofs.RunLaws.{Alone-run, agreeing_parts}
 use Rattle.pg_serve.specs.Inputs.{Fact, Outcome}
 use Rattle.pg_serve.specs.Shown.{WorldValue}
-use Rattle.pg_serve.specs.Full.{view_of, OutcomesLossless, HasAnswered, Headline, queue_of}
+use Rattle.pg_serve.specs.Full.{view_of, queue_of}
+use Rattle.pg_serve.specs.Headline.{OutcomesLossless, HasAnswered, Headline}
 use Rattle.pg_serve.specs.Beside.{Beside, frames, events, mine, other, mine_by, other_by, mine_of, other_of, AgreeAt, Agree, SeeAlike, ServesAlike, StandsBeside}
 use Rattle.pg_serve.proofs.Apart.{ungranted_unseen}
 use Rattle.pg_serve.proofs.Isolating.{isolated}
 
-view-append : (u : ℕ) (S : SharedMachine) (es fs : List Occurrence) → view u S (es ++ fs) ≡ view u S es ++ view u (shared_run S es) fs
+view-append : (u : ℕ) (S : SharedMachine) (es fs : List GatewayEvent) → view u S (es ++ fs) ≡ view u S es ++ view u (shared_run S es) fs
 view-append u S [] fs = refl
 view-append u S (e ∷ es) fs =
     ap (λ rest. part u S e ++ rest) (view-append u (shared_step S e) es fs)

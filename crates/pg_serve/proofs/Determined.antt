@@ -14,7 +14,7 @@ use Rattle.pg_ingest.specs.Items.{AreTold, is_want, told_of, break_in}
 use Rattle.pg_ingest.specs.Commands.{Act, tells, asks, told_in}
 use Rattle.pg_ingest.specs.Shown.{IsAllTold}
 use Rattle.pg_ingest.proofs.Past.{told_of-only}
-use Rattle.pg_gateway.specs.Occurrences.{Occurrence, add_pmu, drop_pmu, add_sub, drop_sub, grant, asks as asks_for, announce, measure, tick, stats, pmu_stats, audit, standing, who_waits, Answer}
+use Rattle.pg_gateway.specs.GatewayEvents.{GatewayEvent, add_pmu, drop_pmu, add_sub, drop_sub, grant, asks as asks_for, announce, measure, tick, stats, pmu_stats, audit, standing, who_waits, Answer}
 use Rattle.pg_gateway.specs.State.{SharedMachine, opening as shared_opening, next}
 use Rattle.pg_gateway.specs.Histories.{Legal, state_after}
 use Rattle.pg_gateway.specs.Views.{full_answer, full_answers, shared_step, shared_run}
@@ -23,7 +23,8 @@ use Rattle.pg_gateway.proofs.AnswerLaws.{lossless_full}
 use Rattle.pg_serve.specs.Inputs.{Fact, link_up, pmu_bytes, sub_bytes, names}
 use Rattle.pg_serve.specs.Dues.{Due, posts, ignores_frame, closes, refuses, Deed, answered, ignored_frame, closed_at, refused, due_of, notes_of, pairs_of, told_due, link_due, close}
 use Rattle.pg_serve.specs.Moments.{SourceLinkPast, Moment, opening, Turn, Turns, ToldOf, Posts, Makes, LegalTurn, LegalTurns, after_turn, after_turns, all_outcomes, inputs_of, history_of, telling, lines_by, lines_named, has_source, new_source_link, gone_up, gives_all, fed_line, words_given, put_line, line_after, all_given}
-use Rattle.pg_serve.specs.Full.{full_deeds, told_more, told_dues, full_told, dues_of, full_turn, full_turns, moment_of, events_made, events_at, answers_made, NotesLossless, OutcomesLossless}
+use Rattle.pg_serve.specs.Full.{full_deeds, told_more, told_dues, full_told, dues_of, full_turn, full_turns, moment_of, events_made, events_at, answers_made}
+use Rattle.pg_serve.specs.Headline.{NotesLossless, OutcomesLossless}
 use Rattle.pg_shared.proofs.Opening.{no_frames}
 use Rattle.pg_serve.proofs.Lines.{told_gave}
 
@@ -164,7 +165,7 @@ full_insert s line new (x ∷ xs) full = by (nat_eq s x.0) (full_insert s line n
     by true rest = (new, full.1)
     by false rest = (full.0, rest)
 
-full_by : (lines : List (ℕ × SourceLinkPast)) (S T : SharedMachine) (e : Occurrence) (done : Bool) → AllFull lines → AllFull (lines_by lines S T e done)
+full_by : (lines : List (ℕ × SourceLinkPast)) (S T : SharedMachine) (e : GatewayEvent) (done : Bool) → AllFull lines → AllFull (lines_by lines S T e done)
 full_by lines S T (add_pmu key) false full = full
 full_by lines S T (add_pmu key) true full = by (has_source S key.source)
   where
@@ -189,7 +190,7 @@ full_by lines S T (who_waits us) done full = full
 full_by lines S T (audit u index) done full = full
 full_by lines S T (standing u place) done full = full
 
-full_named : (lines : List (ℕ × SourceLinkPast)) (S T : SharedMachine) (pairs : List (Occurrence × Answer)) → AllFull lines → AllFull (lines_named lines S T pairs)
+full_named : (lines : List (ℕ × SourceLinkPast)) (S T : SharedMachine) (pairs : List (GatewayEvent × Answer)) → AllFull lines → AllFull (lines_named lines S T pairs)
 full_named lines S T [] full = full
 full_named lines S T (x ∷ xs) full = full_by lines S T x.0 _ full
 
@@ -268,11 +269,11 @@ turns_are_full ts legal lossless = turns_full opening ts tt legal lossless
 
 -- ---- the events of full turns are answered in full
 
-abbrev IsFullRun : SharedMachine → List (Occurrence × Answer) → Type 0
+abbrev IsFullRun : SharedMachine → List (GatewayEvent × Answer) → Type 0
 IsFullRun S [] = Unit {0}
 IsFullRun S (x ∷ xs) = (x.1 ≡ full_answer S x.0) × IsFullRun (next S x.0 x.1) xs
 
-run-append : (S : SharedMachine) (h k : List (Occurrence × Answer)) → IsFullRun S h → IsFullRun (state_after S h) k → IsFullRun S (h ++ k)
+run-append : (S : SharedMachine) (h k : List (GatewayEvent × Answer)) → IsFullRun S h → IsFullRun (state_after S h) k → IsFullRun S (h ++ k)
 run-append S [] k full more = more
 run-append S (x ∷ xs) k full more = (full.0, run-append (next S x.0 x.1) xs k full.1 more)
 
@@ -289,13 +290,13 @@ history_run m (f ∷ inputs) =
     run-append m.shared (pairs_of (full_deeds m.shared (dues_of m f))) (history_of (full_turns (after_turn m (full_turn m f)) inputs))
     (deeds_run m.shared (dues_of m f)) (history_run (after_turn m (full_turn m f)) inputs)
 
-run_answers : (S : SharedMachine) (h : List (Occurrence × Answer)) → IsFullRun S h → answers_of h ≡ full_answers S (events_of h)
+run_answers : (S : SharedMachine) (h : List (GatewayEvent × Answer)) → IsFullRun S h → answers_of h ≡ full_answers S (events_of h)
 run_answers S [] full = refl
 run_answers S (x ∷ h) full =
     let same : next S x.0 x.1 ≡ shared_step S x.0 = ap (λ a. next S x.0 a) full.0 in
     ap₂ (λ a answers. a ∷ answers) full.0 (run_answers (shared_step S x.0) h (subst (λ T. IsFullRun T h) same full.1))
 
-run_state : (S : SharedMachine) (h : List (Occurrence × Answer)) → IsFullRun S h → state_after S h ≡ shared_run S (events_of h)
+run_state : (S : SharedMachine) (h : List (GatewayEvent × Answer)) → IsFullRun S h → state_after S h ≡ shared_run S (events_of h)
 run_state S [] full = refl
 run_state S (x ∷ h) full =
     let same : next S x.0 x.1 ≡ shared_step S x.0 = ap (λ a. next S x.0 a) full.0 in
@@ -318,4 +319,4 @@ events-more inputs f =
     let more = full_turn (moment_of inputs) f in
     ap (λ ts. events_of (history_of ts)) (full_turns-append opening inputs (f ∷ []))
     ∙ ap events_of (flat_map-append (λ t. pairs_of t.deeds) (full_turns opening inputs) (more ∷ []) ∙ ap (λ pairs. history_of (full_turns opening inputs) ++ pairs) (append-nil (pairs_of more.deeds)))
-    ∙ map-append (λ (x : Occurrence × Answer). x.0) (history_of (full_turns opening inputs)) (pairs_of more.deeds)
+    ∙ map-append (λ (x : GatewayEvent × Answer). x.0) (history_of (full_turns opening inputs)) (pairs_of more.deeds)

@@ -11,7 +11,7 @@ use Rattle.pg_ingest.specs.Commands.{tells}
 use Rattle.pg_ingest.specs.Linking.{Linking}
 use Rattle.pg_ingest.specs.Shown as ingest
 use Rattle.pg_ingest.specs.Shown.{LinkPast, IsAllTold, doing, feeding}
-use Rattle.pg_gateway.specs.Occurrences.{Occurrence, Answer}
+use Rattle.pg_gateway.specs.GatewayEvents.{GatewayEvent, Answer}
 use Rattle.pg_gateway.specs.State.{SharedMachine, next}
 use Rattle.pg_gateway.specs.Histories.{Legal, state_after}
 use Rattle.pg_gateway.specs.Shown.{GatewayValue, GatewayShows, Goes}
@@ -20,7 +20,7 @@ use Rattle.pg_serve.specs.Inputs.{Noted, replied, ignored, closed}
 use Rattle.pg_serve.specs.Dues.{Due, posts, ignores_frame, closes, answered, ignored_frame, closed_at, due_of, note_of, notes_of, pairs_by, pairs_of, item_due, told_due, link_due, telling_so}
 use Rattle.pg_serve.specs.Feeding.{Did, Tells, TellsAll, TakesPiece, Hears, HearsAll}
 
-pub Legal-append : (S : SharedMachine) (h k : List (Occurrence × Answer)) → Legal S h → Legal (state_after S h) k → Legal S (h ++ k)
+pub Legal-append : (S : SharedMachine) (h k : List (GatewayEvent × Answer)) → Legal S h → Legal (state_after S h) k → Legal S (h ++ k)
 Legal-append S [] k legal more = more
 Legal-append S (x ∷ xs) k legal more = (legal.0, Legal-append (next S x.0 x.1) xs k legal.1 more)
 
@@ -29,7 +29,7 @@ Legal-append S (x ∷ xs) k legal more = (legal.0, Legal-append (next S x.0 x.1)
 pub Did-none : (S : SharedMachine) (notes : List Noted) (g : GatewayValue) → GatewayShows g S → Did S [] notes notes g
 Did-none S notes g shows = record { deeds = []; are = refl; legal = tt; shows = shows; notes = sym (append-nil notes) }
 
-pub Did-event : (S : SharedMachine) (e : Occurrence) (a : Answer) (before after : List Noted) (g h : GatewayValue) → GatewayShows g S → Goes g e a h
+pub Did-event : (S : SharedMachine) (e : GatewayEvent) (a : Answer) (before after : List Noted) (g h : GatewayValue) → GatewayShows g S → Goes g e a h
     → after ≡ before ++ replied a ∷ [] → Did S (posts e ∷ []) before after h
 Did-event S e a before after g h shows goes notes =
     let step = goes S shows in

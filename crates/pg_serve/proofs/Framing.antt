@@ -15,7 +15,7 @@ use Rattle.pg_data.specs.Measurements.{Measurement}
 use Rattle.pg_data.specs.Reading.{SpellsData, IsDataFrame, data_of}
 use Rattle.pg_data.proofs.Spellings.{passed-spelled, read-spelled}
 use Rattle.pg_ingest.specs.Items.{Item, measures, passes_over, known_after, announced_last, config_item, data_item, data_by, item_unless, item_of, told_back, told_of}
-use Rattle.pg_gateway.specs.Occurrences.{measure}
+use Rattle.pg_gateway.specs.GatewayEvents.{measure}
 use Rattle.pg_gateway.specs.Related.{Related}
 use Rattle.pg_gateway.proofs.RelatedLaws.{Both}
 use Rattle.pg_serve.specs.Dues.{posts, link_due}

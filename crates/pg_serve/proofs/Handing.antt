@@ -4,7 +4,7 @@ use Rattle.std.specs.List.{flat_map}
 use Rattle.std.specs.Map.{lookup}
 use Rattle.pg_wire.specs.declared.refusal.Refusal.{Refusal}
 use Rattle.pg_ingest.specs.Items as link
-use Rattle.pg_gateway.specs.Occurrences.{Occurrence, add_pmu, drop_pmu, add_sub, drop_sub, grant, asks, announce, measure, tick, stats, pmu_stats, audit, standing, who_waits, Answer}
+use Rattle.pg_gateway.specs.GatewayEvents.{GatewayEvent, add_pmu, drop_pmu, add_sub, drop_sub, grant, asks, announce, measure, tick, stats, pmu_stats, audit, standing, who_waits, Answer}
 use Rattle.pg_gateway.specs.State.{SharedMachine, slot_of}
 use Rattle.pg_gateway.specs.Views.{Handed, handed_one, handed_to, full_answer, shared_step}
 use Rattle.pg_gateway.specs.Laws.{events_of, answers_of}
@@ -15,10 +15,10 @@ use Rattle.pg_serve.specs.Full.{full_deeds, told_more, told_dues, dues_of, full_
 use Rattle.pg_serve.proofs.Neighbours.{AllAt, at_heard}
 
 -- what the answers of a history hand to u
-abbrev paired : ℕ → List (Occurrence × Answer) → List Handed
+abbrev paired : ℕ → List (GatewayEvent × Answer) → List Handed
 paired u pairs = handed_to u (events_of pairs) (answers_of pairs)
 
-paired-append : (u : ℕ) (h k : List (Occurrence × Answer)) → paired u (h ++ k) ≡ paired u h ++ paired u k
+paired-append : (u : ℕ) (h k : List (GatewayEvent × Answer)) → paired u (h ++ k) ≡ paired u h ++ paired u k
 paired-append u [] k = refl
 paired-append u (x ∷ h) k = ap (λ l. handed_one u x.0 x.1 ++ l) (paired-append u h k) ∙ sym (append_assoc (handed_one u x.0 x.1) (paired u h) (paired u k))
 
@@ -77,7 +77,7 @@ bytes_silent : (u : ℕ) (piece : List ℕ) (o : Option SourceLinkPast) → AreS
 bytes_silent u piece None = (tt, tt)
 bytes_silent u piece (Some line) = told_silent u (told_more piece (Some line)) (link.break_in (line.link.stream ++ piece))
 
-named_handed : (u : ℕ) (e : Occurrence) (a : Answer) → (if is_asked u e then handed_note (replied a) ++ [] else []) ≡ handed_one u e a ++ []
+named_handed : (u : ℕ) (e : GatewayEvent) (a : Answer) → (if is_asked u e then handed_note (replied a) ++ [] else []) ≡ handed_one u e a ++ []
 named_handed u (add_pmu key) a = refl
 named_handed u (drop_pmu key) a = refl
 named_handed u (add_sub w size bytes) a = refl

@@ -7,13 +7,13 @@ use Rattle.pg_session.specs.Commands.{Hearing, items_of, session_stats}
 use Rattle.pg_ingest.specs.Items.{told_of}
 use Rattle.pg_ingest.specs.Linking.{link_stats}
 use Rattle.pg_serve.specs.declared.source_link.SourceLink.{SourceLink}
-use Rattle.pg_gateway.specs.Occurrences.{Occurrence, measure, Answer}
+use Rattle.pg_gateway.specs.GatewayEvents.{GatewayEvent, measure, Answer}
 use Rattle.pg_gateway.specs.State.{SharedMachine, opening as shared_opening, own_of}
 use Rattle.pg_gateway.specs.Sharing.{SubscriberSlot}
 use Rattle.pg_gateway.specs.Histories.{Legal, state_after}
 use Rattle.pg_gateway.specs.Laws.{events_of, answers_of, after}
 use Rattle.pg_gateway.specs.Views as views
-use Rattle.pg_gateway.specs.Views.{shared_step, shared_run, view, private_run, full_answers, handed_to, handed_in}
+use Rattle.pg_gateway.specs.Views.{shared_step, shared_run, view, private_run, handed_to, handed_in}
 use Rattle.pg_gateway.specs.Shown.{SlotValue, SlotShows}
 use Rattle.pg_gateway.proofs.RelatedLaws.{Related-lookup, Both}
 use Rattle.pg_gateway.proofs.ViewLaws.{own-run}
@@ -23,7 +23,9 @@ use Rattle.pg_serve.specs.Inputs.{Fact, Outcome}
 use Rattle.pg_serve.specs.Dues.{Deed, answered, ignored_frame, closed_at, refused, notes_of, pairs_of}
 use Rattle.pg_serve.specs.Moments.{SourceLinkPast, Moment, opening, has_source, Turns, LegalTurns, after_turn, after_turns, all_outcomes, history_of}
 use Rattle.pg_serve.specs.Shown.{SourceLinkShows, SessionShows, WorldValue, link_counted, session_counted}
-use Rattle.pg_serve.specs.Full.{full_turns, events_made, full_outcomes, handed_over, view_of, NotesLossless, OutcomesLossless, HasAnswered, OwnShows, queue_of, moment_of, events_at, link_counts_of, session_counts_of, is_connected, Headline, InputsIsolate, SharedFrame}
+use Rattle.pg_serve.specs.Full.{full_turns, events_made, full_outcomes, handed_over, view_of, queue_of, moment_of, events_at, link_counts_of, session_counts_of, is_connected, InputsIsolate, SharedFrame}
+use Rattle.pg_serve.specs.Headline.{NotesLossless, OutcomesLossless, HasAnswered, Headline}
+use Rattle.pg_serve.specs.OwnStates.{OwnShows, OwnStates}
 use Rattle.pg_shared.proofs.Opening.{state_after-append}
 use Rattle.pg_serve.proofs.Doing.{Legal-append}
 use Rattle.pg_serve.proofs.Determined.{IsFull, full_lookup, lines_are_full, turns_are_full, answers_are_full, state_is_full, events-more}
@@ -100,19 +102,28 @@ some_map f (Some x) = refl
 shared_is : (inputs : List Fact) → (moment_of inputs).shared ≡ after (events_made inputs)
 shared_is inputs = sym (history_state opening (full_turns opening inputs)) ∙ state_is_full inputs
 
-pub isolated : (w : WorldValue) (inputs : List Fact) (told : List Outcome) → OutcomesLossless told → HasAnswered w inputs told → Headline w inputs told
-isolated w inputs told lossless has =
+pub owned : (w : WorldValue) (inputs : List Fact) (told : List Outcome) → OutcomesLossless told → HasAnswered w inputs told → OwnStates w inputs
+owned w inputs told lossless has =
     let turns = has.turns in
     let so = subst OutcomesLossless has.outcomes lossless in
     let all : turns ≡ full_turns opening inputs = turns_are_full turns has.shows.legal so ∙ ap (full_turns opening) has.taken in
     let history = history_of turns in
     let full = full_history shared_opening history (history_legal opening turns has.shows.legal) (turns_lossless opening turns so) in
     let same : (after_turns opening turns).shared ≡ after (events_of history) = sym (history_state opening turns) ∙ full.1 in
-    let own : (u : ℕ) → OwnShows (lookup (nat_eq u) w.gateway.subs) (private_run None (view_of u inputs)) =
-    λ u. subst (λ ts. OwnShows (lookup (nat_eq u) w.gateway.subs) (private_run None (view u shared_opening (events_of (history_of ts))))) all
-    (subst (OwnShows (lookup (nat_eq u) w.gateway.subs)) (ap (own_of u) same ∙ own-run u shared_opening (events_of history) tt)
-    (own_shows (lookup (nat_eq u) w.gateway.subs) (lookup (nat_eq u) (after_turns opening turns).shared.subs)
-    (Related-lookup SlotShows (nat_eq u) w.gateway.subs (after_turns opening turns).shared.subs has.shows.shows.gateway.subs))) in
+    record {
+      own =
+          λ u. subst (λ ts. OwnShows (lookup (nat_eq u) w.gateway.subs) (private_run None (view u shared_opening (events_of (history_of ts))))) all
+          (subst (OwnShows (lookup (nat_eq u) w.gateway.subs)) (ap (own_of u) same ∙ own-run u shared_opening (events_of history) tt)
+          (own_shows (lookup (nat_eq u) w.gateway.subs) (lookup (nat_eq u) (after_turns opening turns).shared.subs)
+          (Related-lookup SlotShows (nat_eq u) w.gateway.subs (after_turns opening turns).shared.subs has.shows.shows.gateway.subs)));
+    }
+
+pub isolated : (w : WorldValue) (inputs : List Fact) (told : List Outcome) → OutcomesLossless told → HasAnswered w inputs told → Headline w inputs told
+isolated w inputs told lossless has =
+    let turns = has.turns in
+    let so = subst OutcomesLossless has.outcomes lossless in
+    let all : turns ≡ full_turns opening inputs = turns_are_full turns has.shows.legal so ∙ ap (full_turns opening) has.taken in
+    let own : OwnStates w inputs = owned w inputs told lossless has in
     let links : (s : ℕ) → link_counted s w ≡ link_counts_of s inputs =
     λ s. link_counts (lookup (nat_eq s) w.lines) (lookup (nat_eq s) (after_turns opening turns).lines)
     (Related-lookup SourceLinkShows (nat_eq s) w.lines (after_turns opening turns).lines has.shows.shows.lines)
@@ -125,8 +136,7 @@ isolated w inputs told lossless has =
     let answered : told ≡ full_outcomes inputs = has.outcomes ∙ ap (all_outcomes opening) all in
     let there = belongs inputs in
     record {
-      own = own;
-      queued = λ u. queue_own (lookup (nat_eq u) w.gateway.subs) (private_run None (view_of u inputs)) (own u);
+      queued = λ u. queue_own (lookup (nat_eq u) w.gateway.subs) (private_run None (view_of u inputs)) (own.own u);
       handed = λ u. ap (handed_over u inputs) answered ∙ handed_made inputs u;
       outcomes = answered;
       links = links;
@@ -138,14 +148,14 @@ isolated w inputs told lossless has =
 
 -- ---- of a shared frame each has its granted blocks alone
 
-run-more : (S : SharedMachine) (es fs : List Occurrence) → shared_run S (es ++ fs) ≡ shared_run (shared_run S es) fs
+run-more : (S : SharedMachine) (es fs : List GatewayEvent) → shared_run S (es ++ fs) ≡ shared_run (shared_run S es) fs
 run-more S [] fs = refl
 run-more S (e ∷ es) fs = run-more (shared_step S e) es fs
 
-own-more : (u : ℕ) (es fs : List Occurrence) → own_of u (after (es ++ fs)) ≡ private_run (own_of u (after es)) (view u (after es) fs)
+own-more : (u : ℕ) (es fs : List GatewayEvent) → own_of u (after (es ++ fs)) ≡ private_run (own_of u (after es)) (view u (after es) fs)
 own-more u es fs = ap (own_of u) (run-more shared_opening es fs) ∙ own-run u (after es) fs (Alone-run shared_opening es tt)
 
-own_at : (u : ℕ) (inputs : List Fact) (f : Fact) (events : List Occurrence) → events_at inputs f ≡ events
+own_at : (u : ℕ) (inputs : List Fact) (f : Fact) (events : List GatewayEvent) → events_at inputs f ≡ events
     → own_of u (after (events_made (inputs ++ f ∷ []))) ≡ own_of u (after (events_made inputs ++ events))
 own_at u inputs f events is = ap (λ es. own_of u (after es)) (events-more inputs f ∙ ap (λ es. events_made inputs ++ es) is)
 

@@ -9,10 +9,10 @@ use Rattle.pg_data.specs.Measurements.{Measurement, block_of}
 use Rattle.pg_registry.specs.Registered.{Pmus, has_key, config_in}
 use Rattle.pg_session.specs.Events.{Sample, key_in, sampled_part, samples_at}
 use Rattle.pg_session.specs.Shown.{Model}
-use Rattle.pg_gateway.specs.Occurrences.{measure, Answer, tells}
+use Rattle.pg_gateway.specs.GatewayEvents.{measure, Answer, tells}
 use Rattle.pg_gateway.specs.Judging.{samples_in, block_refusal, blocks_counted, memory_counted}
 use Rattle.pg_gateway.specs.Sharing.{measures, some_measured}
-use Rattle.pg_gateway.specs.State.{SharedMachine, own_of, refusal, measure_refusal, judged_in, taken_in, to_all, unless, Reach, reached_answer, frames_reached, next}
+use Rattle.pg_gateway.specs.State.{SharedMachine, own_of, refusal, measure_refusal, judged_in, taken_in, to_all, unless, Target, reached_answer, frames_reached, next}
 use Rattle.pg_gateway.specs.Views.{full_by, full_answer, shared_step, private_run, as_seen, part_of, part}
 use Rattle.pg_gateway.specs.Laws.{granted_blocks}
 use Rattle.pg_gateway.proofs.SlotLaws.{Alone}
@@ -149,7 +149,7 @@ pmus_by pmus blocks (Some r) = if number_of r == 1 then memory_counted pmus (map
 counted : (S : SharedMachine) (m : Measurement) → (shared_step S (measure m)).pmus ≡ pmus_by S.pmus (judged_in S m) (refusal S (measure m))
 counted S m = by (refusal S (measure m))
   where
-    to : Reach
+    to : Target
     to = to_all (measures m.soc m.quality m.frac (taken_in S m))
 
     answer_by : Option Refusal → Answer

@@ -12,19 +12,19 @@ use Rattle.pg_registry.specs.Registered.{Pmus}
 use Rattle.pg_ingest.specs.Items as link
 use Rattle.pg_audit.specs.declared.audit.What.{What}
 use Rattle.pg_session.specs.Events as session
-use Rattle.pg_session.specs.Events.{Happening}
+use Rattle.pg_session.specs.Events.{SubscriberEvent}
 use Rattle.pg_session.specs.Private.{Told, done, refuse}
 use Rattle.pg_session.specs.Commands.{Item, commands, ignores, items_of, break_in}
-use Rattle.pg_gateway.specs.Occurrences.{Occurrence, add_pmu, drop_pmu, add_sub, drop_sub, grant, asks, announce, measure, tick, stats, pmu_stats, audit, standing, who_waits, Answer, tells, sub_counts, pmu_counts, entry, stands, those_waiting}
+use Rattle.pg_gateway.specs.GatewayEvents.{GatewayEvent, add_pmu, drop_pmu, add_sub, drop_sub, grant, asks, announce, measure, tick, stats, pmu_stats, audit, standing, who_waits, Answer, tells, sub_counts, pmu_counts, entry, stands, those_waiting}
 use Rattle.pg_gateway.specs.Judging.{registered_of}
-use Rattle.pg_gateway.specs.Sharing.{SubscriberSlot, SubscriberSlots, revokes, announces, measures, fan_out}
-use Rattle.pg_gateway.specs.State.{SharedMachine, slot_of, own_of, at_slot, refusal, Reach, to_all, to_one, adds, drops, to_none, unless, reach, reached_answer, frames_reached, granting, moved, added, with_note, code_of, is_refusal, kept_of, slots_after, slots_noted, names as named, taken_in, pmus_after, tick_after, next}
+use Rattle.pg_gateway.specs.Sharing.{SubscriberSlot, SubscriberSlots, revokes, announces, measures, broadcast}
+use Rattle.pg_gateway.specs.State.{SharedMachine, slot_of, own_of, at_slot, refusal, Target, to_all, to_one, adds, drops, to_none, unless, target, reached_answer, frames_reached, granting, moved, added, with_note, code_of, is_refusal, kept_of, slots_after, slots_noted, names as named, taken_in, pmus_after, tick_after, next}
 use Rattle.pg_gateway.specs.Histories.{state_after}
 use Rattle.pg_gateway.specs.Views.{private_run, part_of, part, view, full_by, full_answer, shared_step, shared_run}
 use Rattle.pg_gateway.specs.Laws.{events_of}
 use Rattle.pg_gateway.specs.Related.{Related}
 use Rattle.pg_gateway.proofs.RelatedLaws.{Both, Related-length, Related-lookup, Related-set_value, Related-remove_entry}
-use Rattle.pg_gateway.proofs.SlotLaws.{owned, Alone, same-at_slot, same-fan_out, lookup-removed}
+use Rattle.pg_gateway.proofs.SlotLaws.{owned, Alone, same-at_slot, same-broadcast, lookup-removed}
 use Rattle.pg_gateway.proofs.ViewLaws.{own-step, Alone-next}
 use Rattle.pg_serve.specs.Inputs.{Fact, link_up, pmu_bytes, sub_bytes, names}
 use Rattle.pg_serve.specs.Dues.{Due, posts, ignores_frame, closes, refuses, pairs_of, item_due, hang_up, session_due, link_due}
@@ -37,7 +37,7 @@ use Rattle.pg_serve.proofs.Belonging.{connected_in, Belongs, turn_belongs, openi
 
 -- ---- what an event leaves that does not speak of subscribers
 
-abbrev KeepsPmus : Occurrence → Type 0
+abbrev KeepsPmus : GatewayEvent → Type 0
 KeepsPmus (add_pmu key) = ⊥
 KeepsPmus (drop_pmu key) = ⊥
 KeepsPmus (add_sub u size bytes) = Unit {0}
@@ -53,7 +53,7 @@ KeepsPmus (who_waits us) = Unit {0}
 KeepsPmus (audit u index) = Unit {0}
 KeepsPmus (standing u place) = Unit {0}
 
-told_pmus : (S : SharedMachine) (e : Occurrence) (t : Told) → KeepsPmus e → pmus_after S e t ≡ S.pmus
+told_pmus : (S : SharedMachine) (e : GatewayEvent) (t : Told) → KeepsPmus e → pmus_after S e t ≡ S.pmus
 told_pmus S (add_pmu key) t k = absurd k
 told_pmus S (drop_pmu key) t k = absurd k
 told_pmus S (add_sub u size bytes) t k = refl
@@ -69,7 +69,7 @@ told_pmus S (who_waits us) t k = refl
 told_pmus S (audit u index) t k = refl
 told_pmus S (standing u place) t k = refl
 
-kept_pmus : (S : SharedMachine) (e : Occurrence) (a : Answer) → KeepsPmus e → (next S e a).pmus ≡ S.pmus
+kept_pmus : (S : SharedMachine) (e : GatewayEvent) (a : Answer) → KeepsPmus e → (next S e a).pmus ≡ S.pmus
 kept_pmus S e (tells t) k = told_pmus S e t k
 kept_pmus S e (sub_counts x) k = refl
 kept_pmus S e (pmu_counts x) k = refl
@@ -77,7 +77,7 @@ kept_pmus S e (those_waiting us) k = refl
 kept_pmus S e (entry x) k = refl
 kept_pmus S e (stands x) k = refl
 
-abbrev KeepsTick : Occurrence → Type 0
+abbrev KeepsTick : GatewayEvent → Type 0
 KeepsTick (add_pmu key) = Unit {0}
 KeepsTick (drop_pmu key) = Unit {0}
 KeepsTick (add_sub u size bytes) = Unit {0}
@@ -93,7 +93,7 @@ KeepsTick (who_waits us) = Unit {0}
 KeepsTick (audit u index) = Unit {0}
 KeepsTick (standing u place) = Unit {0}
 
-told_tick : (last : Option ℕ) (e : Occurrence) → KeepsTick e → tick_after last e ≡ last
+told_tick : (last : Option ℕ) (e : GatewayEvent) → KeepsTick e → tick_after last e ≡ last
 told_tick last (add_pmu key) k = refl
 told_tick last (drop_pmu key) k = refl
 told_tick last (add_sub u size bytes) k = refl
@@ -109,7 +109,7 @@ told_tick last (who_waits us) k = refl
 told_tick last (audit u index) k = refl
 told_tick last (standing u place) k = refl
 
-pub kept_tick : (S : SharedMachine) (e : Occurrence) (a : Answer) → KeepsTick e → (next S e a).last_tick ≡ S.last_tick
+pub kept_tick : (S : SharedMachine) (e : GatewayEvent) (a : Answer) → KeepsTick e → (next S e a).last_tick ≡ S.last_tick
 kept_tick S e (tells t) k = told_tick S.last_tick e k
 kept_tick S e (sub_counts x) k = refl
 kept_tick S e (pmu_counts x) k = refl
@@ -127,7 +127,7 @@ pub record Alike (u : ℕ) (S T : SharedMachine) : Type 0 where
   pub alone' : Alone T.subs
 
 -- there is room for a subscriber that is added
-abbrev HasRoom : Occurrence → SharedMachine → Type 0
+abbrev HasRoom : GatewayEvent → SharedMachine → Type 0
 HasRoom (add_pmu key) S = Unit {0}
 HasRoom (drop_pmu key) S = Unit {0}
 HasRoom (add_sub u size bytes) S = nat_le 64 (length S.subs) ≡ false
@@ -169,8 +169,8 @@ same_there : (u : ℕ) (S T : SharedMachine) → own_of u S ≡ own_of u T → i
 same_there u S T own = sym (there_is (slot_of u S.subs)) ∙ ap is_some own ∙ there_is (slot_of u T.subs)
 
 -- it sees the same of an event
-same_reach : (u : ℕ) (pmus : Pmus) (last : Option ℕ) (ss ts : SubscriberSlots) (e : Occurrence) → owned (slot_of u ss) ≡ owned (slot_of u ts) → names_other u e ≡ false
-    → HasRoom e (parts pmus last ss) → HasRoom e (parts pmus last ts) → reach (parts pmus last ss) e ≡ reach (parts pmus last ts) e
+same_reach : (u : ℕ) (pmus : Pmus) (last : Option ℕ) (ss ts : SubscriberSlots) (e : GatewayEvent) → owned (slot_of u ss) ≡ owned (slot_of u ts) → names_other u e ≡ false
+    → HasRoom e (parts pmus last ss) → HasRoom e (parts pmus last ts) → target (parts pmus last ss) e ≡ target (parts pmus last ts) e
 same_reach u pmus last ss ts (add_pmu key) own mine_so room room' = refl
 same_reach u pmus last ss ts (drop_pmu key) own mine_so room room' = refl
 same_reach u pmus last ss ts (add_sub w size bytes) own mine_so room room' =
@@ -193,7 +193,7 @@ same_reach u pmus last ss ts (audit w index) own mine_so room room' = refl
 same_reach u pmus last ss ts (standing w place) own mine_so room room' = refl
 
 -- and the registry and the last tick go on alike
-same_pmus : (pmus : Pmus) (last : Option ℕ) (ss ts : SubscriberSlots) (e : Occurrence) → (shared_step (parts pmus last ss) e).pmus ≡ (shared_step (parts pmus last ts) e).pmus
+same_pmus : (pmus : Pmus) (last : Option ℕ) (ss ts : SubscriberSlots) (e : GatewayEvent) → (shared_step (parts pmus last ss) e).pmus ≡ (shared_step (parts pmus last ts) e).pmus
 same_pmus pmus last ss ts (add_pmu key) = by (refusal (parts pmus last ss) (add_pmu key))
   where
     by : (r : Option Refusal) → (next (parts pmus last ss) (add_pmu key) (full_by r (tells (done 0 0)))).pmus ≡ (next (parts pmus last ts) (add_pmu key) (full_by r (tells (done 0 0)))).pmus
@@ -209,7 +209,7 @@ same_pmus pmus last ss ts (drop_pmu key) = by (refusal (parts pmus last ss) (dro
     by (Some r) = refl
 same_pmus pmus last ss ts (announce config) = by (refusal (parts pmus last ss) (announce config))
   where
-    to : Reach
+    to : Target
     to = to_all (announces (registered_of pmus config))
 
     answer_by : Option Refusal → SubscriberSlots → Answer
@@ -220,7 +220,7 @@ same_pmus pmus last ss ts (announce config) = by (refusal (parts pmus last ss) (
     by (Some r) = refl
 same_pmus pmus last ss ts (measure m) = by (refusal (parts pmus last ss) (measure m))
   where
-    to : Reach
+    to : Target
     to = to_all (measures m.soc m.quality m.frac (taken_in (parts pmus last ss) m))
 
     answer_by : Option Refusal → SubscriberSlots → Answer
@@ -240,7 +240,7 @@ same_pmus pmus last ss ts (who_waits us) = kept_pmus (parts pmus last ss) (who_w
 same_pmus pmus last ss ts (audit w index) = kept_pmus (parts pmus last ss) (audit w index) (full_answer (parts pmus last ss) (audit w index)) tt ∙ sym (kept_pmus (parts pmus last ts) (audit w index) (full_answer (parts pmus last ts) (audit w index)) tt)
 same_pmus pmus last ss ts (standing w place) = kept_pmus (parts pmus last ss) (standing w place) (full_answer (parts pmus last ss) (standing w place)) tt ∙ sym (kept_pmus (parts pmus last ts) (standing w place) (full_answer (parts pmus last ts) (standing w place)) tt)
 
-is_tick : (e : Occurrence) → (KeepsTick e) ⊎ ((soc : ℕ) × (e ≡ tick soc))
+is_tick : (e : GatewayEvent) → (KeepsTick e) ⊎ ((soc : ℕ) × (e ≡ tick soc))
 is_tick (add_pmu key) = inl tt
 is_tick (drop_pmu key) = inl tt
 is_tick (add_sub u size bytes) = inl tt
@@ -256,7 +256,7 @@ is_tick (who_waits us) = inl tt
 is_tick (audit u index) = inl tt
 is_tick (standing u place) = inl tt
 
-same_tick : (pmus : Pmus) (last : Option ℕ) (ss ts : SubscriberSlots) (e : Occurrence) → (shared_step (parts pmus last ss) e).last_tick ≡ (shared_step (parts pmus last ts) e).last_tick
+same_tick : (pmus : Pmus) (last : Option ℕ) (ss ts : SubscriberSlots) (e : GatewayEvent) → (shared_step (parts pmus last ss) e).last_tick ≡ (shared_step (parts pmus last ts) e).last_tick
 same_tick pmus last ss ts e = by (is_tick e)
   where
     by : (KeepsTick e) ⊎ ((soc : ℕ) × (e ≡ tick soc)) → (shared_step (parts pmus last ss) e).last_tick ≡ (shared_step (parts pmus last ts) e).last_tick
@@ -264,7 +264,7 @@ same_tick pmus last ss ts e = by (is_tick e)
     by (inr t) = subst (λ x. (shared_step (parts pmus last ss) x).last_tick ≡ (shared_step (parts pmus last ts) x).last_tick) (sym t.1) refl
 
 -- an event that names no other: u sees the same of it, and the states go on alike
-step_by_parts : (u : ℕ) (pmus : Pmus) (last : Option ℕ) (ss ts : SubscriberSlots) (e : Occurrence) → owned (slot_of u ss) ≡ owned (slot_of u ts) → Alone ss → Alone ts → names_other u e ≡ false
+step_by_parts : (u : ℕ) (pmus : Pmus) (last : Option ℕ) (ss ts : SubscriberSlots) (e : GatewayEvent) → owned (slot_of u ss) ≡ owned (slot_of u ts) → Alone ss → Alone ts → names_other u e ≡ false
     → HasRoom e (parts pmus last ss) → HasRoom e (parts pmus last ts)
     → Alike u (shared_step (parts pmus last ss) e) (shared_step (parts pmus last ts) e) × (part u (parts pmus last ss) e ≡ part u (parts pmus last ts) e)
 step_by_parts u pmus last ss ts e own alone alone' mine_so room room' =
@@ -281,7 +281,7 @@ step_by_parts u pmus last ss ts e own alone alone' mine_so room room' =
       same,
     )
 
-pub step_alike : (u : ℕ) (S T : SharedMachine) (e : Occurrence) → Alike u S T → names_other u e ≡ false → HasRoom e S → HasRoom e T
+pub step_alike : (u : ℕ) (S T : SharedMachine) (e : GatewayEvent) → Alike u S T → names_other u e ≡ false → HasRoom e S → HasRoom e T
     → Alike u (shared_step S e) (shared_step T e) × (part u S e ≡ part u T e)
 step_alike u S T e alike mine_so room room' =
     by T.pmus alike.pmus T.last_tick alike.tick room'
@@ -294,7 +294,7 @@ step_alike u S T e alike mine_so room room' =
         (λ r. step_by_parts u S.pmus S.last_tick S.subs T.subs e alike.own alike.alone alike.alone' mine_so room r)) room'
 
 -- an event that names another: u sees nothing of it, and the state goes on alike
-none_seen : (u : ℕ) (S : SharedMachine) (e : Occurrence) → names_other u e ≡ true → part u S e ≡ []
+none_seen : (u : ℕ) (S : SharedMachine) (e : GatewayEvent) → names_other u e ≡ true → part u S e ≡ []
 none_seen u S (add_pmu key) other = absurd (cc)
 none_seen u S (drop_pmu key) other = absurd (cc)
 none_seen u S (add_sub w size bytes) other = by (refusal S (add_sub w size bytes))
@@ -322,7 +322,7 @@ none_seen u S (who_waits us) other = refl
 none_seen u S (audit w index) other = refl
 none_seen u S (standing w place) other = refl
 
-other_keeps : (u : ℕ) (e : Occurrence) → names_other u e ≡ true → KeepsPmus e × KeepsTick e
+other_keeps : (u : ℕ) (e : GatewayEvent) → names_other u e ≡ true → KeepsPmus e × KeepsTick e
 other_keeps u (add_pmu key) other = absurd (cc)
 other_keeps u (drop_pmu key) other = absurd (cc)
 other_keeps u (add_sub w size bytes) other = (tt, tt)
@@ -338,7 +338,7 @@ other_keeps u (who_waits us) other = (tt, tt)
 other_keeps u (audit w index) other = (tt, tt)
 other_keeps u (standing w place) other = (tt, tt)
 
-other_alike : (u : ℕ) (S T : SharedMachine) (e : Occurrence) → Alike u S T → names_other u e ≡ true → Alike u (shared_step S e) T
+other_alike : (u : ℕ) (S T : SharedMachine) (e : GatewayEvent) → Alike u S T → names_other u e ≡ true → Alike u (shared_step S e) T
 other_alike u S T e alike other = record {
   pmus = kept_pmus S e (full_answer S e) (other_keeps u e other).0 ∙ alike.pmus;
   tick = kept_tick S e (full_answer S e) (other_keeps u e other).1 ∙ alike.tick;
@@ -350,33 +350,33 @@ other_alike u S T e alike other = record {
 -- ---- lists of events
 
 -- events that u sees, and among them none that adds a subscriber
-abbrev AreOwn : ℕ → List Occurrence → Type 0
+abbrev AreOwn : ℕ → List GatewayEvent → Type 0
 AreOwn u [] = Unit {0}
 AreOwn u (e ∷ es) = (names_other u e ≡ false) × ((S : SharedMachine) → HasRoom e S) × AreOwn u es
 
-abbrev AreOthers : ℕ → List Occurrence → Type 0
+abbrev AreOthers : ℕ → List GatewayEvent → Type 0
 AreOthers u [] = Unit {0}
 AreOthers u (e ∷ es) = (names_other u e ≡ true) × AreOthers u es
 
-run_alike : (u : ℕ) (S T : SharedMachine) (es : List Occurrence) → Alike u S T → AreOwn u es → Alike u (shared_run S es) (shared_run T es) × (view u S es ≡ view u T es)
+run_alike : (u : ℕ) (S T : SharedMachine) (es : List GatewayEvent) → Alike u S T → AreOwn u es → Alike u (shared_run S es) (shared_run T es) × (view u S es ≡ view u T es)
 run_alike u S T [] alike own = (alike, refl)
 run_alike u S T (e ∷ es) alike own =
     let one = step_alike u S T e alike own.0 (own.1 S) (own.1 T) in
     let rest = run_alike u (shared_step S e) (shared_step T e) es one.0 own.2 in
     (rest.0, ap₂ (λ x y. x ++ y) one.1 rest.1)
 
-others_alike : (u : ℕ) (S T : SharedMachine) (es : List Occurrence) → Alike u S T → AreOthers u es → Alike u (shared_run S es) T × (view u S es ≡ [])
+others_alike : (u : ℕ) (S T : SharedMachine) (es : List GatewayEvent) → Alike u S T → AreOthers u es → Alike u (shared_run S es) T × (view u S es ≡ [])
 others_alike u S T [] alike others = (alike, refl)
 others_alike u S T (e ∷ es) alike others =
     let rest = others_alike u (shared_step S e) T es (other_alike u S T e alike others.0) others.1 in
     (rest.0, ap₂ (λ x y. x ++ y) (none_seen u S e others.0) rest.1)
 
-view-append : (u : ℕ) (S : SharedMachine) (es fs : List Occurrence) → view u S (es ++ fs) ≡ view u S es ++ view u (shared_run S es) fs
+view-append : (u : ℕ) (S : SharedMachine) (es fs : List GatewayEvent) → view u S (es ++ fs) ≡ view u S es ++ view u (shared_run S es) fs
 view-append u S [] fs = refl
 view-append u S (e ∷ es) fs = ap (λ v. part u S e ++ v) (view-append u (shared_step S e) es fs) ∙ sym (append_assoc (part u S e) (view u (shared_step S e) es) (view u (shared_run (shared_step S e) es) fs))
 
 -- the events that are due
-abbrev pub posted : List Due → List Occurrence
+abbrev pub posted : List Due → List GatewayEvent
 posted [] = []
 posted (posts e ∷ dues) = e ∷ posted dues
 posted (ignores_frame r ∷ dues) = posted dues
@@ -397,7 +397,7 @@ run_posted S (ignores_frame r ∷ dues) = run_posted S dues
 run_posted S (closes r ∷ dues) = run_posted S dues
 run_posted S (refuses r ∷ dues) = run_posted S dues
 
-abbrev pub made_from : Moment → List Fact → List Occurrence
+abbrev pub made_from : Moment → List Fact → List GatewayEvent
 made_from m inputs = events_of (history_of (full_turns m inputs))
 
 abbrev pub turned : Moment → Fact → Moment
@@ -406,7 +406,7 @@ turned m f = after_turn m (full_turn m f)
 pub view_turn : (u : ℕ) (m : Moment) (f : Fact) (inputs : List Fact)
     → view u m.shared (made_from m (f ∷ inputs)) ≡ view u m.shared (posted (dues_of m f)) ++ view u (turned m f).shared (made_from (turned m f) inputs)
 view_turn u m f inputs =
-    ap (view u m.shared) (map-append (λ (x : Occurrence × Answer). x.0) (pairs_of (full_deeds m.shared (dues_of m f))) (history_of (full_turns (turned m f) inputs))
+    ap (view u m.shared) (map-append (λ (x : GatewayEvent × Answer). x.0) (pairs_of (full_deeds m.shared (dues_of m f))) (history_of (full_turns (turned m f) inputs))
     ∙ ap (λ es. es ++ made_from (turned m f) inputs) (events_posted m.shared (dues_of m f)))
     ∙ view-append u m.shared (posted (dues_of m f)) (made_from (turned m f) inputs)
     ∙ ap (λ S. view u m.shared (posted (dues_of m f)) ++ view u S (made_from (turned m f) inputs)) (sym (run_posted m.shared (dues_of m f)))
@@ -414,7 +414,7 @@ view_turn u m f inputs =
 -- ---- what is due of a subscriber's bytes
 
 abbrev pub IsAt : ℕ → Due → Type 0
-IsAt w (posts e) = (x : Happening) × (e ≡ asks w x)
+IsAt w (posts e) = (x : SubscriberEvent) × (e ≡ asks w x)
 IsAt w (ignores_frame r) = Unit {0}
 IsAt w (closes r) = Unit {0}
 IsAt w (refuses r) = Unit {0}
@@ -543,7 +543,7 @@ fed_apart u w piece fed (Some stream) apart alone = by (break_in (stream ++ piec
     by None = set_apart u w (stream ++ piece) fed apart
     by (Some r) = remove_apart u w fed alone apart
 
-named_apart : (u : ℕ) (fed : List (ℕ × List ℕ)) (e : Occurrence) (done_so : Bool) → names_other u e ≡ true → Alone fed → lookup (nat_eq u) (fed_by fed e done_so) ≡ lookup (nat_eq u) fed
+named_apart : (u : ℕ) (fed : List (ℕ × List ℕ)) (e : GatewayEvent) (done_so : Bool) → names_other u e ≡ true → Alone fed → lookup (nat_eq u) (fed_by fed e done_so) ≡ lookup (nat_eq u) fed
 named_apart u fed (add_pmu key) done_so other alone = refl
 named_apart u fed (drop_pmu key) done_so other alone = refl
 named_apart u fed (add_sub w size bytes) done_so other alone = refl
@@ -572,7 +572,7 @@ named_apart u fed (who_waits us) done_so other alone = refl
 named_apart u fed (audit w index) done_so other alone = refl
 named_apart u fed (standing w place) done_so other alone = refl
 
-other_lines : (u : ℕ) (lines : List (ℕ × SourceLinkPast)) (S T : SharedMachine) (e : Occurrence) (done_so : Bool) → names_other u e ≡ true → lines_by lines S T e done_so ≡ lines
+other_lines : (u : ℕ) (lines : List (ℕ × SourceLinkPast)) (S T : SharedMachine) (e : GatewayEvent) (done_so : Bool) → names_other u e ≡ true → lines_by lines S T e done_so ≡ lines
 other_lines u lines S T (add_pmu key) done_so other = absurd (cc)
 other_lines u lines S T (drop_pmu key) done_so other = absurd (cc)
 other_lines u lines S T (add_sub w size bytes) done_so other = refl
@@ -666,7 +666,7 @@ heard_own u m n piece alike =
     )
 
 -- lines go on alike
-own_lines : (u : ℕ) (m n : Moment) (e : Occurrence) → AlikeMoments u m n → (shared_step m.shared e).pmus ≡ (shared_step n.shared e).pmus
+own_lines : (u : ℕ) (m n : Moment) (e : GatewayEvent) → AlikeMoments u m n → (shared_step m.shared e).pmus ≡ (shared_step n.shared e).pmus
     → Related LineAlike (lines_by m.lines m.shared (shared_step m.shared e) e (is_done (full_answer m.shared e)))
     (lines_by n.lines n.shared (shared_step n.shared e) e (is_done (full_answer n.shared e)))
 own_lines u m n (add_pmu key) alike after =
@@ -726,10 +726,10 @@ end_here u fed fed' false false same alone alone' e = e
 end_here u fed fed' true false same alone alone' e = absurd (cc)
 end_here u fed fed' false true same alone alone' e = absurd (cc)
 
-abbrev FedAlike : ℕ → Moment → Moment → Occurrence → Type 0
+abbrev FedAlike : ℕ → Moment → Moment → GatewayEvent → Type 0
 FedAlike u m n e = lookup (nat_eq u) (fed_by m.fed e (is_done (full_answer m.shared e))) ≡ lookup (nat_eq u) (fed_by n.fed e (is_done (full_answer n.shared e)))
 
-fed_asked : (u : ℕ) (m n : Moment) (x : Happening) → AlikeMoments u m n → FedAlike u m n (asks u x)
+fed_asked : (u : ℕ) (m n : Moment) (x : SubscriberEvent) → AlikeMoments u m n → FedAlike u m n (asks u x)
 fed_asked u m n session.connect alike =
     connect_here u m.fed n.fed (is_done (full_answer m.shared (asks u session.connect))) (is_done (full_answer n.shared (asks u session.connect)))
     (connect_done m.shared u ∙ ap (λ o. is_some o && not (connected_in o)) alike.shared.own ∙ sym (connect_done n.shared u)) alike.fed
@@ -751,7 +751,7 @@ fed_dropped u m n alike =
     end_here u m.fed n.fed (is_done (full_answer m.shared (drop_sub u))) (is_done (full_answer n.shared (drop_sub u)))
     (drop_done m.shared u ∙ same_there u m.shared n.shared alike.shared.own ∙ sym (drop_done n.shared u)) alike.first.fed_alone alike.other.fed_alone alike.fed
 
-fed_named : (u : ℕ) (m n : Moment) (e : Occurrence) → AlikeMoments u m n → names_other u e ≡ false → FedAlike u m n e
+fed_named : (u : ℕ) (m n : Moment) (e : GatewayEvent) → AlikeMoments u m n → names_other u e ≡ false → FedAlike u m n e
 fed_named u m n (add_pmu key) alike own = alike.fed
 fed_named u m n (drop_pmu key) alike own = alike.fed
 fed_named u m n (add_sub w size bytes) alike own = alike.fed
@@ -843,12 +843,12 @@ own_turn u m n (names e) alike own room room' =
 
 -- ---- how many subscribers there are
 
-abbrev reach_adds : Reach → ℕ
-reach_adds (to_all o) = 0
-reach_adds (to_one w x) = 0
-reach_adds (adds w size bytes last) = 1
-reach_adds (drops w) = 0
-reach_adds to_none = 0
+abbrev target_adds : Target → ℕ
+target_adds (to_all o) = 0
+target_adds (to_one w x) = 0
+target_adds (adds w size bytes last) = 1
+target_adds (drops w) = 0
+target_adds to_none = 0
 
 length_removed : (test : ℕ → Bool) (ss : SubscriberSlots) → length (remove_entry test ss) ≤ length ss
 length_removed test [] = omega arith
@@ -858,12 +858,12 @@ length_removed test (s ∷ ss) = by (test s.0) (length_removed test ss)
     by true h = omega arith
     by false h = omega (arith, h)
 
-length_reached : (to : Reach) (t : Told) (ss : SubscriberSlots) → length (slots_after to t ss) ≤ length ss + reach_adds to
+length_reached : (to : Target) (t : Told) (ss : SubscriberSlots) → length (slots_after to t ss) ≤ length ss + target_adds to
 length_reached (to_all o) t ss = by (is_refusal t)
   where
-    by : (b : Bool) → length (if b then ss else fan_out o ss (kept_of t)) ≤ length ss + 0
+    by : (b : Bool) → length (if b then ss else broadcast o ss (kept_of t)) ≤ length ss + 0
     by true = omega arith
-    by false = let same = Related-length (λ v w. Unit {0}) (fan_out o ss (kept_of t)) ss (same-fan_out o ss (kept_of t)) in omega (arith, same)
+    by false = let same = Related-length (λ v w. Unit {0}) (broadcast o ss (kept_of t)) ss (same-broadcast o ss (kept_of t)) in omega (arith, same)
 length_reached (to_one w x) t ss =
     let same = Related-length (λ v w. Unit {0}) (at_slot w (moved x t) ss) ss (same-at_slot w (moved x t) ss) in omega (arith, same)
 length_reached (adds w size bytes last) t ss = by (is_refusal t)
@@ -883,35 +883,35 @@ length_noted None t ss = refl
 length_noted (Some n) t ss =
     Related-length (λ v w. Unit {0}) (at_slot n.0 (with_note (n.1, code_of t)) ss) ss (same-at_slot n.0 (with_note (n.1, code_of t)) ss)
 
-adds_unless : (r : Option Refusal) (to : Reach) → reach_adds (unless r to) ≤ reach_adds to
+adds_unless : (r : Option Refusal) (to : Target) → target_adds (unless r to) ≤ target_adds to
 adds_unless None to = omega arith
 adds_unless (Some r) to = omega arith
 
-reach_by : (S : SharedMachine) (e : Occurrence) → reach_adds (reach S e) ≤ adds_by e
-reach_by S (add_pmu key) = omega arith
-reach_by S (drop_pmu key) = adds_unless (refusal S (drop_pmu key)) (to_all (revokes key))
-reach_by S (add_sub w size bytes) = adds_unless (refusal S (add_sub w size bytes)) (adds w size bytes S.last_tick)
-reach_by S (drop_sub w) = adds_unless (refusal S (drop_sub w)) (drops w)
-reach_by S (grant w key) = by (registered.has_key S.pmus key)
+target_by : (S : SharedMachine) (e : GatewayEvent) → target_adds (target S e) ≤ adds_by e
+target_by S (add_pmu key) = omega arith
+target_by S (drop_pmu key) = adds_unless (refusal S (drop_pmu key)) (to_all (revokes key))
+target_by S (add_sub w size bytes) = adds_unless (refusal S (add_sub w size bytes)) (adds w size bytes S.last_tick)
+target_by S (drop_sub w) = adds_unless (refusal S (drop_sub w)) (drops w)
+target_by S (grant w key) = by (registered.has_key S.pmus key)
   where
-    by : (b : Bool) → reach_adds (if b then to_one w (granting S key) else to_none) ≤ 0
+    by : (b : Bool) → target_adds (if b then to_one w (granting S key) else to_none) ≤ 0
     by true = omega arith
     by false = omega arith
-reach_by S (asks w x) = omega arith
-reach_by S (announce config) = adds_unless (refusal S (announce config)) (to_all (announces (registered_of S.pmus config)))
-reach_by S (measure m) = adds_unless (refusal S (measure m)) (to_all (measures m.soc m.quality m.frac (taken_in S m)))
-reach_by S (tick soc) = omega arith
-reach_by S (stats w) = omega arith
-reach_by S (pmu_stats key) = omega arith
-reach_by S (who_waits us) = omega arith
-reach_by S (audit w index) = omega arith
-reach_by S (standing w place) = omega arith
+target_by S (asks w x) = omega arith
+target_by S (announce config) = adds_unless (refusal S (announce config)) (to_all (announces (registered_of S.pmus config)))
+target_by S (measure m) = adds_unless (refusal S (measure m)) (to_all (measures m.soc m.quality m.frac (taken_in S m)))
+target_by S (tick soc) = omega arith
+target_by S (stats w) = omega arith
+target_by S (pmu_stats key) = omega arith
+target_by S (who_waits us) = omega arith
+target_by S (audit w index) = omega arith
+target_by S (standing w place) = omega arith
 
-length_next : (S : SharedMachine) (e : Occurrence) (a : Answer) → length (next S e a).subs ≤ length S.subs + adds_by e
+length_next : (S : SharedMachine) (e : GatewayEvent) (a : Answer) → length (next S e a).subs ≤ length S.subs + adds_by e
 length_next S e (tells t) =
-    let noted = length_noted (named e) t (slots_after (reach S e) t S.subs) in
-    let reached = length_reached (reach S e) t S.subs in
-    let few = reach_by S e in
+    let noted = length_noted (named e) t (slots_after (target S e) t S.subs) in
+    let reached = length_reached (target S e) t S.subs in
+    let few = target_by S e in
     omega (arith, noted, reached, few)
 length_next S e (sub_counts x) = omega arith
 length_next S e (pmu_counts x) = omega arith
@@ -919,11 +919,11 @@ length_next S e (those_waiting us) = omega arith
 length_next S e (entry x) = omega arith
 length_next S e (stands x) = omega arith
 
-abbrev adds_all : List Occurrence → ℕ
+abbrev adds_all : List GatewayEvent → ℕ
 adds_all [] = 0
 adds_all (e ∷ es) = adds_by e + adds_all es
 
-length_run : (S : SharedMachine) (es : List Occurrence) → length (shared_run S es).subs ≤ length S.subs + adds_all es
+length_run : (S : SharedMachine) (es : List GatewayEvent) → length (shared_run S es).subs ≤ length S.subs + adds_all es
 length_run S [] = omega arith
 length_run S (e ∷ es) =
     let one = length_next S e (full_answer S e) in
@@ -975,7 +975,7 @@ less n h = by (nat_le 64 n) refl
     by true e = absurd (grind (arith, nat_tests))
     by false e = refl
 
-has_room : (e : Occurrence) (S : SharedMachine) (others : ℕ) → length S.subs + (adds_by e + others) ≤ 64 → HasRoom e S
+has_room : (e : GatewayEvent) (S : SharedMachine) (others : ℕ) → length S.subs + (adds_by e + others) ≤ 64 → HasRoom e S
 has_room (add_pmu key) S others h = tt
 has_room (drop_pmu key) S others h = tt
 has_room (add_sub u size bytes) S others h = less (length S.subs) (omega (arith, h))

@@ -5,7 +5,7 @@ use Rattle.pg_serve.specs.Inputs.{Fact, Outcome}
 use Rattle.pg_serve.specs.Moments.{Moment, opening, Turns, LegalTurns, after_turn, after_turns, outcome_of, all_outcomes}
 use Rattle.pg_serve.specs.Shown.{Holding, holding, MomentShows, WorldValue}
 use Rattle.pg_serve.specs.Taking.{TakesInput, TakesInputs}
-use Rattle.pg_serve.specs.Full.{HasAnswered}
+use Rattle.pg_serve.specs.Headline.{HasAnswered}
 
 pub after_turns-append : (m : Moment) (ts us : Turns) → after_turns m (ts ++ us) ≡ after_turns (after_turns m ts) us
 after_turns-append m [] us = refl

@@ -15,7 +15,7 @@ use Rattle.pg_wire.specs.declared.refusal.Refusal.TheVariants.{NoSuchPmu, NoMemo
 use Rattle.pg_session.specs.Private as private
 use Rattle.pg_session.specs.Commands as session
 use Rattle.pg_session.specs.Commands.{Hearing, items_of, break_in}
-use Rattle.pg_gateway.specs.Occurrences.{Occurrence, add_pmu, drop_pmu, asks, Answer, tells}
+use Rattle.pg_gateway.specs.GatewayEvents.{GatewayEvent, add_pmu, drop_pmu, asks, Answer, tells}
 use Rattle.pg_gateway.specs.State.{SharedMachine, May, next, refusal, made, answer, takes_memory, own_refusal, slot_of, own_of}
 use Rattle.pg_gateway.specs.Sharing.{SubscriberSlot}
 use Rattle.pg_gateway.specs.Histories.{state_after}
@@ -35,7 +35,7 @@ use Rattle.pg_serve.specs.Taking.{Takes, GoesUp, TakesBytes, Spares, Ends}
 abbrev with_parts : GatewayValue → List (ℕ × SourceLink) → List (ℕ × Hearing) → Holding
 with_parts g links hearings = record { gateway = g; lines = links; sessions = hearings }
 
-pub named_taken : (m : Moment) (e : Occurrence) (a : Answer) (o : Outcome) (g : GatewayValue) (links : List (ℕ × SourceLink)) (hearings : List (ℕ × Hearing))
+pub named_taken : (m : Moment) (e : GatewayEvent) (a : Answer) (o : Outcome) (g : GatewayValue) (links : List (ℕ × SourceLink)) (hearings : List (ℕ × Hearing))
     → o ≡ record { notes = replied a ∷ []; to_pmu = [] } → May m.shared e a → GatewayShows g (next m.shared e a)
     → Related SourceLinkShows links (lines_by m.lines m.shared (next m.shared e a) e (is_done a))
     → Related SessionShows hearings (fed_by m.fed e (is_done a)) → Takes m (names e) o (with_parts g links hearings)
@@ -48,7 +48,7 @@ named_taken m e a o g links hearings is may shows lines sessions = record {
 }
 
 -- an event that concerns no link and no session
-pub spared : (m : Moment) (e : Occurrence) (a : Answer) (o : Outcome) (g : GatewayValue) (links : List (ℕ × SourceLink)) (hearings : List (ℕ × Hearing))
+pub spared : (m : Moment) (e : GatewayEvent) (a : Answer) (o : Outcome) (g : GatewayValue) (links : List (ℕ × SourceLink)) (hearings : List (ℕ × Hearing))
     → Spares e → o ≡ record { notes = replied a ∷ []; to_pmu = [] } → May m.shared e a → GatewayShows g (next m.shared e a)
     → Related SourceLinkShows links m.lines → Related SessionShows hearings m.fed → Takes m (names e) o (with_parts g links hearings)
 spared m e a o g links hearings spares is may shows lines sessions =
@@ -57,7 +57,7 @@ spared m e a o g links hearings spares is may shows lines sessions =
     (subst (Related SessionShows hearings) (sym (spares.fed m.fed (is_done a))) sessions)
 
 -- an event that ends a session, where it is done
-pub ended : (u : ℕ) (m : Moment) (e : Occurrence) (a : Answer) (o : Outcome) (g : GatewayValue) (links : List (ℕ × SourceLink)) (hearings : List (ℕ × Hearing))
+pub ended : (u : ℕ) (m : Moment) (e : GatewayEvent) (a : Answer) (o : Outcome) (g : GatewayValue) (links : List (ℕ × SourceLink)) (hearings : List (ℕ × Hearing))
     → Ends u e → is_done a ≡ true → o ≡ record { notes = replied a ∷ []; to_pmu = [] } → May m.shared e a → GatewayShows g (next m.shared e a)
     → Related SourceLinkShows links m.lines → Related SessionShows hearings m.fed → Takes m (names e) o (with_parts g links (remove_entry (nat_eq u) hearings))
 ended u m e a o g links hearings ends done is may shows lines sessions =
@@ -66,7 +66,7 @@ ended u m e a o g links hearings ends done is may shows lines sessions =
     (subst (Related SessionShows (remove_entry (nat_eq u) hearings)) (sym (ap (fed_by m.fed e) done ∙ ends.fed m.fed true))
     (Related-remove_entry SessionShows (nat_eq u) hearings m.fed sessions))
 
-pub not_ended : (u : ℕ) (m : Moment) (e : Occurrence) (a : Answer) (o : Outcome) (g : GatewayValue) (links : List (ℕ × SourceLink)) (hearings : List (ℕ × Hearing))
+pub not_ended : (u : ℕ) (m : Moment) (e : GatewayEvent) (a : Answer) (o : Outcome) (g : GatewayValue) (links : List (ℕ × SourceLink)) (hearings : List (ℕ × Hearing))
     → Ends u e → is_done a ≡ false → o ≡ record { notes = replied a ∷ []; to_pmu = [] } → May m.shared e a → GatewayShows g (next m.shared e a)
     → Related SourceLinkShows links m.lines → Related SessionShows hearings m.fed → Takes m (names e) o (with_parts g links hearings)
 not_ended u m e a o g links hearings ends done is may shows lines sessions =
@@ -145,7 +145,7 @@ Related-insert {V} {W} R u v w r (x ∷ xs) (y ∷ ys) h = rw h.0 (by (nat_eq u 
     by true rest = (refl, r, h.2)
     by false rest = (refl, h.1, rest)
 
-may_refused : (S : SharedMachine) (e : Occurrence) (a : Answer) (r : Refusal) → May S e a → refusal S e ≡ Some r → is_done a ≡ false
+may_refused : (S : SharedMachine) (e : GatewayEvent) (a : Answer) (r : Refusal) → May S e a → refusal S e ≡ Some r → is_done a ≡ false
 may_refused S e a r may is =
     let told : a ≡ tells (private.refused r) = subst (λ o. MatchOption o
     (((k : ℕ) × (k ≤ made S e) × (a ≡ answer S e k)) ⊎ ((a ≡ tells (private.refused NoMemory)) × (takes_memory e ≡ true)))
@@ -153,7 +153,7 @@ may_refused S e a r may is =
     ap is_done told
 
 -- there is no memory for the link or session of the event
-pub no_memory : (m : Moment) (e : Occurrence) (o : Outcome) (g : GatewayValue) (links : List (ℕ × SourceLink)) (hearings : List (ℕ × Hearing))
+pub no_memory : (m : Moment) (e : GatewayEvent) (o : Outcome) (g : GatewayValue) (links : List (ℕ × SourceLink)) (hearings : List (ℕ × Hearing))
     → begins e ≡ true → refusal m.shared e ≡ None → o ≡ record { notes = replied (tells (private.refused NoMemory)) ∷ []; to_pmu = [] }
     → MomentShows (with_parts g links hearings) m → Takes m (names e) o (with_parts g links hearings)
 no_memory m e o g links hearings b none is shows = record {

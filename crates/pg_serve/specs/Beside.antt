@@ -2,7 +2,7 @@
 use Rattle.std.specs.Prelude.{◌≡◌, ◌≤◌, ℕ, List, [], ◌∷◌, None}
 use Rattle.std.specs.List.{flat_map}
 use Rattle.pg_data.specs.Measurements.{Measurement}
-use Rattle.pg_gateway.specs.Occurrences.{Occurrence, measure}
+use Rattle.pg_gateway.specs.GatewayEvents.{GatewayEvent, measure}
 use Rattle.pg_gateway.specs.State.{SharedMachine, opening as shared_opening, refusal}
 use Rattle.pg_gateway.specs.Views.{part, shared_run}
 use Rattle.pg_gateway.specs.Laws.{AgreeOn}
@@ -10,35 +10,36 @@ use Rattle.pg_serve.specs.Inputs.{Fact, Outcome}
 use Rattle.pg_serve.specs.Shown.{WorldValue, queue_shown}
 use Rattle.pg_serve.specs.Others.{adds_in}
 use Rattle.pg_serve.specs.Framed.{SameButUngranted}
-use Rattle.pg_serve.specs.Full.{events_made, view_of, handed_over, OutcomesLossless, HasAnswered}
+use Rattle.pg_serve.specs.Full.{events_made, view_of, handed_over}
+use Rattle.pg_serve.specs.Headline.{OutcomesLossless, HasAnswered}
 
 -- events of two worlds, side by side
 pub data Beside : Type 0 where
   -- a data frame of each
   frames : Measurement → Measurement → Beside
   -- any event of each
-  events : Occurrence → Occurrence → Beside
+  events : GatewayEvent → GatewayEvent → Beside
   -- an event of one of them alone
-  mine : Occurrence → Beside
-  other : Occurrence → Beside
+  mine : GatewayEvent → Beside
+  other : GatewayEvent → Beside
 
-abbrev pub mine_by : Beside → List Occurrence
+abbrev pub mine_by : Beside → List GatewayEvent
 mine_by (frames m n) = measure m ∷ []
 mine_by (events e f) = e ∷ []
 mine_by (mine e) = e ∷ []
 mine_by (other f) = []
 
-abbrev pub other_by : Beside → List Occurrence
+abbrev pub other_by : Beside → List GatewayEvent
 other_by (frames m n) = measure n ∷ []
 other_by (events e f) = f ∷ []
 other_by (mine e) = []
 other_by (other f) = f ∷ []
 
 -- all events of the one world, and of the other
-abbrev pub mine_of : List Beside → List Occurrence
+abbrev pub mine_of : List Beside → List GatewayEvent
 mine_of pairs = flat_map mine_by pairs
 
-abbrev pub other_of : List Beside → List Occurrence
+abbrev pub other_of : List Beside → List GatewayEvent
 other_of pairs = flat_map other_by pairs
 
 -- What u is to see of both agrees: data frames that both worlds take agree on the blocks that u is granted of them, and may

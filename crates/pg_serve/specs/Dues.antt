@@ -15,13 +15,13 @@ use Rattle.pg_ingest.specs.Items as link
 use Rattle.pg_ingest.specs.Items.{announces, measures, skips, rejects_config, rejects_data, passes_over}
 use Rattle.pg_ingest.specs.Commands.{owes_config, owes_start, asks as given, tells as telling}
 use Rattle.pg_ingest.specs.Shown.{LinkPast}
-use Rattle.pg_gateway.specs.Occurrences.{Occurrence, asks, announce, measure, Answer, tells}
+use Rattle.pg_gateway.specs.GatewayEvents.{GatewayEvent, asks, announce, measure, Answer, tells}
 use Rattle.pg_serve.specs.Inputs.{Noted, replied, ignored, closed}
 
 -- what an input makes the world do
 pub data Due : Type 0 where
   -- an event is posted
-  posts : Occurrence → Due
+  posts : GatewayEvent → Due
   -- a frame is ignored
   ignores_frame : Refusal → Due
   -- bytes broke
@@ -31,7 +31,7 @@ pub data Due : Type 0 where
 
 -- the same done: an event that was posted has an answer
 pub data Deed : Type 0 where
-  answered : Occurrence → Answer → Deed
+  answered : GatewayEvent → Answer → Deed
   ignored_frame : Refusal → Deed
   closed_at : Refusal → Deed
   refused : Refusal → Deed
@@ -52,14 +52,14 @@ note_of (refused r) = replied (tells (private.refused r))
 abbrev pub notes_of : List Deed → List Noted
 notes_of deeds = map note_of deeds
 
-abbrev pub pairs_by : Deed → List (Occurrence × Answer)
+abbrev pub pairs_by : Deed → List (GatewayEvent × Answer)
 pairs_by (answered e a) = (e, a) ∷ []
 pairs_by (ignored_frame r) = []
 pairs_by (closed_at r) = []
 pairs_by (refused r) = []
 
 -- the events with their answers
-abbrev pub pairs_of : List Deed → List (Occurrence × Answer)
+abbrev pub pairs_of : List Deed → List (GatewayEvent × Answer)
 pairs_of deeds = flat_map pairs_by deeds
 
 -- ---- a subscriber's bytes

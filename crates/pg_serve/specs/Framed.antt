@@ -12,7 +12,7 @@ use Rattle.pg_session.specs.Events.{key_in}
 use Rattle.pg_session.specs.Shown.{Model}
 use Rattle.pg_ingest.specs.Items.{announced_last, told_back}
 use Rattle.pg_ingest.specs.Shown.{LinkPast}
-use Rattle.pg_gateway.specs.Occurrences.{measure}
+use Rattle.pg_gateway.specs.GatewayEvents.{measure}
 use Rattle.pg_gateway.specs.State.{own_of}
 use Rattle.pg_serve.specs.Inputs.{Fact, pmu_bytes}
 use Rattle.pg_serve.specs.Moments.{SourceLinkPast, Moment, opening, after_turn}

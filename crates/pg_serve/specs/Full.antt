@@ -1,28 +1,24 @@
--- What inputs make where no memory is refused, and what holds of each subscriber then.
-use Rattle.std.specs.Prelude.{◌≡◌, ◌≢◌, ℕ, Bool, false, if◌then◌else◌, nat_eq, is_some, List, [], ◌∷◌, ◌++◌, length, drop, Option, Some, None, option_map}
+-- What inputs make where no memory is refused.
+use Rattle.std.specs.Prelude.{◌≡◌, ℕ, Bool, false, if◌then◌else◌, nat_eq, is_some, List, [], ◌∷◌, ◌++◌, length, drop, Option, Some, None, option_map}
 use Rattle.std.specs.List.{flat_map}
 use Rattle.std.specs.Map.{lookup}
 use Rattle.std.specs.Option.{option_map_or}
-use Rattle.pg_wire.specs.declared.refusal.Refusal.TheVariants.{NoMemory}
 use Rattle.pg_ring.specs.Shown.{Queue}
 use Rattle.pg_audit.specs.declared.counters.PmuStats.{PmuStats}
 use Rattle.pg_data.specs.Measurements.{Measurement}
 use Rattle.pg_ring.specs.Numbers.{shown_of}
 use Rattle.pg_session.specs.Shown.{Model}
-use Rattle.pg_session.specs.Shown as session
 use Rattle.pg_session.specs.Commands.{items_of, session_stats}
 use Rattle.pg_ingest.specs.Items as link
 use Rattle.pg_ingest.specs.Items.{told_of, break_in}
 use Rattle.pg_ingest.specs.Linking.{link_stats}
-use Rattle.pg_gateway.specs.Occurrences.{Occurrence, add_pmu, drop_pmu, add_sub, drop_sub, grant, asks, announce, measure, tick, stats, pmu_stats, audit, standing, who_waits, Answer}
+use Rattle.pg_gateway.specs.GatewayEvents.{GatewayEvent, add_pmu, drop_pmu, add_sub, drop_sub, grant, asks, announce, measure, tick, stats, pmu_stats, audit, standing, who_waits, Answer}
 use Rattle.pg_gateway.specs.State.{SharedMachine, opening as shared_opening, slot_of, own_of, refusal}
-use Rattle.pg_gateway.specs.Views.{Seen, full_answer, shared_step, view, private_run, Handed, handed_out, handed_in, Lossless}
+use Rattle.pg_gateway.specs.Views.{Seen, full_answer, shared_step, view, Handed, handed_out}
 use Rattle.pg_gateway.specs.Laws.{after, events_of, answers_of, AgreeOn}
-use Rattle.pg_gateway.specs.Shown.{SlotValue}
 use Rattle.pg_serve.specs.Inputs.{Fact, link_up, pmu_bytes, sub_bytes, names, Noted, replied, ignored, closed, Outcome}
 use Rattle.pg_serve.specs.Dues.{Due, posts, ignores_frame, closes, refuses, Deed, answered, ignored_frame, closed_at, refused, pairs_of, link_due}
-use Rattle.pg_serve.specs.Moments.{SourceLinkPast, Moment, opening, Turn, Turns, after_turn, after_turns, all_outcomes, inputs_of, history_of, has_source, heard_due, up_due}
-use Rattle.pg_serve.specs.Shown.{WorldValue, queue_shown, link_counted, session_counted, ShowsTurns}
+use Rattle.pg_serve.specs.Moments.{SourceLinkPast, Moment, opening, Turn, Turns, after_turn, after_turns, all_outcomes, history_of, heard_due, up_due}
 
 -- ---- the turn that an input is
 
@@ -77,14 +73,14 @@ abbrev pub moment_of : List Fact → Moment
 moment_of inputs = after_turns opening (full_turns opening inputs)
 
 -- the events that the inputs make, and their answers
-abbrev pub events_made : List Fact → List Occurrence
+abbrev pub events_made : List Fact → List GatewayEvent
 events_made inputs = events_of (history_of (full_turns opening inputs))
 
 abbrev pub answers_made : List Fact → List Answer
 answers_made inputs = answers_of (history_of (full_turns opening inputs))
 
 -- the events that one input more makes
-abbrev pub events_at : List Fact → Fact → List Occurrence
+abbrev pub events_at : List Fact → Fact → List GatewayEvent
 events_at inputs f = events_of (pairs_of (full_turn (moment_of inputs) f).deeds)
 
 -- all that a subscriber sees of the inputs
@@ -96,7 +92,7 @@ abbrev pub full_outcomes : List Fact → List Outcome
 full_outcomes inputs = all_outcomes opening (full_turns opening inputs)
 
 -- the input asks something for u, or is of its bytes
-abbrev pub is_asked : ℕ → Occurrence → Bool
+abbrev pub is_asked : ℕ → GatewayEvent → Bool
 is_asked u (add_pmu key) = false
 is_asked u (drop_pmu key) = false
 is_asked u (add_sub w size bytes) = false
@@ -143,54 +139,12 @@ link_counts_of s inputs =
 abbrev pub session_counts_of : ℕ → List Fact → Option PmuStats
 session_counts_of u inputs = option_map (λ stream. session_stats (items_of stream)) (lookup (nat_eq u) (moment_of inputs).fed)
 
--- ---- the headline
-
--- No note tells want of memory or a loss.
-abbrev pub NotesLossless : List Noted → Type 0
-NotesLossless [] = Unit {0}
-NotesLossless (replied a ∷ notes) = Lossless a × NotesLossless notes
-NotesLossless (ignored r ∷ notes) = (r ≢ NoMemory) × NotesLossless notes
-NotesLossless (closed r ∷ notes) = NotesLossless notes
-
-abbrev pub OutcomesLossless : List Outcome → Type 0
-OutcomesLossless [] = Unit {0}
-OutcomesLossless (o ∷ outcomes) = NotesLossless o.notes × OutcomesLossless outcomes
-
--- The world may have taken these inputs since it was new, in one call or several, and answered so.
-pub record HasAnswered (w : WorldValue) (inputs : List Fact) (told : List Outcome) : Type 0 where
-  pub turns : Turns
-  pub taken : inputs_of turns ≡ inputs
-  pub outcomes : told ≡ all_outcomes opening turns
-  pub shows : ShowsTurns w turns
-
--- a subscriber, or none, is what a private gateway is, or none
-abbrev pub OwnShows : Option SlotValue → Option Model → Type 0
-OwnShows None None = Unit {0}
-OwnShows (Some v) (Some p) = session.ShowsPrivate v.subscriber p
-OwnShows None (Some p) = ⊥
-OwnShows (Some v) None = ⊥
-
 -- what of a private gateway its queue's readers show
 abbrev pub queue_of : Option Model → Option Queue
 queue_of p = option_map (λ p. shown_of p.output.queue) p
 
 abbrev pub is_connected : Option Model → Bool
 is_connected p = option_map_or (λ p. p.connected) p false
-
--- Each subscriber is what a private gateway makes of its view of the inputs alone: so its queue shows that one's (frames and
--- their gaps, replies, what is in hand, pending), and the outputs handed it what that one hands out (bytes, frames begun, gaps).
--- The outputs are the replies to the events that the inputs make, with the notes of what was ignored or closed. Links and
--- sessions count what they were fed; a source has a link just where a PMU of it is registered, and a subscriber a session just
--- where it is connected.
-pub record Headline (w : WorldValue) (inputs : List Fact) (told : List Outcome) : Type 0 where
-  pub own : (u : ℕ) → OwnShows (lookup (nat_eq u) w.gateway.subs) (private_run None (view_of u inputs))
-  pub queued : (u : ℕ) → queue_shown u w ≡ queue_of (private_run None (view_of u inputs))
-  pub handed : (u : ℕ) → handed_over u inputs told ≡ handed_in None (view_of u inputs)
-  pub outcomes : told ≡ full_outcomes inputs
-  pub links : (s : ℕ) → link_counted s w ≡ link_counts_of s inputs
-  pub sessions : (u : ℕ) → session_counted u w ≡ session_counts_of u inputs
-  pub registered : (s : ℕ) → is_some (link_counted s w) ≡ has_source (after (events_made inputs)) s
-  pub connected : (u : ℕ) → is_some (session_counted u w) ≡ is_connected (private_run None (view_of u inputs))
 
 -- Two lists of inputs that give a subscriber equal views leave it alike, queue the same for it and hand it the same.
 pub record InputsIsolate : Type 0 where

@@ -2,7 +2,7 @@
 use Rattle.std.specs.Prelude.{ℕ, List, map}
 use Rattle.pg_wire.specs.declared.refusal.Refusal.{Refusal}
 use Rattle.pg_session.specs.Events as session
-use Rattle.pg_gateway.specs.Occurrences.{Occurrence, asks, tick, Answer, told}
+use Rattle.pg_gateway.specs.GatewayEvents.{GatewayEvent, asks, tick, Answer, told}
 use Rattle.pg_shared.specs.Edits.{edited}
 use Rattle.pg_serve.specs.declared.input.Input.{Input}
 use Rattle.pg_serve.specs.declared.input.Input.TheVariants as input
@@ -17,7 +17,7 @@ pub data Fact : Type 0 where
   pmu_bytes : ℕ → List ℕ → Fact
   sub_bytes : ℕ → List ℕ → Fact
   -- the event of the input's name
-  names : Occurrence → Fact
+  names : GatewayEvent → Fact
 
 -- what an input says
 abbrev pub fact : Input → Fact

@@ -5,6 +5,8 @@ pub mod Dues
 pub mod Moments
 pub mod Shown
 pub mod Full
+pub mod Headline
+pub mod OwnStates
 pub mod Others
 pub mod Framed
 pub mod Beside

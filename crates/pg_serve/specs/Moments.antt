@@ -8,14 +8,14 @@ use Rattle.pg_wire.specs.declared.refusal.Refusal.TheVariants.{NoMemory, NoSuchP
 use Rattle.pg_command.specs.declared.word.Word.{Word}
 use Rattle.pg_registry.specs.Registered as registered
 use Rattle.pg_session.specs.Events as session
-use Rattle.pg_session.specs.Events.{Happening}
+use Rattle.pg_session.specs.Events.{SubscriberEvent}
 use Rattle.pg_session.specs.Private as private
 use Rattle.pg_session.specs.Private.{Told}
 use Rattle.pg_session.specs.Commands.{break_in as session_break}
 use Rattle.pg_ingest.specs.Items as link
 use Rattle.pg_ingest.specs.Items.{break_in as link_break}
 use Rattle.pg_ingest.specs.Shown.{LinkPast, beginning, feeding, renewed, IsAllTold}
-use Rattle.pg_gateway.specs.Occurrences.{Occurrence, add_pmu, drop_pmu, add_sub, drop_sub, grant, asks, announce, measure, tick, stats, pmu_stats, audit, standing, who_waits, Answer, tells, sub_counts, pmu_counts, entry, stands, those_waiting}
+use Rattle.pg_gateway.specs.GatewayEvents.{GatewayEvent, add_pmu, drop_pmu, add_sub, drop_sub, grant, asks, announce, measure, tick, stats, pmu_stats, audit, standing, who_waits, Answer, tells, sub_counts, pmu_counts, entry, stands, those_waiting}
 use Rattle.pg_gateway.specs.State.{SharedMachine, opening as shared_opening, slot_of, refusal}
 use Rattle.pg_gateway.specs.Histories.{Legal, state_after}
 use Rattle.pg_serve.specs.Inputs.{Fact, link_up, pmu_bytes, sub_bytes, names, Outcome}
@@ -70,7 +70,7 @@ up_due None = refuses NoSuchPmu ∷ []
 up_due (Some line) = []
 
 -- the events for which the world makes a link or a session first
-abbrev pub begins : Occurrence → Bool
+abbrev pub begins : GatewayEvent → Bool
 begins (add_pmu key) = true
 begins (drop_pmu key) = false
 begins (add_sub u size bytes) = false
@@ -97,7 +97,7 @@ begins (audit u index) = false
 begins (standing u place) = false
 
 -- The event of the input's name is posted; or there is no memory for its link or session, and it would not be refused.
-abbrev pub Posts : SharedMachine → Occurrence → List Due → Type 0
+abbrev pub Posts : SharedMachine → GatewayEvent → List Due → Type 0
 Posts S e dues =
     (dues ≡ posts e ∷ []) ⊎ ((dues ≡ refuses NoMemory ∷ []) × (begins e ≡ true) × (refusal S e ≡ None))
 
@@ -137,7 +137,7 @@ abbrev pub new_source_link : ℕ → SourceLinkPast
 new_source_link s = record { link = beginning s; is_up = false }
 
 -- A link is made with a source's first key, and dropped with its last: by the states before and after an event.
-abbrev pub lines_by : List (ℕ × SourceLinkPast) → SharedMachine → SharedMachine → Occurrence → Bool → List (ℕ × SourceLinkPast)
+abbrev pub lines_by : List (ℕ × SourceLinkPast) → SharedMachine → SharedMachine → GatewayEvent → Bool → List (ℕ × SourceLinkPast)
 lines_by lines S T (add_pmu key) done =
     if done
     then (if has_source S key.source then lines else insert_entry nat_eq lines key.source (new_source_link key.source))
@@ -157,7 +157,7 @@ lines_by lines S T (audit u index) done = lines
 lines_by lines S T (standing u place) done = lines
 
 -- A session begins with a Connect, and ends with a Hangup and with its subscriber, where these are done.
-abbrev pub fed_by_one : List (ℕ × List ℕ) → ℕ → Happening → Bool → List (ℕ × List ℕ)
+abbrev pub fed_by_one : List (ℕ × List ℕ) → ℕ → SubscriberEvent → Bool → List (ℕ × List ℕ)
 fed_by_one fed u session.connect done = if done then insert_entry nat_eq fed u [] else fed
 fed_by_one fed u session.hangup done = if done then remove_entry (nat_eq u) fed else fed
 fed_by_one fed u (session.grant key config) done = fed
@@ -170,7 +170,7 @@ fed_by_one fed u (session.tick soc) done = fed
 fed_by_one fed u (session.command number word) done = fed
 fed_by_one fed u (session.drain n) done = fed
 
-abbrev pub fed_by : List (ℕ × List ℕ) → Occurrence → Bool → List (ℕ × List ℕ)
+abbrev pub fed_by : List (ℕ × List ℕ) → GatewayEvent → Bool → List (ℕ × List ℕ)
 fed_by fed (asks u x) done = fed_by_one fed u x done
 fed_by fed (drop_sub u) done = if done then remove_entry (nat_eq u) fed else fed
 fed_by fed (add_pmu key) done = fed
@@ -227,11 +227,11 @@ abbrev pub fed_more : ℕ → List ℕ → List (ℕ × List ℕ) → Option (Li
 fed_more u piece fed None = fed
 fed_more u piece fed (Some stream) = put_fed u (stream ++ piece) fed (session_break (stream ++ piece))
 
-abbrev pub lines_named : List (ℕ × SourceLinkPast) → SharedMachine → SharedMachine → List (Occurrence × Answer) → List (ℕ × SourceLinkPast)
+abbrev pub lines_named : List (ℕ × SourceLinkPast) → SharedMachine → SharedMachine → List (GatewayEvent × Answer) → List (ℕ × SourceLinkPast)
 lines_named lines S T [] = lines
 lines_named lines S T (x ∷ xs) = lines_by lines S T x.0 (is_done x.1)
 
-abbrev pub fed_named : List (ℕ × List ℕ) → List (Occurrence × Answer) → List (ℕ × List ℕ)
+abbrev pub fed_named : List (ℕ × List ℕ) → List (GatewayEvent × Answer) → List (ℕ × List ℕ)
 fed_named fed [] = fed
 fed_named fed (x ∷ xs) = fed_by fed x.0 (is_done x.1)
 
@@ -289,5 +289,5 @@ abbrev pub inputs_of : Turns → List Fact
 inputs_of turns = map (λ t. t.input) turns
 
 -- all events of these turns with their answers, one after another
-abbrev pub history_of : Turns → List (Occurrence × Answer)
+abbrev pub history_of : Turns → List (GatewayEvent × Answer)
 history_of turns = flat_map (λ t. pairs_of t.deeds) turns

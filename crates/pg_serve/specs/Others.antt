@@ -1,11 +1,11 @@
 -- Inputs that name other subscribers.
 use Rattle.std.specs.Prelude.{◌≡◌, ℕ, ◌+◌, ◌≤◌, nat_eq, Bool, false, not, List, [], ◌∷◌, filter}
-use Rattle.pg_gateway.specs.Occurrences.{Occurrence, add_pmu, drop_pmu, add_sub, drop_sub, grant, asks, announce, measure, tick, stats, pmu_stats, audit, standing, who_waits}
+use Rattle.pg_gateway.specs.GatewayEvents.{GatewayEvent, add_pmu, drop_pmu, add_sub, drop_sub, grant, asks, announce, measure, tick, stats, pmu_stats, audit, standing, who_waits}
 use Rattle.pg_serve.specs.Inputs.{Fact, link_up, pmu_bytes, sub_bytes, names}
 use Rattle.pg_serve.specs.Full.{view_of}
 
 -- the event names another subscriber than u
-abbrev pub names_other : ℕ → Occurrence → Bool
+abbrev pub names_other : ℕ → GatewayEvent → Bool
 names_other u (add_pmu key) = false
 names_other u (drop_pmu key) = false
 names_other u (add_sub w size bytes) = not (nat_eq u w)
@@ -33,7 +33,7 @@ abbrev pub without_others : ℕ → List Fact → List Fact
 without_others u inputs = filter (λ f. not (is_of_other u f)) inputs
 
 -- how often a subscriber is to be added
-abbrev pub adds_by : Occurrence → ℕ
+abbrev pub adds_by : GatewayEvent → ℕ
 adds_by (add_pmu key) = 0
 adds_by (drop_pmu key) = 0
 adds_by (add_sub u size bytes) = 1

@@ -1,7 +1,7 @@
 -- What one input does, or several: for the contracts of private functions.
 use Rattle.std.specs.Prelude.{◌≡◌, ℕ, Bool, nat_eq, if◌then◌else◌, List, [], ◌++◌}
 use Rattle.std.specs.Map.{remove_entry}
-use Rattle.pg_gateway.specs.Occurrences.{Occurrence}
+use Rattle.pg_gateway.specs.GatewayEvents.{GatewayEvent}
 use Rattle.pg_gateway.specs.State.{SharedMachine}
 use Rattle.pg_gateway.specs.Shown.{GatewayValue}
 use Rattle.pg_ingest.specs.Items.{Item, break_in as link_break}
@@ -42,12 +42,12 @@ abbrev pub TakesInputs : Holding → List Fact → List Outcome → Holding → 
 TakesInputs before inputs told after = (m : Moment) → MomentShows before m → TakesMany m inputs told after
 
 -- The event concerns no link and no session.
-pub record Spares (e : Occurrence) : Type 0 where
+pub record Spares (e : GatewayEvent) : Type 0 where
   pub lines : (lines : List (ℕ × SourceLinkPast)) (S T : SharedMachine) (b : Bool) → lines_by lines S T e b ≡ lines
   pub fed : (fed : List (ℕ × List ℕ)) (b : Bool) → fed_by fed e b ≡ fed
 
 -- The event ends u's session, where it is done.
-pub record Ends (u : ℕ) (e : Occurrence) : Type 0 where
+pub record Ends (u : ℕ) (e : GatewayEvent) : Type 0 where
   pub lines : (lines : List (ℕ × SourceLinkPast)) (S T : SharedMachine) (b : Bool) → lines_by lines S T e b ≡ lines
   pub fed : (fed : List (ℕ × List ℕ)) (b : Bool) → fed_by fed e b ≡ (if b then remove_entry (nat_eq u) fed else fed)
 

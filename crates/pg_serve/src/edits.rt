@@ -1,7 +1,7 @@
 //! Edits that are lent become events.
 
 ghost use Rattle.std.specs.Prelude.{◌≡◌, IfOk};
-ghost use Rattle.pg_gateway.specs.Occurrences.{occurrence};
+ghost use Rattle.pg_gateway.specs.GatewayEvents.{gateway_event};
 ghost use Rattle.pg_shared.specs.Edits.{edited};
 
 use pg_gateway::{Edit, Event};
@@ -27,7 +27,7 @@ fn copy_of(alloc: Global, definition: &Definition) -> Result<Definition, AllocEr
 
 /// The event that an edit is.
 pub(crate) fn event_of(alloc: Global, edit: &Edit) -> Result<Event, AllocError>
-    ensures event { IfOk result (λ event. occurrence event ≡ edited edit.now) }
+    ensures event { IfOk result (λ event. gateway_event event ≡ edited edit.now) }
 {
     match edit {
         Edit::AddPmu(key) => Ok(Event::AddPmu(*key)),

@@ -7,7 +7,7 @@ ghost use Rattle.pg_session.specs.Commands.{Item};
 ghost use Rattle.pg_session.specs.Private.{refused};
 ghost use Rattle.pg_ingest.specs.Shown as ingest;
 ghost use Rattle.pg_ingest.specs.Shown.{LinkPast, feeding};
-ghost use Rattle.pg_gateway.specs.Occurrences.{occurrence, measure, tells};
+ghost use Rattle.pg_gateway.specs.GatewayEvents.{gateway_event, measure, tells};
 ghost use Rattle.pg_gateway.specs.State.{SharedMachine};
 ghost use Rattle.pg_gateway.specs.Shown.{GatewayShows};
 ghost use Rattle.pg_serve.specs.Inputs.{noted, all_noted, replied, ignored, closed};
@@ -34,8 +34,8 @@ pub(crate) fn note(notes: &mut Vec<Note>, what: Note) -> Result<(), AllocError>
     Ok(())
 }
 
-/// Notes why a frame is ignored. Like the other notes that come seldom it is a function of its own, since a note has room for all
-/// counters, which would be made ready for each frame.
+/// Notes why a frame is ignored. Like other rare notes it is a function of its own: a note has room for all counters, which would be set
+/// up for each frame.
 #[inline(never)]
 fn note_ignored(notes: &mut Vec<Note>, refusal: Refusal) -> Result<(), AllocError>
     ensures noted { IfOk result (λ _. all_noted notes.new.items ≡ all_noted notes.old.items ++ ignored refusal ∷ []) }
@@ -70,7 +70,7 @@ pub(crate) fn post(
     notes: &mut Vec<Note>,
 ) -> Result<(), AllocError>
     ensures did { IfOk result (λ _. (S : SharedMachine) → GatewayShows gateway.old S
-        → Did S (posts (occurrence event) ∷ []) (all_noted notes.old.items) (all_noted notes.new.items) gateway.new) }
+        → Did S (posts (gateway_event event) ∷ []) (all_noted notes.old.items) (all_noted notes.new.items) gateway.new) }
 {
     let reply = gateway.step(event);
     note(notes, Note::Replied(reply))?;

@@ -1,4 +1,4 @@
-//! What a world is handed, and what it answers.
+//! The inputs of a world, and its answers.
 
 ghost use Rattle.std.specs.Prelude.{◌≡◌, []};
 ghost use Rattle.pg_serve.specs.Inputs.{outcome};
@@ -7,7 +7,7 @@ use pg_gateway::{Edit, Reply};
 use pg_wire::{PmuId, Refusal, SubId};
 use std::alloc::Global;
 
-/// What a world is handed (own rule).
+/// An input of a world.
 #[derive(Drop)]
 pub enum Input {
     /// A source's connection is up: its link starts anew.
@@ -49,7 +49,7 @@ pub struct Output {
 }
 
 impl Output {
-    /// An answer that tells nothing. It takes no memory.
+    /// An empty answer. It takes no memory.
     pub fn new(alloc: Global) -> Output
         ensures outcome { outcome result ≡ record { notes = []; to_pmu = [] } }
     {

@@ -1,4 +1,4 @@
-//! Laws of the world, as contracts of functions that do nothing: a caller that needs one calls it.
+//! Lemmas about the world: contracts of functions that do nothing.
 ghost use Rattle.pg_serve.specs.Full.{InputsIsolate, SharedFrame, view_of};
 ghost use Rattle.std.specs.Prelude.{◌≡◌, ◌≤◌, ℕ, List};
 ghost use Rattle.pg_serve.specs.Inputs.{Fact};

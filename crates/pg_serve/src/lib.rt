@@ -1,5 +1,6 @@
 //! The world: the gateway with the links of its sources and the sessions of its subscribers, over lists of inputs. The gateway
 //! that threads share, its gates and its loops are those of pg_shared, and are named here too.
+//! What no clause of IEEE C37.118.2 is named for is a rule of this project.
 #![tactic(auto)]
 
 mod edits;

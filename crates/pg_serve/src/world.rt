@@ -7,7 +7,8 @@ ghost use Rattle.pg_gateway.specs.State.{SharedMachine, slot_of};
 ghost use Rattle.pg_gateway.specs.Shown.{GatewayShows};
 ghost use Rattle.pg_serve.specs.Moments.{absence};
 ghost use Rattle.pg_serve.specs.Inputs.{Fact, Outcome, fact, facts, outcome, outcomes};
-ghost use Rattle.pg_serve.specs.Full.{HasAnswered, OutcomesLossless, Headline};
+ghost use Rattle.pg_serve.specs.Headline.{HasAnswered, OutcomesLossless, Headline};
+ghost use Rattle.pg_serve.specs.OwnStates.{OwnStates};
 ghost use Rattle.pg_serve.specs.Beside.{StandsBeside};
 
 use crate::input::{Input, Output};
@@ -20,7 +21,7 @@ use pg_wire::{PmuId, Refusal, SubId};
 use std::alloc::{AllocError, Global};
 use std::marker::Model;
 
-/// The gateway, a link for each source that has a registered PMU, and a session for each connected subscriber (own rule).
+/// The gateway, a link for each source that has a registered PMU, and a session for each connected subscriber.
 #[derive(Drop)]
 pub struct World {
     core: Core,
@@ -73,6 +74,8 @@ impl World {
         ensures isolates { IfOk result (λ outputs. (before : List Fact) (told : List Outcome) → HasAnswered self.old before told
             → OutcomesLossless (told ++ outcomes outputs.items)
             → Headline self.new (before ++ facts inputs.now) (told ++ outcomes outputs.items)) }
+        ensures own { IfOk result (λ outputs. (before : List Fact) (told : List Outcome) → HasAnswered self.old before told
+            → OutcomesLossless (told ++ outcomes outputs.items) → OwnStates self.new (before ++ facts inputs.now)) }
         ensures beside { IfOk result (λ outputs. (before : List Fact) (told : List Outcome) → HasAnswered self.old before told
             → OutcomesLossless (told ++ outcomes outputs.items)
             → StandsBeside self.new (before ++ facts inputs.now) (told ++ outcomes outputs.items)) }
@@ -105,6 +108,8 @@ impl World {
         ensures isolates { IfOk result (λ _. (before : List Fact) (told : List Outcome) → HasAnswered self.old before told
             → OutcomesLossless (told ++ outcome output.new ∷ [])
             → Headline self.new (before ++ fact input.now ∷ []) (told ++ outcome output.new ∷ [])) }
+        ensures own { IfOk result (λ _. (before : List Fact) (told : List Outcome) → HasAnswered self.old before told
+            → OutcomesLossless (told ++ outcome output.new ∷ []) → OwnStates self.new (before ++ fact input.now ∷ [])) }
         ensures beside { IfOk result (λ _. (before : List Fact) (told : List Outcome) → HasAnswered self.old before told
             → OutcomesLossless (told ++ outcome output.new ∷ [])
             → StandsBeside self.new (before ++ fact input.now ∷ []) (told ++ outcome output.new ∷ [])) }

@@ -3,7 +3,7 @@
 ghost use Rattle.std.specs.Prelude.{◌≡◌, ℕ, [], ◌∷◌, is_some, false, None, IfOk};
 ghost use Rattle.pg_session.specs.Events as events;
 ghost use Rattle.pg_session.specs.Private as private;
-ghost use Rattle.pg_gateway.specs.Occurrences.{occurrence, asks, add_pmu, drop_pmu, told, tells};
+ghost use Rattle.pg_gateway.specs.GatewayEvents.{gateway_event, asks, add_pmu, drop_pmu, told, tells};
 ghost use Rattle.pg_gateway.specs.State.{SharedMachine, slot_of, refusal};
 ghost use Rattle.pg_gateway.specs.Shown.{GatewayShows};
 ghost use Rattle.pg_serve.specs.Moments.{Moment, has_source, new_source_link, is_done, absence};
@@ -46,7 +46,7 @@ fn output(alloc: Global, what: Note) -> Result<Output, AllocError>
     })
 }
 
-/// An answer that tells a refusal.
+/// An answer that is a refusal.
 #[inline(never)]
 fn refused(alloc: Global, refusal: Refusal) -> Result<Output, AllocError>
     ensures outcome { IfOk result (λ o. outcome o ≡ record { notes = replied (tells (private.refused refusal)) ∷ []; to_pmu = [] }) }
@@ -54,7 +54,7 @@ fn refused(alloc: Global, refusal: Refusal) -> Result<Output, AllocError>
     Ok(output(alloc, Note::Replied(Reply::Refused(refusal)))?)
 }
 
-/// The output tells a refusal alone.
+/// Makes the output a refusal alone.
 #[inline(never)]
 fn refuse(alloc: Global, refusal: Refusal, output: &mut Output) -> Result<(), AllocError>
     ensures outcome { IfOk result (λ _. outcome output.new ≡ record { notes = replied (tells (private.refused refusal)) ∷ []; to_pmu = [] }) }
@@ -112,8 +112,8 @@ impl Core {
 
     /// Posts an event that concerns no link and no session.
     fn answer(&mut self, event: Event) -> Result<Output, AllocError>
-        requires spares { Spares (occurrence event) }
-        ensures takes { IfOk result (λ o. TakesInput (held self.old) (names (occurrence event)) (outcome o) (held self.new)) }
+        requires spares { Spares (gateway_event event) }
+        ensures takes { IfOk result (λ o. TakesInput (held self.old) (names (gateway_event event)) (outcome o) (held self.new)) }
     {
         let reply = self.gateway.step(event);
         Ok(output(self.alloc, Note::Replied(reply))?)
@@ -225,8 +225,8 @@ impl Core {
 
     /// A subscriber is hung up or dropped: its session ends, where that is done.
     fn end_session(&mut self, event: Event, sub: SubId) -> Result<Output, AllocError>
-        requires ends { Ends sub (occurrence event) }
-        ensures takes { IfOk result (λ o. TakesInput (held self.old) (names (occurrence event)) (outcome o) (held self.new)) }
+        requires ends { Ends sub (gateway_event event) }
+        ensures takes { IfOk result (λ o. TakesInput (held self.old) (names (gateway_event event)) (outcome o) (held self.new)) }
     {
         let reply = self.gateway.step(event);
         if is_done(&reply) {
@@ -311,7 +311,7 @@ impl Core {
     }
 }
 
-/// Whether a reply tells that the event is done.
+/// Whether the event was done, by this reply.
 fn is_done(reply: &Reply) -> bool
     ensures value { result ≡ is_done (told reply.now) }
 {

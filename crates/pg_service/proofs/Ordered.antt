@@ -3,7 +3,7 @@ use Rattle.std.specs.Prelude.{Result, Err, IfOk}
 use Rattle.std.proofs.Common.{◌≡◌, ◌∙◌, sym, ap, subst, List, [], ◌∷◌, ◌++◌, map, append_assoc, Option}
 use Rattle.std.proofs.lemmas.List.{map-append}
 use Rattle.pg_gateway.specs.declared.edit.Edit.{Edit}
-use Rattle.pg_gateway.specs.Occurrences.{Answer}
+use Rattle.pg_gateway.specs.GatewayEvents.{Answer}
 use Rattle.pg_gateway.specs.Posting.{Posted, Notes}
 use Rattle.pg_ingest.specs.Runs.{event_posted}
 use Rattle.pg_ingest.proofs.Known.{notes_more}

@@ -2,7 +2,7 @@
 
 use crate::mail::{Mailbox, PortOrder};
 use pg_limits::TcpRow;
-use pg_log::{Detail, Entry, Journal, Notice, Whom};
+use pg_log::{Detail, Entry, Journal, LogEvent, Subject};
 use pg_shared::Work;
 use std::alloc::Global;
 use std::net::{IpAddr, SocketAddr};
@@ -15,7 +15,7 @@ use std::{fs, io, str, thread};
 /// Where Linux lists its TCP connections.
 const TABLE: &str = "/proc/net/tcp";
 
-/// How long is waited in one turn, so that the program ends soon, in milliseconds; and in how many of them the table is read once (own rule).
+/// How long is waited in one turn, so that the program ends soon, in milliseconds; and in how many of them the table is read once.
 const WAIT_MS: u64 = 100;
 
 const WAITS: u32 = 10;
@@ -76,7 +76,7 @@ impl Connections {
     }
 }
 
-/// A worker that reads the system's table of TCP connections once a second while subscribers are sent bytes (own rule).
+/// A worker that reads the system's table of TCP connections once a second while subscribers are sent bytes.
 #[derive(Drop)]
 pub struct ConnectionsWorker<'a, R: Wait + Clock> {
     rt: &'a R,
@@ -134,7 +134,7 @@ impl<'a, R: Wait + Clock> ConnectionsWorker<'a, R> {
             match TcpRow::read(line) {
                 Some(row) if row.unacknowledged > 0 => {
                     if rows.push(row).is_err() {
-                        self.journal.note(Notice::MailFault);
+                        self.journal.note(LogEvent::MailFault);
                     }
                 }
                 _ => {}
@@ -147,8 +147,8 @@ impl<'a, R: Wait + Clock> ConnectionsWorker<'a, R> {
     fn report(&mut self, error: io::Error) {
         if !self.is_reported {
             self.is_reported = true;
-            let detail = Detail::System(error.kind());
-            let entry = Entry::new(Notice::NoTable, Whom::Nobody, detail);
+            let detail = Detail::of_error(&error);
+            let entry = Entry::new(LogEvent::NoTable, Subject::Nobody, detail);
             self.journal.tell(self.rt, entry);
         }
     }

@@ -2,17 +2,17 @@
 
 ghost use Rattle.std.specs.Prelude.{◌≡◌, ◌∷◌, [], List, IfOk};
 ghost use Rattle.pg_gateway.specs.declared.edit.Edit.{Edit as EditValue};
-ghost use Rattle.pg_gateway.specs.Occurrences.{Answer};
+ghost use Rattle.pg_gateway.specs.GatewayEvents.{Answer};
 ghost use Rattle.pg_gateway.specs.Posting.{Notes};
 ghost use Rattle.pg_shared.specs.Edits.{edited};
 ghost use Rattle.pg_service.specs.Setting.{PostsEdits};
 
-use crate::registered::{Change, Registered};
+use crate::directory::{Change, Directory};
 use pg_gateway::{Edit, Gate, Reply};
 use pg_shared::event_of;
 use pg_wire::Refusal;
 
-/// Posts the edits of a setup in their order, until one is refused, and keeps which PMUs are registered by them (own rule). It is for
+/// Posts the edits of a setup in their order, until one is refused, and keeps which PMUs are registered by them. It is for
 /// the time before any worker is there to be told.
 ///
 /// # Errors
@@ -21,7 +21,7 @@ use pg_wire::Refusal;
 pub fn post_edits<G: Gate>(
     gate: &mut G,
     edits: Vec<Edit>,
-    registered: &mut Registered,
+    registered: &mut Directory,
 ) -> Result<(), Refusal>
     // From the first on, in the order of the list: all of them, or as far as the one that is refused.
     ensures posted { (rest : List EditValue) × PostsEdits edits.items rest (G.posts gate.old) (G.posts gate.new) × IfOk result (λ _. rest ≡ []) }
@@ -33,7 +33,7 @@ pub fn post_edits<G: Gate>(
 }
 
 /// Posts an edit, and keeps what it changes.
-fn post_edit<G: Gate>(gate: &mut G, edit: Edit, registered: &mut Registered) -> Result<(), Refusal>
+fn post_edit<G: Gate>(gate: &mut G, edit: Edit, registered: &mut Directory) -> Result<(), Refusal>
     ensures posted { (a : Answer) × Notes (G.posts gate.old) (G.posts gate.new) ((edited edit, a) ∷ []) }
 {
     let change = Change::of(&edit);

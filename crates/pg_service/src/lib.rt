@@ -3,37 +3,35 @@
 //! of this project.
 #![tactic(auto)]
 
-mod agenda;
-mod board;
+mod assignment;
 mod connections;
+mod directory;
 mod edits;
 mod logger;
 mod mail;
-mod neighbours;
-mod outlet;
+mod metered_gate;
+mod poller;
+mod ready_queue;
 mod reasons;
-mod registered;
 mod resolver;
-mod rota;
 mod rules;
-mod switches;
+mod status_collector;
+mod stderr_poll;
 mod targets;
-mod waiting;
-mod watched;
+mod worker_handles;
 
-pub use agenda::{Agenda, READS};
-pub use board::{Board, PortReport, Reach, Reports, SourceReport};
+pub use assignment::Assignment;
 pub use connections::{Connections, ConnectionsWorker};
+pub use directory::{Change, Directory, FollowUp};
 pub use edits::post_edits;
 pub use logger::Logger;
 pub use mail::{Mailbox, PortOrder, SourceOrder};
-pub use neighbours::Neighbours;
+pub use metered_gate::{ClockCheck, GateStats, Guards, MeteredGate};
+pub use poller::{LONGEST_WAIT_MS, Poller, sooner};
+pub use ready_queue::{READS, ReadyQueue};
 pub use reasons::{REASONS, ended};
-pub use registered::{After, Change, Registered};
 pub use resolver::{Lookup, Resolver, ResolverWorker};
-pub use rota::Rota;
-pub use rules::DoorRules;
-pub use switches::Switches;
+pub use rules::ConnectionRules;
+pub use status_collector::{LinkState, PortReport, Reports, SourceReport, StatusCollector};
 pub use targets::{Address, Dial};
-pub use waiting::{PATIENCE_MS, Waiting, sooner};
-pub use watched::{Guarding, Guards, Seen, Watched};
+pub use worker_handles::WorkerHandles;

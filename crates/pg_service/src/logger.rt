@@ -1,10 +1,10 @@
 //! The log.
 
-use crate::outlet::Outlet;
+use crate::stderr_poll::StderrPoll;
 use jiff_core::Timestamp;
 use jiff_fmt::temporal::DateTimePrinter;
 use log::Level;
-use pg_log::{Detail, Digest, Entry, Journal, Notice, Whom};
+use pg_log::{Detail, Entry, Journal, LogEvent, LogThrottle, Subject};
 use pg_shared::Work;
 use std::alloc::Global;
 use std::net::Net;
@@ -19,7 +19,7 @@ const PAUSE_MS: u64 = 100;
 /// The lines of what was held back that one turn writes at most.
 const HELD: u32 = 1_024;
 
-/// A worker that writes the log to standard error (own rule): `TIME LEVEL WHAT`, times in UTC. No worker that serves waits for it,
+/// A worker that writes the log to standard error: `TIME LEVEL WHAT`, times in UTC. No worker that serves waits for it,
 /// and it waits for nobody: where standard error takes no line, that line is counted and not written. The program also writes its first and
 /// its last lines by one.
 #[derive(Drop)]
@@ -29,8 +29,8 @@ pub struct Logger<'a, R: Wait + Clock + Eprint + Net> {
     journal: &'a Journal,
     // Whether each line begins with its priority, as the system's journal reads it.
     has_priority: bool,
-    digest: Digest,
-    outlet: Outlet,
+    throttle: LogThrottle,
+    outlet: StderrPoll,
     started: Instant,
     // How often each kind without a name was met before.
     counted: [u64; 6],
@@ -55,8 +55,8 @@ impl<'a, R: Wait + Clock + Eprint + Net> Logger<'a, R> {
             alloc,
             journal,
             has_priority,
-            digest: Digest::new(alloc),
-            outlet: Outlet::new(rt, alloc)?,
+            throttle: LogThrottle::new(alloc),
+            outlet: StderrPoll::new(rt, alloc)?,
             started: now,
             counted: [0; 6],
         })
@@ -101,7 +101,7 @@ impl<'a, R: Wait + Clock + Eprint + Net> Logger<'a, R> {
 
     /// Writes an entry, and reports whether nothing was left out.
     fn write_entry(&mut self, entry: &Entry) -> bool {
-        self.write(entry.notice.level(), entry.time, entry)
+        self.write(entry.event.level(), entry.time, entry)
     }
 
     /// Writes what waits in the journal, once no worker does that any more.
@@ -113,22 +113,22 @@ impl<'a, R: Wait + Clock + Eprint + Net> Logger<'a, R> {
 
     /// Writes this, or holds it back.
     fn meet(&mut self, entry: Entry, now: u64) {
-        if let Some(due) = self.digest.met(entry, now) {
+        if let Some(due) = self.throttle.met(entry, now) {
             if !self.write_entry(&due) {
-                self.digest.missed(due.times);
+                self.throttle.missed(due.times);
             }
         }
     }
 
     /// What was counted since the last turn and has no name.
     fn meet_unnamed(&mut self, now: u64) {
-        for (at, notice) in Notice::UNNAMED.iter().enumerate() {
-            let count = self.journal.count(*notice);
+        for (at, event) in LogEvent::UNNAMED.iter().enumerate() {
+            let count = self.journal.count(*event);
             if let Some(counted) = self.counted.get_mut(at) {
                 let times = count.saturating_sub(*counted);
                 *counted = count;
                 if times > 0 {
-                    let mut entry = Entry::new(*notice, Whom::Nobody, Detail::Nothing);
+                    let mut entry = Entry::new(*event, Subject::Nobody, Detail::Nothing);
                     entry.times = times;
                     self.meet(entry, now);
                 }
@@ -174,11 +174,11 @@ impl<R: Wait + Clock + Eprint + Net> Work for Logger<'_, R> {
         }
         self.meet_unnamed(now);
         for _ in 0..HELD {
-            let Some(due) = self.digest.due(now) else {
+            let Some(due) = self.throttle.due(now) else {
                 break;
             };
             if !self.write_entry(&due) {
-                self.digest.missed(due.times);
+                self.throttle.missed(due.times);
                 break;
             }
         }

@@ -1,10 +1,10 @@
 //! What workers are told while they run.
 
-use crate::rules::DoorRules;
+use crate::rules::ConnectionRules;
 use crate::targets::Dial;
 use mio::net::TcpListener;
 use mio::{Poll, Token, Waker};
-use pg_log::{Journal, Notice};
+use pg_log::{Journal, LogEvent};
 use pg_wire::{PmuId, StreamId, SubId};
 use std::alloc::Global;
 use std::net::SocketAddr;
@@ -49,7 +49,7 @@ pub enum PortOrder {
         /// The subscriber.
         sub: SubId,
         /// Its rules.
-        rules: DoorRules,
+        rules: ConnectionRules,
         /// Its port.
         listener: TcpListener,
     },
@@ -58,7 +58,7 @@ pub enum PortOrder {
         /// The subscriber.
         sub: SubId,
         /// Who may connect, and how long who has is waited for.
-        rules: DoorRules,
+        rules: ConnectionRules,
         /// Where.
         address: SocketAddr,
     },
@@ -75,7 +75,7 @@ pub enum PortOrder {
     Report(u64),
 }
 
-/// What one worker is told, by whichever thread (own rule), and how it is woken. Wakes that come together count as one.
+/// What one worker is told, by whichever thread, and how it is woken. Wakes that come together count as one.
 #[derive(Drop)]
 pub struct Mailbox<O> {
     orders: Mutex<Vec<O>>,
@@ -111,7 +111,7 @@ impl<O: Drop> Mailbox<O> {
         }
         if self.waker.wake().is_err() {
             self.pending.store(false, Ordering::SeqCst);
-            journal.note(Notice::MailFault);
+            journal.note(LogEvent::MailFault);
         }
     }
 
@@ -119,7 +119,7 @@ impl<O: Drop> Mailbox<O> {
     pub fn send<R: Wait>(&self, rt: &R, journal: &Journal, order: O) {
         let is_left = self.orders.lock(rt).push(order).is_ok();
         if !is_left {
-            journal.note(Notice::MailFault);
+            journal.note(LogEvent::MailFault);
         }
         self.wake(journal);
     }

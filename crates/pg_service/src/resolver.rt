@@ -1,8 +1,8 @@
 //! Addresses of names, looked up apart from all workers.
 
 use crate::mail::{Mailbox, SourceOrder};
-use crate::waiting::{PATIENCE_MS, Waiting};
-use pg_log::{Journal, Notice};
+use crate::poller::{LONGEST_WAIT_MS, Poller};
+use pg_log::{Journal, LogEvent};
 use pg_shared::Work;
 use pg_wire::PmuId;
 use std::alloc::{AllocError, Global};
@@ -14,7 +14,7 @@ use std::thread::Threads;
 use std::time::Duration;
 use std::{mem, thread};
 
-/// How many names are looked up at a time (own rule).
+/// How many names are looked up at a time.
 const LOOKUPS: usize = 4;
 
 /// How often it is looked for addresses while names are looked up, in milliseconds.
@@ -89,7 +89,7 @@ impl Names {
     }
 }
 
-/// The names that wait to be looked up, by all sources (own rule). Four are looked up at a time, so that a name that no server answers keeps
+/// The names that wait to be looked up, by all sources. Four are looked up at a time, so that a name that no server answers keeps
 /// no other one waiting.
 #[derive(Drop)]
 pub struct Resolver {
@@ -156,7 +156,7 @@ impl Resolver {
     fn take_found<R: Wait>(&self, rt: &R, alloc: Global, journal: &Journal) -> Vec<Found> {
         let lost = self.names.lost.swap(0, Ordering::SeqCst);
         for _ in 0..lost {
-            journal.note(Notice::MailFault);
+            journal.note(LogEvent::MailFault);
         }
         let mut held = self.names.found.lock(rt);
         let found = mem::replace(&mut *held, Vec::new(alloc));
@@ -184,12 +184,12 @@ where
     Ok(())
 }
 
-/// A worker that reports the addresses of names that were looked up to the workers that asked (own rule).
+/// A worker that reports the addresses of names that were looked up to the workers that asked.
 #[derive(Drop)]
 pub struct ResolverWorker<'a, R: Wait + Clock> {
     rt: &'a R,
     alloc: Global,
-    waiting: Waiting,
+    waiting: Poller,
     resolver: &'a Resolver,
     sources: &'a [Mailbox<SourceOrder>],
     journal: &'a Journal,
@@ -200,7 +200,7 @@ impl<'a, R: Wait + Clock> ResolverWorker<'a, R> {
     pub fn new(
         rt: &'a R,
         alloc: Global,
-        waiting: Waiting,
+        waiting: Poller,
         resolver: &'a Resolver,
         sources: &'a [Mailbox<SourceOrder>],
         journal: &'a Journal,
@@ -234,9 +234,9 @@ impl<'a, R: Wait + Clock> ResolverWorker<'a, R> {
     }
 
     /// How long a turn waits at most: a short time while names are looked up.
-    fn patience(&self) -> Duration {
+    fn timers(&self) -> Duration {
         let most = if self.resolver.under_way.load(Ordering::SeqCst) == 0 {
-            PATIENCE_MS
+            LONGEST_WAIT_MS
         } else {
             LOOK_MS
         };
@@ -258,7 +258,7 @@ fn address_of<R: Net>(rt: &R, name: &str) -> Option<SocketAddr> {
 
 impl<R: Wait + Clock> Work for ResolverWorker<'_, R> {
     fn turn(&mut self) -> bool {
-        let most = self.patience();
+        let most = self.timers();
         self.waiting.wait(self.rt, self.journal, most);
         // A wake reports that a name was asked for, or that all workers are to end.
         if let Some(mailbox) = &self.resolver.mailbox {

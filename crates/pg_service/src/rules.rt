@@ -3,9 +3,9 @@
 use pg_limits::{Allow, OnChange};
 use std::time::Duration;
 
-/// Who may connect, and how long who has connected is waited for (own rule).
+/// Who may connect, and how long who has connected is waited for.
 #[derive(Drop)]
-pub struct DoorRules {
+pub struct ConnectionRules {
     /// The hosts that may connect.
     pub allow: Allow,
     /// Whether a new connection takes the place of one that stands for 5 seconds.

@@ -1,6 +1,6 @@
 //! Where sources are.
 
-use crate::watched::Guards;
+use crate::metered_gate::Guards;
 use pg_wire::PmuId;
 use std::net::SocketAddr;
 use std::time::Duration;

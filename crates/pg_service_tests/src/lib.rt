@@ -5,7 +5,7 @@
 #[cfg(test)]
 mod asserts;
 #[cfg(test)]
-mod doors;
+mod endpoints;
 #[cfg(test)]
 mod errors;
 #[cfg(test)]
@@ -16,8 +16,6 @@ mod layouts;
 mod lines;
 #[cfg(test)]
 mod logging;
-#[cfg(test)]
-mod patience;
 #[cfg(test)]
 mod registering;
 #[cfg(test)]
@@ -31,6 +29,6 @@ mod sources;
 #[cfg(test)]
 mod stamping;
 #[cfg(test)]
-mod waking;
+mod timers;
 #[cfg(test)]
-mod watching;
+mod waking;

@@ -1,11 +1,12 @@
 //! Lines are answered in order, edits posted, and `quit` ends all workers.
 use crate::asserts::same;
-use pg_console::{Console, EditsAlone, Told, answer_lines};
+use pg_console::{Console, NoServiceCommands, ServiceHandle, answer_lines};
 use pg_fakes::FakeWriter;
 use pg_gateway::{Event, Gate, Gateway, Reply};
-use pg_log::{Journal, Notice};
+use pg_log::{Journal, LogEvent};
 use pg_service::{
-    Board, Mailbox, Neighbours, PortOrder, Registered, Resolver, SourceOrder, Waiting, Watched,
+    Directory, Mailbox, MeteredGate, Poller, PortOrder, Resolver, SourceOrder, StatusCollector,
+    WorkerHandles,
 };
 use pg_wire::{PmuId, PmuKey, Refusal};
 use std::alloc::Global;
@@ -24,14 +25,14 @@ struct Boxes {
     ports: Vec<Mailbox<PortOrder>>,
     resolver: Resolver,
     journal: Journal,
-    board: Board,
-    registered: Mutex<Registered>,
-    waits: [Waiting; 2],
+    collector: StatusCollector,
+    registered: Mutex<Directory>,
+    waits: [Poller; 2],
 }
 
 fn make_boxes<R: Net + Abort>(rt: &R, alloc: Global) -> Boxes {
-    let source_wait = Waiting::new(rt, alloc).expect(rt, "a poll");
-    let port_wait = Waiting::new(rt, alloc).expect(rt, "a poll");
+    let source_wait = Poller::new(rt, alloc).expect(rt, "a poll");
+    let port_wait = Poller::new(rt, alloc).expect(rt, "a poll");
     let mut sources = Vec::new(alloc);
     let mailbox = Mailbox::new(alloc, source_wait.poll()).expect(rt, "a mailbox");
     sources.push(mailbox).expect(rt, "memory");
@@ -43,8 +44,8 @@ fn make_boxes<R: Net + Abort>(rt: &R, alloc: Global) -> Boxes {
         ports,
         resolver: Resolver::new(alloc, None).expect(rt, "memory"),
         journal: Journal::new(alloc).expect(rt, "memory"),
-        board: Board::new(alloc),
-        registered: Mutex::new(Registered::new(alloc).expect(rt, "memory")),
+        collector: StatusCollector::new(alloc),
+        registered: Mutex::new(Directory::new(alloc).expect(rt, "memory")),
         waits: [source_wait, port_wait],
     }
 }
@@ -54,13 +55,13 @@ fn make_boxes<R: Net + Abort>(rt: &R, alloc: Global) -> Boxes {
 fn unanswered<R: Net + Abort + Wait + Clock>(rt: &R, alloc: Global, is_over: bool) -> u64 {
     let boxes = make_boxes(rt, alloc);
     let stop = AtomicBool::new(is_over);
-    let told = Told {
+    let told = ServiceHandle {
         sources: &boxes.sources,
-        neighbours: Neighbours {
+        handles: WorkerHandles {
             ports: &boxes.ports,
             resolver: &boxes.resolver,
             journal: &boxes.journal,
-            board: &boxes.board,
+            collector: &boxes.collector,
         },
         name: "test",
         registered: &boxes.registered,
@@ -68,12 +69,18 @@ fn unanswered<R: Net + Abort + Wait + Clock>(rt: &R, alloc: Global, is_over: boo
         reloads: None,
         stop: &stop,
     };
-    let mut gate = Watched::new(Gateway::new(alloc).expect(rt, "memory"));
+    let mut gate = MeteredGate::new(Gateway::new(alloc).expect(rt, "memory"));
     let mut reader = b"status\n".as_slice();
     let mut console = Console::new(alloc, Vec::new(alloc), told);
-    answer_lines(rt, &mut console, &mut gate, &mut reader, &mut EditsAlone);
+    answer_lines(
+        rt,
+        &mut console,
+        &mut gate,
+        &mut reader,
+        &mut NoServiceCommands,
+    );
     drop(console);
-    boxes.journal.count(Notice::Unanswered)
+    boxes.journal.count(LogEvent::Unanswered)
 }
 
 /// What a new gateway answers to lines, written by a writer whose call number `fails_at` fails; the gateway, whether all
@@ -86,13 +93,13 @@ fn answered<R: Net + Abort + Wait + Clock>(
 ) -> (Vec<u8>, Gateway, bool, u64) {
     let boxes = make_boxes(rt, alloc);
     let stop = AtomicBool::new(false);
-    let told = Told {
+    let told = ServiceHandle {
         sources: &boxes.sources,
-        neighbours: Neighbours {
+        handles: WorkerHandles {
             ports: &boxes.ports,
             resolver: &boxes.resolver,
             journal: &boxes.journal,
-            board: &boxes.board,
+            collector: &boxes.collector,
         },
         name: "test",
         registered: &boxes.registered,
@@ -107,12 +114,18 @@ fn answered<R: Net + Abort + Wait + Clock>(
         fails_at,
         kind: ErrorKind::BrokenPipe,
     };
-    let mut gate = Watched::new(Gateway::new(alloc).expect(rt, "memory"));
+    let mut gate = MeteredGate::new(Gateway::new(alloc).expect(rt, "memory"));
     let mut reader = text.as_bytes();
     let mut console = Console::new(alloc, &mut out, told);
-    answer_lines(rt, &mut console, &mut gate, &mut reader, &mut EditsAlone);
+    answer_lines(
+        rt,
+        &mut console,
+        &mut gate,
+        &mut reader,
+        &mut NoServiceCommands,
+    );
     drop(console);
-    let faults = boxes.journal.count(Notice::ConsoleFault);
+    let faults = boxes.journal.count(LogEvent::ConsoleFault);
     (
         out.taken,
         gate.into_inner(),

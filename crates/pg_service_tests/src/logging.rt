@@ -1,21 +1,22 @@
 //! What the log says, and how often.
 use crate::asserts::same;
 use crate::frames::{key, source, subscriber};
-use pg_log::{Asked, ConfigChange, Detail, Digest, Entry, Journal, Notice, Whom};
+use pg_log::{Asked, ConfigChange, Detail, Entry, Journal, LogEvent, LogThrottle, Subject};
 use pg_wire::Refusal;
 use std::alloc::Global;
+use std::io;
 use std::io::ErrorKind;
 use std::net::{Ipv4Addr, SocketAddr};
 use std::process::Abort;
 use std::test::*;
 
 /// An entry of a source, and of a subscriber.
-fn of_source(rt: &impl Abort, notice: Notice, detail: Detail) -> Entry {
-    Entry::new(notice, Whom::Source(source(rt, 7)), detail)
+fn of_source(rt: &impl Abort, event: LogEvent, detail: Detail) -> Entry {
+    Entry::new(event, Subject::Source(source(rt, 7)), detail)
 }
 
-fn of_subscriber(rt: &impl Abort, number: u16, notice: Notice, detail: Detail) -> Entry {
-    Entry::new(notice, Whom::Subscriber(subscriber(rt, number)), detail)
+fn of_subscriber(rt: &impl Abort, number: u16, event: LogEvent, detail: Detail) -> Entry {
+    Entry::new(event, Subject::Subscriber(subscriber(rt, number)), detail)
 }
 
 /// How often an entry that is told says that it was met; 0 where none is.
@@ -30,7 +31,9 @@ fn times(told: Option<Entry>) -> u64 {
 fn is_untold(told: Option<Entry>, times: u64) -> bool {
     match told {
         Some(entry) => {
-            entry.notice == Notice::Untold && entry.whom == Whom::Nobody && entry.times == times
+            entry.event == LogEvent::Untold
+                && entry.subject == Subject::Nobody
+                && entry.times == times
         }
         None => false,
     }
@@ -52,96 +55,100 @@ fn line(rt: &impl Abort, alloc: Global, entry: &Entry) -> String {
 /// The first of a kind is told at once, and then a line a second at most counts the others.
 #[test]
 fn one_line_a_second(rt: HostRuntime) {
-    let mut digest = Digest::new(rt.alloc());
+    let mut throttle = LogThrottle::new(rt.alloc());
     let turned = |at: u16| {
         let host = SocketAddr::from((Ipv4Addr::LOCALHOST, at));
-        of_subscriber(&rt, 2, Notice::Foreign, Detail::At(host))
+        of_subscriber(&rt, 2, LogEvent::Foreign, Detail::At(host))
     };
-    same(&rt, times(digest.met(turned(1), 5_000)), 1);
-    assert!(rt; digest.met(turned(2), 5_100).is_none());
-    assert!(rt; digest.met(turned(3), 5_999).is_none());
-    assert!(rt; digest.due(5_999).is_none());
-    same(&rt, times(digest.due(6_000)), 2);
-    assert!(rt; digest.due(6_000).is_none());
-    assert!(rt; digest.met(turned(4), 6_500).is_none());
-    assert!(rt; digest.due(6_999).is_none());
-    same(&rt, times(digest.due(7_000)), 1);
-    assert!(rt; digest.due(9_000).is_none());
-    same(&rt, times(digest.met(turned(5), 9_001)), 1);
+    same(&rt, times(throttle.met(turned(1), 5_000)), 1);
+    assert!(rt; throttle.met(turned(2), 5_100).is_none());
+    assert!(rt; throttle.met(turned(3), 5_999).is_none());
+    assert!(rt; throttle.due(5_999).is_none());
+    same(&rt, times(throttle.due(6_000)), 2);
+    assert!(rt; throttle.due(6_000).is_none());
+    assert!(rt; throttle.met(turned(4), 6_500).is_none());
+    assert!(rt; throttle.due(6_999).is_none());
+    same(&rt, times(throttle.due(7_000)), 1);
+    assert!(rt; throttle.due(9_000).is_none());
+    same(&rt, times(throttle.met(turned(5), 9_001)), 1);
 }
 
 /// What one does holds back nothing of another, nor of another kind.
 #[test]
 fn others_are_told(rt: HostRuntime) {
-    let mut digest = Digest::new(rt.alloc());
-    let started = |number: u16| of_subscriber(&rt, number, Notice::Started, Detail::Stream(101));
-    same(&rt, times(digest.met(started(2), 0)), 1);
+    let mut throttle = LogThrottle::new(rt.alloc());
+    let started = |number: u16| of_subscriber(&rt, number, LogEvent::Started, Detail::Stream(101));
+    same(&rt, times(throttle.met(started(2), 0)), 1);
     for at in 1..500 {
-        assert!(rt; digest.met(started(2), at).is_none());
+        assert!(rt; throttle.met(started(2), at).is_none());
     }
-    same(&rt, times(digest.met(started(1), 500)), 1);
-    let stopped = of_subscriber(&rt, 2, Notice::Stopped, Detail::Stream(101));
-    same(&rt, times(digest.met(stopped, 500)), 1);
+    same(&rt, times(throttle.met(started(1), 500)), 1);
+    let stopped = of_subscriber(&rt, 2, LogEvent::Stopped, Detail::Stream(101));
+    same(&rt, times(throttle.met(stopped, 500)), 1);
     same(
         &rt,
-        times(digest.met(of_source(&rt, Notice::Made, Detail::Nothing), 501)),
+        times(throttle.met(of_source(&rt, LogEvent::Made, Detail::Nothing), 501)),
         1,
     );
-    same(&rt, times(digest.due(1_000)), 499);
+    same(&rt, times(throttle.due(1_000)), 499);
 }
 
 /// Of frames that are ignored a line a minute counts.
 #[test]
 fn a_line_a_minute(rt: HostRuntime) {
-    let mut digest = Digest::new(rt.alloc());
-    let ignored = || of_source(&rt, Notice::Ignored, Detail::Because(Refusal::BadCheck));
-    same(&rt, times(digest.met(ignored(), 0)), 1);
-    assert!(rt; digest.met(ignored(), 1_000).is_none());
-    assert!(rt; digest.met(ignored(), 59_999).is_none());
-    assert!(rt; digest.due(59_999).is_none());
-    same(&rt, times(digest.due(60_000)), 2);
+    let mut throttle = LogThrottle::new(rt.alloc());
+    let ignored = || of_source(&rt, LogEvent::Ignored, Detail::Because(Refusal::BadCheck));
+    same(&rt, times(throttle.met(ignored(), 0)), 1);
+    assert!(rt; throttle.met(ignored(), 1_000).is_none());
+    assert!(rt; throttle.met(ignored(), 59_999).is_none());
+    assert!(rt; throttle.due(59_999).is_none());
+    same(&rt, times(throttle.due(60_000)), 2);
 }
 
 /// Frames that are ignored for another reason, and another stream, have lines of their own, with their own counts.
 #[test]
 fn reasons_are_told_apart(rt: HostRuntime) {
-    let mut digest = Digest::new(rt.alloc());
-    let ignored = |reason| of_source(&rt, Notice::Ignored, Detail::Because(reason));
-    same(&rt, times(digest.met(ignored(Refusal::BadCheck), 0)), 1);
-    same(&rt, times(digest.met(ignored(Refusal::StaleConfig), 1)), 1);
-    assert!(rt; digest.met(ignored(Refusal::BadCheck), 2).is_none());
-    assert!(rt; digest.met(ignored(Refusal::BadCheck), 3).is_none());
-    assert!(rt; digest.met(ignored(Refusal::StaleConfig), 4).is_none());
-    assert!(rt; is_ignored(digest.due(60_001), Refusal::BadCheck, 2));
-    assert!(rt; is_ignored(digest.due(60_001), Refusal::StaleConfig, 1));
-    let started = |stream| of_subscriber(&rt, 2, Notice::Started, Detail::Stream(stream));
-    same(&rt, times(digest.met(started(101), 0)), 1);
-    same(&rt, times(digest.met(started(102), 0)), 1);
+    let mut throttle = LogThrottle::new(rt.alloc());
+    let ignored = |reason| of_source(&rt, LogEvent::Ignored, Detail::Because(reason));
+    same(&rt, times(throttle.met(ignored(Refusal::BadCheck), 0)), 1);
+    same(
+        &rt,
+        times(throttle.met(ignored(Refusal::StaleConfig), 1)),
+        1,
+    );
+    assert!(rt; throttle.met(ignored(Refusal::BadCheck), 2).is_none());
+    assert!(rt; throttle.met(ignored(Refusal::BadCheck), 3).is_none());
+    assert!(rt; throttle.met(ignored(Refusal::StaleConfig), 4).is_none());
+    assert!(rt; is_ignored(throttle.due(60_001), Refusal::BadCheck, 2));
+    assert!(rt; is_ignored(throttle.due(60_001), Refusal::StaleConfig, 1));
+    let started = |stream| of_subscriber(&rt, 2, LogEvent::Started, Detail::Stream(stream));
+    same(&rt, times(throttle.met(started(101), 0)), 1);
+    same(&rt, times(throttle.met(started(102), 0)), 1);
 }
 
 /// More kinds than are told apart are counted, and told as such.
 #[test]
 fn too_many_kinds(rt: HostRuntime) {
-    let mut digest = Digest::new(rt.alloc());
+    let mut throttle = LogThrottle::new(rt.alloc());
     for number in 1..4_097 {
-        let entry = of_subscriber(&rt, number, Notice::Connected, Detail::Nothing);
-        same(&rt, times(digest.met(entry, 0)), 1);
+        let entry = of_subscriber(&rt, number, LogEvent::Connected, Detail::Nothing);
+        same(&rt, times(throttle.met(entry, 0)), 1);
     }
-    let more = || of_subscriber(&rt, 5_000, Notice::Connected, Detail::Nothing);
-    assert!(rt; digest.met(more(), 0).is_none());
-    assert!(rt; digest.met(more(), 500).is_none());
-    assert!(rt; is_untold(digest.due(600), 2));
-    same(&rt, times(digest.met(more(), 1_000)), 1);
+    let more = || of_subscriber(&rt, 5_000, LogEvent::Connected, Detail::Nothing);
+    assert!(rt; throttle.met(more(), 0).is_none());
+    assert!(rt; throttle.met(more(), 500).is_none());
+    assert!(rt; is_untold(throttle.due(600), 2));
+    same(&rt, times(throttle.met(more(), 1_000)), 1);
 }
 
 /// Lines that could not be written are counted, and told once one can.
 #[test]
 fn missed_lines(rt: HostRuntime) {
-    let mut digest = Digest::new(rt.alloc());
-    digest.missed(2);
-    digest.missed(3);
-    assert!(rt; is_untold(digest.due(0), 5));
-    assert!(rt; digest.due(0).is_none());
+    let mut throttle = LogThrottle::new(rt.alloc());
+    throttle.missed(2);
+    throttle.missed(3);
+    assert!(rt; is_untold(throttle.due(0), 5));
+    assert!(rt; throttle.due(0).is_none());
 }
 
 /// What is met waits in its order, and what is just as the last is counted with it.
@@ -149,22 +156,22 @@ fn missed_lines(rt: HostRuntime) {
 fn entries_wait(rt: HostRuntime) {
     let alloc = rt.alloc();
     let journal = Journal::new(alloc).expect(&rt, "memory");
-    journal.tell(&rt, of_source(&rt, Notice::Called, Detail::Nothing));
-    journal.tell(&rt, of_source(&rt, Notice::Made, Detail::Nothing));
-    journal.tell(&rt, of_source(&rt, Notice::Made, Detail::Nothing));
-    journal.tell(&rt, of_source(&rt, Notice::Called, Detail::Nothing));
+    journal.tell(&rt, of_source(&rt, LogEvent::Called, Detail::Nothing));
+    journal.tell(&rt, of_source(&rt, LogEvent::Made, Detail::Nothing));
+    journal.tell(&rt, of_source(&rt, LogEvent::Made, Detail::Nothing));
+    journal.tell(&rt, of_source(&rt, LogEvent::Called, Detail::Nothing));
     let taken = journal.take(&rt, alloc);
     let mut told = taken.iter();
     let mut next = || match told.next() {
-        Some(entry) => (entry.notice, entry.times),
-        None => (Notice::Untold, 0),
+        Some(entry) => (entry.event, entry.times),
+        None => (LogEvent::Untold, 0),
     };
-    same(&rt, next(), (Notice::Called, 1));
-    same(&rt, next(), (Notice::Made, 2));
-    same(&rt, next(), (Notice::Called, 1));
-    same(&rt, next(), (Notice::Untold, 0));
+    same(&rt, next(), (LogEvent::Called, 1));
+    same(&rt, next(), (LogEvent::Made, 2));
+    same(&rt, next(), (LogEvent::Called, 1));
+    same(&rt, next(), (LogEvent::Untold, 0));
     assert!(rt; journal.take(&rt, alloc).is_empty());
-    assert!(rt; journal.count(Notice::Called) == 2 && journal.count(Notice::Made) == 2);
+    assert!(rt; journal.count(LogEvent::Called) == 2 && journal.count(LogEvent::Made) == 2);
 }
 
 /// Of each source and each subscriber at most 128 entries wait, whatever others do; what is met then is counted as not told.
@@ -175,25 +182,25 @@ fn entries_are_bounded(rt: HostRuntime) {
     for _ in 0..80 {
         journal.tell(
             &rt,
-            of_subscriber(&rt, 7, Notice::Connected, Detail::Nothing),
+            of_subscriber(&rt, 7, LogEvent::Connected, Detail::Nothing),
         );
         journal.tell(
             &rt,
-            of_subscriber(&rt, 7, Notice::GuestEnded, Detail::Nothing),
+            of_subscriber(&rt, 7, LogEvent::GuestEnded, Detail::Nothing),
         );
     }
     for number in 1..65 {
         journal.tell(
             &rt,
-            of_subscriber(&rt, number, Notice::Stalled, Detail::Nothing),
+            of_subscriber(&rt, number, LogEvent::Stalled, Detail::Nothing),
         );
     }
-    journal.tell(&rt, of_source(&rt, Notice::Silent, Detail::Nothing));
+    journal.tell(&rt, of_source(&rt, LogEvent::Silent, Detail::Nothing));
     let taken = journal.take(&rt, alloc);
     // Sixteen ends of subscriber 7 are counted with the last one that is kept; as many connections and its stall are not told. Source 7 is another.
     same(&rt, taken.len(), 128 + 63 + 1);
-    assert!(rt; journal.count(Notice::Connected) == 80 && journal.count(Notice::Stalled) == 64);
-    same(&rt, journal.count(Notice::Untold), 17);
+    assert!(rt; journal.count(LogEvent::Connected) == 80 && journal.count(LogEvent::Stalled) == 64);
+    same(&rt, journal.count(LogEvent::Untold), 17);
 }
 
 /// An edit that is refused is told with whom it concerns, what was asked for, and why.
@@ -201,13 +208,18 @@ fn entries_are_bounded(rt: HostRuntime) {
 fn lines_of_refused_edits(rt: HostRuntime) {
     let alloc = rt.alloc();
     let asked = Detail::Edit(Asked::Revoke(key(&rt, 9)), Refusal::NotGranted);
-    let told = line(&rt, alloc, &of_subscriber(&rt, 20, Notice::NotDone, asked));
+    let told = line(
+        &rt,
+        alloc,
+        &of_subscriber(&rt, 20, LogEvent::NotDone, asked),
+    );
     let expected =
-        "subscriber 20: the grant of PMU 9/9 can't be revoked: it has no such grant (35 NotGranted)";
+        "subscriber 20: the grant of PMU 9/9 can't be revoked: the PMU is not granted to it (35 NotGranted)";
     same(&rt, told.as_str(), expected);
     let asked = Detail::Edit(Asked::AddPmu(source(&rt, 9)), Refusal::PmuExists);
-    let told = line(&rt, alloc, &of_source(&rt, Notice::NotDone, asked));
-    let expected = "source 7: PMU 9 can't be registered: it is registered already (24 PmuExists)";
+    let told = line(&rt, alloc, &of_source(&rt, LogEvent::NotDone, asked));
+    let expected =
+        "source 7: PMU 9 can't be registered: the PMU is registered already (24 PmuExists)";
     same(&rt, told.as_str(), expected);
 }
 
@@ -217,26 +229,26 @@ fn lines_of_the_log(rt: HostRuntime) {
     let alloc = rt.alloc();
     let host = SocketAddr::from((Ipv4Addr::new(10, 1, 2, 3), 4_712));
     let says = |entry: Entry, expected: &str| line(&rt, alloc, &entry).as_str() == expected;
-    let called = of_source(&rt, Notice::Called, Detail::At(host));
-    assert!(rt; says(called, "source 7: called at 10.1.2.3:4712"));
+    let called = of_source(&rt, LogEvent::Called, Detail::At(host));
+    assert!(rt; says(called, "source 7: connecting to 10.1.2.3:4712"));
     let failed = Detail::System(ErrorKind::ConnectionRefused);
-    let failed = of_source(&rt, Notice::NotMade, failed);
+    let failed = of_source(&rt, LogEvent::NotMade, failed);
     assert!(rt;
         says(
             failed,
-            "source 7: the call failed; it is called again: connection refused"
+            "source 7: can't connect: connection refused; retrying"
         )
     );
     let mut pmus = [0; 16];
     pmus[0] = 11;
     pmus[1] = 12;
-    let announced = of_source(&rt, Notice::Announced, Detail::Config(-2, pmus));
+    let announced = of_source(&rt, LogEvent::Announced, Detail::Config(-2, pmus));
     let expected = "source 7: announced its configuration, DATA_RATE -2, PMUs 11 12";
     assert!(rt; says(announced, expected));
-    let ended = of_source(&rt, Notice::SourceEnded, Detail::ClosedByPeer);
-    let expected = "source 7: the connection ended; it is called again: closed by the other side";
+    let ended = of_source(&rt, LogEvent::SourceEnded, Detail::ClosedByPeer);
+    let expected = "source 7: connection lost: closed by the other side; connecting again";
     assert!(rt; says(ended, expected));
-    let mut ignored = of_source(&rt, Notice::Ignored, Detail::Because(Refusal::BadCheck));
+    let mut ignored = of_source(&rt, LogEvent::Ignored, Detail::Because(Refusal::BadCheck));
     ignored.times = 3;
     assert!(rt;
         says(
@@ -244,25 +256,26 @@ fn lines_of_the_log(rt: HostRuntime) {
             "source 7: frames are ignored: 5 BadCheck (3 frames)"
         )
     );
-    let connected = of_subscriber(&rt, 20, Notice::Connected, Detail::At(host));
+    let connected = of_subscriber(&rt, 20, LogEvent::Connected, Detail::At(host));
     assert!(rt; says(connected, "subscriber 20: connected from 10.1.2.3:4712"));
-    let refused = of_subscriber(&rt, 20, Notice::Refused, Detail::Because(Refusal::Busy));
-    assert!(rt; says(refused, "subscriber 20: a connection was refused: 34 Busy"));
-    let ended = of_subscriber(&rt, 20, Notice::GuestEnded, Detail::Fault(3));
-    let expected = "subscriber 20: the connection ended: its bytes begin no frame (3 BadSecond)";
-    assert!(rt; says(ended, expected));
-    let started = of_subscriber(&rt, 20, Notice::Started, Detail::Stream(101));
-    assert!(rt; says(started, "subscriber 20: started stream 101"));
-    let replaced = of_subscriber(&rt, 20, Notice::Replaced, Detail::At(host));
+    let refused = of_subscriber(&rt, 20, LogEvent::Refused, Detail::Because(Refusal::Busy));
+    assert!(rt; says(refused, "subscriber 20: connection refused: 34 Busy"));
+    let ended = of_subscriber(&rt, 20, LogEvent::GuestEnded, Detail::Fault(3));
     let expected =
-        "subscriber 20: hung up, since another connection takes its place: 10.1.2.3:4712";
+        "subscriber 20: the connection ended: not C37.118: no frame begins here (3 BadSecond)";
+    assert!(rt; says(ended, expected));
+    let started = of_subscriber(&rt, 20, LogEvent::Started, Detail::Stream(101));
+    assert!(rt; says(started, "subscriber 20: started stream 101"));
+    let replaced = of_subscriber(&rt, 20, LogEvent::Replaced, Detail::At(host));
+    let expected = "subscriber 20: disconnected: replaced by a new connection from 10.1.2.3:4712";
     assert!(rt; says(replaced, expected));
-    let mut gap = of_subscriber(&rt, 20, Notice::Gap, Detail::Nothing);
+    let mut gap = of_subscriber(&rt, 20, LogEvent::Gap, Detail::Nothing);
     gap.times = 12;
-    let expected = "subscriber 20: frames were dropped before those that are handed out: 12 frames";
+    let expected =
+        "subscriber 20: 12 data frames dropped: the subscriber reads too slowly, or its `ring` or `bytes` is too small";
     assert!(rt; says(gap, expected));
-    let nobody = Entry::new(Notice::PollFault, Whom::Nobody, Detail::Nothing);
-    assert!(rt; says(nobody, "the system does not tell which sockets are ready"));
+    let nobody = Entry::new(LogEvent::PollFault, Subject::Nobody, Detail::Nothing);
+    assert!(rt; says(nobody, "waiting for sockets failed; retrying"));
 }
 
 /// What is said of clocks, of changed configurations and of a subscriber's second connection.
@@ -274,17 +287,21 @@ fn lines_of_clocks_and_changes(rt: HostRuntime) {
         line(&rt, alloc, &entry).as_str(),
         expected,
     );
-    let mut far = of_source(&rt, Notice::FarMeasurement, Detail::Off(-40_050));
+    let mut far = of_source(&rt, LogEvent::FarMeasurement, Detail::Off(-40_050));
     far.times = 3;
     says(
         far,
-        "source 7: its data are refused (21 FarClock): their time is 40.050 s behind this machine's clock (3 frames)",
+        "source 7: data refused (21 FarClock): their timestamps are 40.050 s behind this machine's clock (3 frames)",
     );
-    let ahead = of_source(&rt, Notice::FarMeasurement, Detail::Off(1_000));
+    let ahead = of_source(&rt, LogEvent::FarMeasurement, Detail::Off(1_000));
     assert!(rt; far.is_like(&ahead));
     says(
-        Entry::new(Notice::WrongClock, Whom::Nobody, Detail::Off(3_600_000)),
-        "this machine's clock is probably wrong: for most sources the time of their data is 3600.000 s ahead of this machine's clock",
+        Entry::new(
+            LogEvent::WrongClock,
+            Subject::Nobody,
+            Detail::Off(3_600_000),
+        ),
+        "this machine's clock is probably wrong: the timestamps of most sources are 3600.000 s ahead of this machine's clock",
     );
     let mut change = ConfigChange {
         pmus: false,
@@ -295,8 +312,8 @@ fn lines_of_clocks_and_changes(rt: HostRuntime) {
         base: false,
     };
     says(
-        of_source(&rt, Notice::Reconfigured, Detail::Differs(change)),
-        "source 7: announced another configuration than before: it differs in units, FNOM",
+        of_source(&rt, LogEvent::Reconfigured, Detail::Differs(change)),
+        "source 7: its configuration changed: units, FNOM",
     );
     assert!(rt; !change.is_nothing());
     change.units = false;
@@ -304,16 +321,223 @@ fn lines_of_clocks_and_changes(rt: HostRuntime) {
     assert!(rt; change.is_nothing());
     let [first, second] = [1, 2].map(|port| SocketAddr::from((Ipv4Addr::new(10, 1, 2, 3), port)));
     says(
-        of_subscriber(&rt, 20, Notice::Refused, Detail::Between(second, first)),
-        "subscriber 20: a connection was refused: 10.1.2.3:2, since 10.1.2.3:1 is connected (34 Busy)",
+        of_subscriber(&rt, 20, LogEvent::Refused, Detail::Between(second, first)),
+        "subscriber 20: connection refused from 10.1.2.3:2: 10.1.2.3:1 is connected already (34 Busy)",
     );
     says(
-        of_subscriber(&rt, 20, Notice::Misread, Detail::OfStream(2000)),
-        "subscriber 20: stream 2000: disconnected, since its blocks changed and a data frame could be read by the old CFG-2",
+        of_subscriber(&rt, 20, LogEvent::Misread, Detail::OfStream(2000)),
+        "subscriber 20: stream 2000: disconnected: its layout changed, and a data frame could be read by the old CFG-2",
     );
     says(
-        of_subscriber(&rt, 20, Notice::ConfigSent, Detail::OfStream(2000)),
-        "subscriber 20: stream 2000: its blocks changed; CFG-2 sent unasked",
+        of_subscriber(&rt, 20, LogEvent::ConfigSent, Detail::OfStream(2000)),
+        "subscriber 20: stream 2000: its layout changed; CFG-2 sent unasked",
+    );
+}
+
+/// What is said of the others of a source.
+#[test]
+fn lines_of_sources(rt: HostRuntime) {
+    let alloc = rt.alloc();
+    let rows = [
+        (
+            LogEvent::GivenUp,
+            "can't connect: no answer within 10 s; retrying",
+        ),
+        (
+            LogEvent::NoAddress,
+            "the name in `connect` has no address; retrying",
+        ),
+        (
+            LogEvent::NotFound,
+            "the name in `connect` is not found: no answer of a name server for 5 s; still waiting",
+        ),
+        (
+            LogEvent::Silent,
+            "no data for the time that `silence` allows; connecting again",
+        ),
+        (
+            LogEvent::AskedAgain,
+            "sends no data; asking again for its configuration and data",
+        ),
+        (
+            LogEvent::Undialed,
+            "no longer connected, and not connecting again",
+        ),
+    ];
+    for (event, expected) in rows {
+        let told = line(&rt, alloc, &of_source(&rt, event, Detail::Nothing));
+        same(
+            &rt,
+            told.as_str().strip_prefix("source 7: "),
+            Some(expected),
+        );
+    }
+}
+
+/// What is said of the others of a subscriber. A count of one is no plural.
+#[test]
+fn lines_of_subscribers(rt: HostRuntime) {
+    let alloc = rt.alloc();
+    let host = Detail::At(SocketAddr::from((Ipv4Addr::new(10, 1, 2, 3), 4_712)));
+    let taken = Detail::System(ErrorKind::AddrInUse);
+    let rows = [
+        (
+            LogEvent::Foreign,
+            host,
+            "refused: `allow` does not list this host: 10.1.2.3:4712",
+        ),
+        (
+            LogEvent::Stalled,
+            Detail::Nothing,
+            "disconnected: it accepted no data for the time that `stall` allows",
+        ),
+        (
+            LogEvent::Unacknowledged,
+            Detail::Nothing,
+            "disconnected: its host acknowledged no data for the time that `stall` allows",
+        ),
+        (
+            LogEvent::Idle,
+            Detail::Nothing,
+            "disconnected: no traffic for the time that `idle` allows",
+        ),
+        (
+            LogEvent::HungUp,
+            Detail::Nothing,
+            "disconnected by a command",
+        ),
+        (
+            LogEvent::NotBound,
+            taken,
+            "its port can't be bound: address in use; retrying every 30 s",
+        ),
+        (
+            LogEvent::Gap,
+            Detail::Nothing,
+            "1 data frame dropped: the subscriber reads too slowly, or its `ring` or `bytes` is too small",
+        ),
+        (
+            LogEvent::GuestEnded,
+            Detail::Fault(4),
+            "the connection ended: not C37.118: no frame has this length (4 ShortSize)",
+        ),
+        (
+            LogEvent::GuestEnded,
+            Detail::Fault(39),
+            "the connection ended: reading failed",
+        ),
+        (
+            LogEvent::GuestEnded,
+            Detail::Fault(12),
+            "the connection ended: reason 12",
+        ),
+    ];
+    for (event, detail, expected) in rows {
+        let told = line(&rt, alloc, &of_subscriber(&rt, 20, event, detail));
+        same(
+            &rt,
+            told.as_str().strip_prefix("subscriber 20: "),
+            Some(expected),
+        );
+    }
+}
+
+/// What the system said: its kind in words, and the number of an error that is of no kind.
+#[test]
+fn lines_of_the_system(rt: HostRuntime) {
+    let alloc = rt.alloc();
+    let rows = [
+        (24, "out of file descriptors (errno 24)"),
+        (105, "out of buffers for sockets (errno 105)"),
+        (71, "errno 71"),
+        (12, "out of memory"),
+        (103, "connection aborted"),
+    ];
+    for (number, expected) in rows {
+        let detail = Detail::of_error(&io::Error::from_raw_os_error(number));
+        let told = line(
+            &rt,
+            alloc,
+            &of_subscriber(&rt, 20, LogEvent::NotAccepted, detail),
+        );
+        let rest = told
+            .as_str()
+            .strip_prefix("subscriber 20: a connection can't be accepted: ");
+        let why = rest.and_then(|rest| rest.strip_suffix("; retrying in 1 s"));
+        same(&rt, why, Some(expected));
+    }
+    let nameless = Detail::System(ErrorKind::Uncategorized);
+    let told = line(
+        &rt,
+        alloc,
+        &Entry::new(LogEvent::NoTable, Subject::Nobody, nameless),
+    );
+    same(
+        &rt,
+        told.as_str(),
+        "/proc/net/tcp can't be read: an error without a name (out of file descriptors?); a subscriber's host that lost power is noticed late",
+    );
+}
+
+/// What is said of the gateway itself.
+#[test]
+fn lines_of_the_gateway(rt: HostRuntime) {
+    let alloc = rt.alloc();
+    let rows = [
+        (
+            LogEvent::SocketFault,
+            "setting up a socket failed; a connection or a port may be closed (out of memory?)",
+        ),
+        (
+            LogEvent::ClockFault,
+            "this machine's clock can't be read; retrying",
+        ),
+        (
+            LogEvent::MailFault,
+            "an internal message was delayed or lost (out of memory?); restart the gateway if this repeats",
+        ),
+        (
+            LogEvent::ConsoleFault,
+            "a command can't be read, or its answer can't be written",
+        ),
+        (
+            LogEvent::Unanswered,
+            "`status` is incomplete: a worker did not answer within 1 s",
+        ),
+        (LogEvent::Untold, "1 log entry was lost: too many at once"),
+        (
+            LogEvent::Warned,
+            "the setup has warnings, which `pdcgw check` lists",
+        ),
+        (
+            LogEvent::NotReloaded,
+            "`reload` failed, nothing was changed: its answer says why",
+        ),
+        (
+            LogEvent::Reloaded,
+            "`reload`: the setup was read, and its changes are done",
+        ),
+        (
+            LogEvent::Opened,
+            "commands are accepted at the control socket",
+        ),
+        (LogEvent::Quit, "`quit`: the gateway ends"),
+    ];
+    for (event, expected) in rows {
+        let told = line(
+            &rt,
+            alloc,
+            &Entry::new(event, Subject::Nobody, Detail::Nothing),
+        );
+        same(&rt, told.as_str(), expected);
+    }
+    let mut lost = Entry::new(LogEvent::Untold, Subject::Nobody, Detail::Nothing);
+    lost.times = 17;
+    let told = line(&rt, alloc, &lost);
+    same(
+        &rt,
+        told.as_str(),
+        "17 log entries were lost: too many at once",
     );
 }
 
@@ -323,26 +547,26 @@ fn lines_of_places(rt: HostRuntime) {
     let alloc = rt.alloc();
     let rows = [
         (
-            Notice::SilentClientClosed,
-            "control socket: a client that was silent for 60 seconds was closed for another",
+            LogEvent::SilentClientClosed,
+            "control socket: a client that was silent for 60 s was disconnected to accept another",
         ),
         (
-            Notice::ClientRefused,
-            "control socket: a client was refused (34 Busy), since 8 are connected",
+            LogEvent::ClientRefused,
+            "control socket: a client was refused (34 Busy): 8 are connected",
         ),
         (
-            Notice::IdlePageClosed,
-            "page: an idle connection was closed for another",
+            LogEvent::IdlePageClosed,
+            "page: an idle connection was closed to accept another",
         ),
         (
-            Notice::PageBusy,
-            "page: a connection was answered 503, since 16 are open",
+            LogEvent::PageBusy,
+            "page: a connection was answered 503: 16 are open",
         ),
     ];
-    for (notice, expected) in rows {
-        let mut entry = Entry::new(notice, Whom::Nobody, Detail::Nothing);
+    for (event, expected) in rows {
+        let mut entry = Entry::new(event, Subject::Nobody, Detail::Nothing);
         same(&rt, line(&rt, alloc, &entry).as_str(), expected);
-        same(&rt, notice.level().as_str(), "WARN");
+        same(&rt, event.level().as_str(), "WARN");
         entry.times = 3;
         let told = line(&rt, alloc, &entry);
         assert!(rt; told.as_str().ends_with(" (3 times)"));

@@ -2,7 +2,7 @@
 use crate::asserts::same;
 use crate::frames::{key, source, subscriber};
 use pg_gateway::{Edit, Reply};
-use pg_service::{After, Change, Registered};
+use pg_service::{Change, Directory, FollowUp};
 use pg_wire::{PmuKey, Refusal};
 use std::process::Abort;
 use std::test::*;
@@ -20,12 +20,12 @@ fn second(rt: &impl Abort) -> PmuKey {
 }
 
 /// An edit that is refused tells workers nothing, and one that is done tells them this.
-fn expect_told(rt: &(impl Abort + Eprint), registered: &mut Registered, edit: Edit, told: After) {
+fn expect_told(rt: &(impl Abort + Eprint), registered: &mut Directory, edit: Edit, told: FollowUp) {
     let refused = Reply::Refused(Refusal::PmuExists);
     let after = registered
         .note(Change::of(&edit), &refused)
         .expect(rt, "room");
-    same(rt, after, After::Nothing);
+    same(rt, after, FollowUp::Nothing);
     let after = registered
         .note(Change::of(&edit), &is_done())
         .expect(rt, "room");
@@ -34,27 +34,27 @@ fn expect_told(rt: &(impl Abort + Eprint), registered: &mut Registered, edit: Ed
 
 #[test]
 fn edits_tell_workers(rt: HostRuntime) {
-    let mut registered = Registered::new(rt.alloc()).expect(&rt, "memory");
+    let mut registered = Directory::new(rt.alloc()).expect(&rt, "memory");
     let seven = source(&rt, 7);
     let add = Edit::AddPmu(key(&rt, 7));
-    expect_told(&rt, &mut registered, add, After::Renew(seven));
+    expect_told(&rt, &mut registered, add, FollowUp::Renew(seven));
     let add = Edit::AddPmu(second(&rt));
-    expect_told(&rt, &mut registered, add, After::Renew(seven));
+    expect_told(&rt, &mut registered, add, FollowUp::Renew(seven));
     let add = Edit::AddPmu(key(&rt, 9));
-    expect_told(&rt, &mut registered, add, After::Renew(source(&rt, 9)));
+    expect_told(&rt, &mut registered, add, FollowUp::Renew(source(&rt, 9)));
     let drop_first = Edit::DropPmu(key(&rt, 7));
-    expect_told(&rt, &mut registered, drop_first, After::Nothing);
+    expect_told(&rt, &mut registered, drop_first, FollowUp::Nothing);
     let drop_second = Edit::DropPmu(second(&rt));
-    expect_told(&rt, &mut registered, drop_second, After::Rest(seven));
+    expect_told(&rt, &mut registered, drop_second, FollowUp::Rest(seven));
     let leave = Edit::DropSub(subscriber(&rt, 20));
     expect_told(
         &rt,
         &mut registered,
         leave,
-        After::HangUp(subscriber(&rt, 20)),
+        FollowUp::HangUp(subscriber(&rt, 20)),
     );
     let grant = Edit::Grant(subscriber(&rt, 1), key(&rt, 7));
-    expect_told(&rt, &mut registered, grant, After::Nothing);
+    expect_told(&rt, &mut registered, grant, FollowUp::Nothing);
     // A ring of 64 frames for two streams holds 32 frames of each.
     same(&rt, registered.room(), 1_024);
     let sub = subscriber(&rt, 1);

@@ -2,7 +2,7 @@
 use crate::asserts::same;
 use pg_console::Reloads;
 use pg_log::Journal;
-use pg_service::{Mailbox, Waiting};
+use pg_service::{Mailbox, Poller};
 use pg_wire::Refusal;
 use std::alloc::Global;
 use std::net::Net;
@@ -10,8 +10,8 @@ use std::process::Abort;
 use std::test::*;
 
 /// No reload, and what its worker would wait with.
-fn reloads<R: Net + Abort>(rt: &R, alloc: Global) -> (Waiting, Reloads) {
-    let waiting = Waiting::new(rt, alloc).expect(rt, "a poll");
+fn reloads<R: Net + Abort>(rt: &R, alloc: Global) -> (Poller, Reloads) {
+    let waiting = Poller::new(rt, alloc).expect(rt, "a poll");
     let mailbox = Mailbox::new(alloc, waiting.poll()).expect(rt, "a mailbox");
     (waiting, Reloads::new(alloc, mailbox))
 }

@@ -3,7 +3,7 @@ use crate::asserts::same;
 use crate::frames::{key, source, subscriber};
 use pg_gateway::{Edit, Event, Gate, Gateway, Reply};
 use pg_ring::{RingBytes, RingSize};
-use pg_service::{Registered, post_edits};
+use pg_service::{Directory, post_edits};
 use pg_wire::Refusal;
 use std::process::Abort;
 use std::test::*;
@@ -27,7 +27,7 @@ fn revoked(rt: &impl Abort, gate: &mut Gateway, sub: u16, pmu: u16) -> Option<Re
 fn each_grant_is_its_own(rt: HostRuntime) {
     let alloc = rt.alloc();
     let mut gate = Gateway::new(alloc).expect(&rt, "memory");
-    let mut registered = Registered::new(alloc).expect(&rt, "memory");
+    let mut registered = Directory::new(alloc).expect(&rt, "memory");
     let mut edits = Vec::new(alloc);
     for edit in [
         Edit::AddPmu(key(&rt, 7)),
@@ -60,7 +60,7 @@ fn each_grant_is_its_own(rt: HostRuntime) {
 fn ends_at_a_refusal(rt: HostRuntime) {
     let alloc = rt.alloc();
     let mut gate = Gateway::new(alloc).expect(&rt, "memory");
-    let mut registered = Registered::new(alloc).expect(&rt, "memory");
+    let mut registered = Directory::new(alloc).expect(&rt, "memory");
     let mut edits = Vec::new(alloc);
     for edit in [
         Edit::AddPmu(key(&rt, 7)),

@@ -2,7 +2,7 @@
 ghost use Rattle.std.specs.Prelude.{◌≡◌};
 
 use crate::asserts::same;
-use pg_console::{Seated, SetUp, serve_by, set_up};
+use pg_console::{HoldsSeat, SetUp, serve_by, set_up};
 use pg_gateway::{Edit, Event, Gate, Gateway, Reply};
 use pg_shared::{Named, Seat, Shared, SharedGate, Work};
 use pg_wire::{PmuId, PmuKey, Refusal};
@@ -36,7 +36,7 @@ impl<R: Wait, N: Named> Work for Adds<'_, R, N> {
     }
 }
 
-impl<R: Wait, N: Named> Seated for Adds<'_, R, N> {
+impl<R: Wait, N: Named> HoldsSeat for Adds<'_, R, N> {
     ghost table = { N.table };
 
     ghost gives = { λ worker seat. seat ≡ worker.gate };

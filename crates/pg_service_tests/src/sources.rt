@@ -4,9 +4,9 @@ use crate::frames::{CONFIG_7, DATA_7, data_at, source};
 use pg_fakes::{FakeGate, FakeReader, FakeWriter};
 use pg_gateway::{Event, Gate, Reply};
 use pg_ingest::{End, Link, LinkEvent};
-use pg_limits::{AheadGuard, Budget, ClockGuard, Clocks, Stamp, StopsShort};
-use pg_service::{Guarding, Guards, Seen, Watched};
-use pg_sources::{SourceLine, Turn};
+use pg_limits::{AheadGuard, Budget, ClockGuard, Clocks, Stamp, StopAfterShortRead};
+use pg_service::{ClockCheck, GateStats, Guards, MeteredGate};
+use pg_sources::{SourceConnection, Turn};
 use std::alloc::Global;
 use std::io::{ErrorKind, Read};
 use std::process::Abort;
@@ -71,10 +71,10 @@ fn guards(near: u16, ahead: u16) -> Guards {
 fn budget_of_reads(rt: HostRuntime) {
     let alloc = rt.alloc();
     let now = Instant::now(&rt).expect(&rt, "a clock");
-    let mut line = SourceLine::new(alloc, source(&rt, 7), None, Guards::none(), now).expect(
+    let mut line = SourceConnection::new(alloc, source(&rt, 7), None, Guards::none(), now).expect(
         &rt, "memory",
     );
-    let mut gate = Watched::new(fake_gate(alloc));
+    let mut gate = MeteredGate::new(fake_gate(alloc));
     let mut out = writer(alloc);
     let bytes = stream_of(&rt, alloc, 100);
     line.called(now);
@@ -99,16 +99,18 @@ fn guarded(
     rt: &(impl Abort + Eprint),
     alloc: Global,
     now: Instant,
-    guarding: Guarding,
+    check: ClockCheck,
     frames: &[u32],
-) -> (Seen, Vec<u32>) {
-    let Guarding {
+) -> (GateStats, Vec<u32>) {
+    let ClockCheck {
         guards,
         clock,
         reference,
-    } = guarding;
-    let mut line = SourceLine::new(alloc, source(rt, 7), None, guards, now).expect(rt, "memory");
-    let mut gate = Watched::new(fake_gate(alloc));
+    } = check;
+    let mut line = SourceConnection::new(alloc, source(rt, 7), None, guards, now).expect(
+        rt, "memory",
+    );
+    let mut gate = MeteredGate::new(fake_gate(alloc));
     let mut out = writer(alloc);
     line.called(now);
     line.made(now);
@@ -188,12 +190,12 @@ fn timely_measurements_are_posted(rt: HostRuntime) {
         ),
     ];
     for (guards, clock, reference, frames, wanted) in rows {
-        let guarding = Guarding {
+        let check = ClockCheck {
             guards,
             clock,
             reference,
         };
-        let (seen, posted) = guarded(&rt, alloc, now, guarding, frames);
+        let (seen, posted) = guarded(&rt, alloc, now, check, frames);
         same(&rt, posted.as_slice(), wanted);
         same(&rt, seen.measured, frames.len() as u64);
         same(&rt, seen.far, (frames.len() - wanted.len()) as u64);
@@ -208,8 +210,8 @@ fn refused_as_far_clock(rt: HostRuntime) {
     let mut link = Link::new(alloc, source(&rt, 7)).expect(&rt, "memory");
     link.feed(CONFIG_7);
     assert!(&rt; matches!(link.next_event(), LinkEvent::Announce(_)));
-    let mut gate = Watched::new(fake_gate(alloc));
-    gate.guard(Guarding {
+    let mut gate = MeteredGate::new(fake_gate(alloc));
+    gate.guard(ClockCheck {
         guards: guards(0, 200),
         clock: 0,
         reference: 100_000,
@@ -232,7 +234,7 @@ fn refused_as_far_clock(rt: HostRuntime) {
         frac: 201_000,
         base: 1_000_000,
     };
-    same(&rt, gate.take_seen().far_at, Some(far));
+    same(&rt, gate.take_stats().far_at, Some(far));
     same(&rt, gate.into_inner().calls.len(), 2);
 }
 
@@ -240,12 +242,12 @@ fn refused_as_far_clock(rt: HostRuntime) {
 #[test]
 fn a_short_read_is_the_last_one(rt: HostRuntime) {
     let mut buf = [0u8; 4];
-    let mut goes_on = StopsShort::new(&b"123456"[..], false);
+    let mut goes_on = StopAfterShortRead::new(&b"123456"[..], false);
     same(&rt, goes_on.read(&mut buf).ok(), Some(4));
     same(&rt, goes_on.read(&mut buf).ok(), Some(2));
     let blocked = goes_on.read(&mut buf).err();
     assert!(rt; blocked.is_some_and(|error| error.kind() == ErrorKind::WouldBlock));
-    let mut ends = StopsShort::new(&b"12"[..], true);
+    let mut ends = StopAfterShortRead::new(&b"12"[..], true);
     same(&rt, ends.read(&mut buf).ok(), Some(2));
     same(&rt, ends.read(&mut buf).ok(), Some(0));
 }

@@ -2,7 +2,7 @@
 
 use crate::asserts::same;
 use pg_status::Histogram;
-use pg_subscribers::Stamps;
+use pg_subscribers::LatencyMeter;
 use std::test::*;
 
 /// 2026-11-24 00:00:00 UTC in seconds since 1970.
@@ -28,7 +28,7 @@ fn data(stream: u8) -> [u8; 18] {
 /// A frame whose stream's CFG-2 went out tells its age: 250,000 microseconds after the second, seen half a second after it.
 #[test]
 fn an_age_is_counted_once_the_time_base_is_known(rt: HostRuntime) {
-    let mut stamps = Stamps::new();
+    let mut stamps = LatencyMeter::new();
     let mut ages = Histogram::new();
     stamps.pass(&data(7), CLOCK + 500_000, &mut ages);
     same(&rt, ages, Histogram::new());
@@ -44,7 +44,7 @@ fn an_age_is_counted_once_the_time_base_is_known(rt: HostRuntime) {
 /// However the bytes are cut, each frame counts once, and no byte behind a head is taken for a head.
 #[test]
 fn frames_count_however_they_are_cut(rt: HostRuntime) {
-    let mut stamps = Stamps::new();
+    let mut stamps = LatencyMeter::new();
     let mut ages = Histogram::new();
     for byte in config(9).iter().chain(data(9).iter()).chain(data(9).iter()) {
         stamps.pass(&[*byte], CLOCK + 251_000, &mut ages);
@@ -72,7 +72,7 @@ fn whole_frames_count_as_cut_ones(rt: HostRuntime) {
         wanted.observe(1_000);
     }
     for cut in 0..bytes.len() {
-        let mut stamps = Stamps::new();
+        let mut stamps = LatencyMeter::new();
         let mut ages = Histogram::new();
         stamps.pass(&bytes[..cut], CLOCK + 251_000, &mut ages);
         stamps.pass(&bytes[cut..], CLOCK + 251_000, &mut ages);
@@ -84,7 +84,7 @@ fn whole_frames_count_as_cut_ones(rt: HostRuntime) {
 /// A stamp that lies ahead has the age 0; a connection that begins anew begins with a frame; streams have time bases of their own.
 #[test]
 fn ahead_anew_and_another_stream(rt: HostRuntime) {
-    let mut stamps = Stamps::new();
+    let mut stamps = LatencyMeter::new();
     let mut ages = Histogram::new();
     stamps.pass(&config(9), CLOCK, &mut ages);
     stamps.pass(&data(9), CLOCK, &mut ages);
@@ -101,7 +101,7 @@ fn ahead_anew_and_another_stream(rt: HostRuntime) {
 /// Eight streams are known; the ninth takes the place of the first.
 #[test]
 fn the_oldest_of_nine_streams_is_forgotten(rt: HostRuntime) {
-    let mut stamps = Stamps::new();
+    let mut stamps = LatencyMeter::new();
     let mut ages = Histogram::new();
     for stream in 1..=9 {
         stamps.pass(&config(stream), CLOCK, &mut ages);

@@ -1,7 +1,7 @@
 //! Wakes of a worker.
 use crate::asserts::same;
 use pg_log::Journal;
-use pg_service::{Mailbox, PortOrder, Waiting};
+use pg_service::{Mailbox, Poller, PortOrder};
 use std::test::*;
 use std::time::Duration;
 
@@ -9,7 +9,7 @@ use std::time::Duration;
 #[test]
 fn wakes_count_as_one(rt: HostRuntime) {
     let alloc = rt.alloc();
-    let mut waiting = Waiting::new(&rt, alloc).expect(&rt, "a poll");
+    let mut waiting = Poller::new(&rt, alloc).expect(&rt, "a poll");
     let mailbox = Mailbox::<PortOrder>::new(alloc, waiting.poll()).expect(&rt, "a mailbox");
     let journal = Journal::new(alloc).expect(&rt, "memory");
     mailbox.wake(&journal);

@@ -17,11 +17,11 @@ use Rattle.pg_session.specs.Events.{Sample, measure, samples_at}
 use Rattle.pg_session.specs.Streams.{StreamOf, placed, PlacedBlock, Arrivals, Turn, arrive_all, arrival_turn, place_of, with_place, base_of, effective_in, framed, slot_frame}
 use Rattle.pg_session.specs.Kept.{by_slots}
 use Rattle.pg_session.specs.Fields.{AreEffective, NeedsNoCopy, NeedNoCopies}
-use Rattle.pg_session.specs.Filling.{filled, all_came, are_all, can_leave, fills, all_fill, IsSpread, IsLaidFor}
+use Rattle.pg_session.specs.Filling.{filled, all_came, are_all, can_leave, fills, all_fill, IsSpread, IsPreparedFor}
 use Rattle.pg_session.specs.Shown.{SubscriberValue}
 use Rattle.pg_session.specs.Wanted.{wanted_of, all_wanted}
 use Rattle.pg_stream.specs.Slots.{slot_at}
-use Rattle.pg_session.proofs.Laying.{empty_list, on_wanted}
+use Rattle.pg_session.proofs.Preparing.{empty_list, on_wanted}
 
 same_lt : (n : ℕ) → nat_lt n n ≡ false
 same_lt n = grind (arith, common_steps)
@@ -395,11 +395,11 @@ ok_for P Q (Ok v) h a q = h a q
 ok_for P Q (Err e) h a q = tt
 
 -- where no copies lie, none are asked for
-pub laid_empty : (v : SubscriberValue) (soc quality frac : ℕ) (samples : List Sample) → v.blocks ≡ []
-    → (IsSpread v quality samples → ⊥) → IsLaidFor v (measure soc quality frac samples)
+pub prepared_empty : (v : SubscriberValue) (soc quality frac : ℕ) (samples : List Sample) → v.blocks ≡ []
+    → (IsSpread v quality samples → ⊥) → IsPreparedFor v (measure soc quality frac samples)
     → NeedNoCopies soc quality frac samples v.own.streams
-laid_empty v soc quality frac samples none several (inl ready) = needs_empty v.own.streams soc quality frac samples (sym ready.blocks ∙ none)
-laid_empty v soc quality frac samples none several (inr serves) = by serves.1
+prepared_empty v soc quality frac samples none several (inl ready) = needs_empty v.own.streams soc quality frac samples (sym ready.blocks ∙ none)
+prepared_empty v soc quality frac samples none several (inr serves) = by serves.1
   where
     by : ((v.blocks ≡ []) × (all_fill v.own.streams soc quality frac samples ≡ true)) ⊎ IsSpread v quality samples
         → NeedNoCopies soc quality frac samples v.own.streams

@@ -19,7 +19,7 @@ pub mod Shapes
 pub mod Granting
 pub mod Guessing
 pub mod Putting
-pub mod Laying
+pub mod Preparing
 pub mod Going
 pub mod Running
 pub mod Stamping

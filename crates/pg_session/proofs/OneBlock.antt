@@ -20,7 +20,7 @@ use Rattle.pg_session.specs.Output.{all_ignored}
 use Rattle.pg_session.specs.Kept.{by_slots}
 use Rattle.pg_session.specs.Ready.{ArePlaces, IsReady}
 use Rattle.pg_session.specs.Fields.{one_ignored, kept_of, all_kept, Serving}
-use Rattle.pg_session.specs.Filling.{are_all, can_leave, fills, all_fill, may_keep, is_full, count_keeping, IsSpread, IsLaidFor}
+use Rattle.pg_session.specs.Filling.{are_all, can_leave, fills, all_fill, may_keep, is_full, count_keeping, IsSpread, IsPreparedFor}
 use Rattle.pg_session.specs.Shown.{SubscriberValue}
 use Rattle.pg_session.specs.Wanted.{piece_of_placed, wanted_of, all_wanted}
 use Rattle.pg_session.proofs.Arrivals.{placed_next}
@@ -242,9 +242,9 @@ fill_none (s ∷ xs) soc quality frac x e =
     omega (arith, fills_kept s soc quality frac x two.0, fill_none xs soc quality frac x two.1)
 
 -- however they were laid, the copies are enough
-laid_of : (v : SubscriberValue) (soc quality frac : ℕ) (x : Sample) → IsLaidFor v (measure soc quality frac (x ∷ []))
+prepared_of : (v : SubscriberValue) (soc quality frac : ℕ) (x : Sample) → IsPreparedFor v (measure soc quality frac (x ∷ []))
     → Serving v quality (x ∷ []) (record { quality = quality; block = x.block })
-laid_of v soc quality frac x (inl ready) =
+prepared_of v soc quality frac x (inl ready) =
     let same = ready.blocks ∙ wanted_copies v.own.streams quality x in
     let long = ap length ready.blocks in
     record {
@@ -252,7 +252,7 @@ laid_of v soc quality frac x (inl ready) =
       enough = omega (arith, all_kept_few v.own.streams quality (x ∷ []), long);
       none = ready.configs;
     }
-laid_of v soc quality frac x (inr serves) = by serves.1
+prepared_of v soc quality frac x (inr serves) = by serves.1
   where
     piece : Piece
     piece = record { quality = quality; block = x.block }
@@ -284,19 +284,19 @@ one_sample m place h =
       refl,
     )
 
-pub laid_one : (v : SubscriberValue) (m : Measurement) (place : ℕ) → place < length m.config.parts
-    → IsLaidFor v (measure m.soc m.quality m.frac (samples_at m (place ∷ []))) → Serving v m.quality (samples_at m (place ∷ [])) (piece_of m place)
-laid_one v m place h laid =
+pub prepared_one : (v : SubscriberValue) (m : Measurement) (place : ℕ) → place < length m.config.parts
+    → IsPreparedFor v (measure m.soc m.quality m.frac (samples_at m (place ∷ []))) → Serving v m.quality (samples_at m (place ∷ [])) (piece_of m place)
+prepared_one v m place h prepared =
     let x = one_sample m place h in
-    let here = laid_of v m.soc m.quality m.frac x.0 (subst (λ (l : List Sample). IsLaidFor v (measure m.soc m.quality m.frac l)) x.1 laid) in
+    let here = prepared_of v m.soc m.quality m.frac x.0 (subst (λ (l : List Sample). IsPreparedFor v (measure m.soc m.quality m.frac l)) x.1 prepared) in
     subst (λ (l : List Sample). Serving v m.quality l (piece_of m place)) (sym x.1) (subst (λ (p : Piece). Serving v m.quality (x.0 ∷ []) p) (sym x.2) here)
 
-pub spread_laid : (v : SubscriberValue) (m : Measurement) (place : ℕ) → place < length m.config.parts
+pub spread_prepared : (v : SubscriberValue) (m : Measurement) (place : ℕ) → place < length m.config.parts
     → v.blocks ≡ replicate (count_keeping v.own.streams) (piece_of m place) → v.configs ≡ []
-    → IsLaidFor v (measure m.soc m.quality m.frac (samples_at m (place ∷ [])))
-spread_laid v m place h e none =
+    → IsPreparedFor v (measure m.soc m.quality m.frac (samples_at m (place ∷ [])))
+spread_prepared v m place h e none =
     let x = one_sample m place h in
-    subst (λ (l : List Sample). IsLaidFor v (measure m.soc m.quality m.frac l)) (sym x.1)
+    subst (λ (l : List Sample). IsPreparedFor v (measure m.soc m.quality m.frac l)) (sym x.1)
     (inr (none, inr (e ∙ ap (replicate (count_keeping v.own.streams)) x.2)))
 
 -- of several blocks none are laid so
@@ -335,10 +335,10 @@ one_place (i ∷ []) e = refl
 one_place (i ∷ j ∷ places) e = absurd (omega (arith, e))
 
 -- where other copies lie than those of one block, they are just those that the event asks for
-pub laid_ready : (v : SubscriberValue) (soc quality frac : ℕ) (samples : List Sample) → (IsSpread v quality samples → ⊥) → 0 < length v.blocks
-    → IsLaidFor v (measure soc quality frac samples) → IsReady v (measure soc quality frac samples)
-laid_ready v soc quality frac samples several some (inl ready) = ready
-laid_ready v soc quality frac samples several some (inr serves) = by serves.1
+pub prepared_ready : (v : SubscriberValue) (soc quality frac : ℕ) (samples : List Sample) → (IsSpread v quality samples → ⊥) → 0 < length v.blocks
+    → IsPreparedFor v (measure soc quality frac samples) → IsReady v (measure soc quality frac samples)
+prepared_ready v soc quality frac samples several some (inl ready) = ready
+prepared_ready v soc quality frac samples several some (inr serves) = by serves.1
   where
     by : ((v.blocks ≡ []) × (all_fill v.own.streams soc quality frac samples ≡ true)) ⊎ IsSpread v quality samples → IsReady v (measure soc quality frac samples)
     by (inl empty) = absurd (let none = ap length empty.0 in omega (arith, none, some))

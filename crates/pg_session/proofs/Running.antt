@@ -12,7 +12,7 @@ use Rattle.pg_wire.specs.declared.refusal.Refusal.{Refusal}
 use Rattle.pg_wire.specs.declared.refusal.Refusal.TheVariants.{NoMemory}
 use Rattle.pg_session.specs.Streams.{Turn}
 use Rattle.pg_session.specs.Output.{Output, frames_made, turns_taken, ignored}
-use Rattle.pg_session.specs.Events.{Happening, Sample, grant, revoke, announce, measure, define, remove, tick, connect, hangup, command, drain}
+use Rattle.pg_session.specs.Events.{SubscriberEvent, Sample, grant, revoke, announce, measure, define, remove, tick, connect, hangup, command, drain}
 use Rattle.pg_session.specs.Private.{Told, done, refused, handed, refusal, answer, takes_memory, May, next, frames_of, effect, turns_of, refused_at, with_reply, asks_reply, reply_frame, stream_at}
 use Rattle.pg_session.specs.ByAll.{by_arrivals, by_numbers}
 use Rattle.pg_session.specs.Shown.{Model, begin}
@@ -27,12 +27,12 @@ handed_append [] ys = refl
 handed_append (x ∷ xs) ys =
     ap (λ hs. handed_by x.1 ++ hs) (handed_append xs ys) ∙ sym (append_assoc (handed_by x.1) (handed_in xs) (handed_in ys))
 
-pub replies_append : (p : Model) (es fs : List Happening) → full_run p (es ++ fs) ≡ full_run p es ++ full_run (after p (full_run p es)) fs
+pub replies_append : (p : Model) (es fs : List SubscriberEvent) → full_run p (es ++ fs) ≡ full_run p es ++ full_run (after p (full_run p es)) fs
 replies_append p [] fs = refl
 replies_append p (e ∷ es) fs = ap (λ run. (e, full_told p e) ∷ run) (replies_append (next by_arrivals by_numbers p e (full_told p e)) es fs)
 
 -- the full reply may come
-pub full_may : (p : Model) (e : Happening) → May by_arrivals by_numbers p e false (full_told p e)
+pub full_may : (p : Model) (e : SubscriberEvent) → May by_arrivals by_numbers p e false (full_told p e)
 full_may p e = by (refusal by_arrivals by_numbers p e)
   where
     by : (o : Option Refusal) → MatchOption o
@@ -76,7 +76,7 @@ granted_called : (p : Model) (b : Bool) (turned_to : Model) (calls : List Call) 
 granted_called p true turned_to calls e = refl
 granted_called p false turned_to calls e = e
 
-effect_called : (p : Model) (e : Happening) (kept : ℕ) → (effect by_arrivals by_numbers p e kept).output.queue ≡ called p.output.queue (calls_done p e kept)
+effect_called : (p : Model) (e : SubscriberEvent) (kept : ℕ) → (effect by_arrivals by_numbers p e kept).output.queue ≡ called p.output.queue (calls_done p e kept)
 effect_called p (grant key config) kept =
     granted_called p (has_key p.grants key) _ (turn_calls kept (turns_of by_arrivals by_numbers p (grant key config)))
     (turns_called kept (turns_of by_arrivals by_numbers p (grant key config)) p.output)
@@ -96,7 +96,7 @@ counted_by : (b : Bool) (p q : Model) → q.output.queue ≡ p.output.queue → 
 counted_by true p q e = e
 counted_by false p q e = refl
 
-refused_called : (p : Model) (e : Happening) (r : Refusal) → (refused_at p e r).output.queue ≡ p.output.queue
+refused_called : (p : Model) (e : SubscriberEvent) (r : Refusal) → (refused_at p e r).output.queue ≡ p.output.queue
 refused_called p (command number word) r = counted_by p.connected p _ refl
 refused_called p (grant key config) r = refl
 refused_called p (revoke key) r = refl
@@ -109,7 +109,7 @@ refused_called p connect r = refl
 refused_called p hangup r = refl
 refused_called p (drain n) r = refl
 
-next_called : (p : Model) (e : Happening) (r : Told) → (next by_arrivals by_numbers p e r).output.queue ≡ called p.output.queue (calls_of p e r)
+next_called : (p : Model) (e : SubscriberEvent) (r : Told) → (next by_arrivals by_numbers p e r).output.queue ≡ called p.output.queue (calls_of p e r)
 next_called p e (done made kept) = effect_called p e kept
 next_called p e (refused r) = refused_called p e r
 next_called p e (handed bytes begun gap) = effect_called p e 0

@@ -24,7 +24,7 @@ use Rattle.pg_align.proofs.Rising.{AreSo, CameFor, leaving-rises, flushing-rises
 use Rattle.pg_outcfg.specs.Listing.{Listing}
 use Rattle.pg_outcfg.specs.Quality.{joined_quality}
 use Rattle.pg_outcfg.specs.Frames.{data_blocks, data_heading, qualities_of}
-use Rattle.pg_session.specs.Events.{Happening, Sample, grant, revoke, announce, measure, define, remove, tick, connect, hangup, command, drain}
+use Rattle.pg_session.specs.Events.{SubscriberEvent, Sample, grant, revoke, announce, measure, define, remove, tick, connect, hangup, command, drain}
 use Rattle.pg_session.specs.Shape.{same_shape}
 use Rattle.pg_session.specs.Streams.{StreamOf, Turn, PlacedBlock, placed, base_of, slot_frame, still, framed, reshape_turn, arrive_all, arrival_turn, measure_turn, tick_turn}
 use Rattle.pg_session.specs.Private.{Told, done, refused, handed, May, next, refusal, effect, refuse, refused_at, turns_of, stream_at, stopped, started as start_stream, switched, at_stream, defined, put_first, with_refusal}
@@ -460,7 +460,7 @@ none_is : (o : Option OneStream) → is_some o ≡ false → o ≡ None
 none_is None e = refl
 none_is (Some s) e = absurd (cc e)
 
-effect_steps : (p : Model) (e : Happening) (kept number : ℕ) (s : OneStream) → AreSound p.streams → stream_at p.streams number ≡ Some s → s.slots.is_on ≡ true
+effect_steps : (p : Model) (e : SubscriberEvent) (kept number : ℕ) (s : OneStream) → AreSound p.streams → stream_at p.streams number ≡ Some s → s.slots.is_on ≡ true
     → StepsOn number s (made_of number (turns_of by_arrivals by_numbers p e)) (effect by_arrivals by_numbers p e kept).streams
 effect_steps p (grant key config) kept number s w found on = by (has_key p.grants key) refl
   where
@@ -488,7 +488,7 @@ effect_steps p (drain n) kept number s w found on = same_steps number p.streams 
 sound_turned : (f : OneStream → OneTurn) → GoEach f → (ss : List OneStream) → AreSound ss → AreSound (map (λ (t : OneTurn). t.stream) (map f ss))
 sound_turned f each ss w = subst AreSound (sym (turned_streams f ss)) (sound_map (λ s. (f s).stream) (turn_keeps f each) ss w)
 
-effect_sound : (p : Model) (e : Happening) (kept : ℕ) → refusal by_arrivals by_numbers p e ≡ None → AreSound p.streams
+effect_sound : (p : Model) (e : SubscriberEvent) (kept : ℕ) → refusal by_arrivals by_numbers p e ≡ None → AreSound p.streams
     → AreSound (effect by_arrivals by_numbers p e kept).streams
 effect_sound p (grant key config) kept none w = by (has_key p.grants key) refl
   where
@@ -511,7 +511,7 @@ effect_sound p (command asked word) kept none w =
     sound_map (at_stream by_arrivals by_numbers asked (switched by_arrivals by_numbers word)) (command_keeps asked word) p.streams w
 effect_sound p (drain n) kept none w = w
 
-refused_streams : (p : Model) (e : Happening) (r : Refusal) → (refused_at p e r).streams ≡ p.streams
+refused_streams : (p : Model) (e : SubscriberEvent) (r : Refusal) → (refused_at p e r).streams ≡ p.streams
 refused_streams p (command asked word) r = by p.connected
   where
     by : (b : Bool) → (if b then record p { output = with_refusal p.output r } else p).streams ≡ p.streams
@@ -533,14 +533,14 @@ none_holds : (B : Type 0) (r : Told) → ((first : Refusal) → r ≡ refused fi
 none_holds B r plain None h = refl
 none_holds B r plain (Some first) h = absurd (plain first h)
 
-next_sound : (p : Model) (e : Happening) (r : Told) → May by_arrivals by_numbers p e false r → AreSound p.streams
+next_sound : (p : Model) (e : SubscriberEvent) (r : Told) → May by_arrivals by_numbers p e false r → AreSound p.streams
     → AreSound (next by_arrivals by_numbers p e r).streams
 next_sound p e (done made kept) may w = effect_sound p e kept (none_holds _ (done made kept) (λ first h. cc h) (refusal by_arrivals by_numbers p e) may) w
 next_sound p e (refused r) may w = subst AreSound (sym (refused_streams p e r)) w
 next_sound p e (handed bytes begun gap) may w =
     effect_sound p e 0 (none_holds _ (handed bytes begun gap) (λ first h. cc h) (refusal by_arrivals by_numbers p e) may) w
 
-next_steps : (p : Model) (e : Happening) (r : Told) (number : ℕ) (s : OneStream) → AreSound p.streams → stream_at p.streams number ≡ Some s → s.slots.is_on ≡ true
+next_steps : (p : Model) (e : SubscriberEvent) (r : Told) (number : ℕ) (s : OneStream) → AreSound p.streams → stream_at p.streams number ≡ Some s → s.slots.is_on ≡ true
     → StepsOn number s (made_at number p e r) (next by_arrivals by_numbers p e r).streams
 next_steps p e (done made kept) number s w found on = effect_steps p e kept number s w found on
 next_steps p e (refused r) number s w found on =
@@ -592,7 +592,7 @@ slots-rise size limit last before run number s legal found on =
     run_rises (after (begin size limit last) before) run number s (sound_after (begin size limit last) before tt parts.0) parts.1 found on
 
 -- a stream that is off
-turns_off : (p : Model) (e : Happening) (number : ℕ) (s : OneStream) → AreSound p.streams → stream_at p.streams number ≡ Some s → s.slots.is_on ≡ false
+turns_off : (p : Model) (e : SubscriberEvent) (number : ℕ) (s : OneStream) → AreSound p.streams → stream_at p.streams number ≡ Some s → s.slots.is_on ≡ false
     → made_of number (turns_of by_arrivals by_numbers p e) ≡ []
 turns_off p e number s w found off = by e
   where
@@ -604,7 +604,7 @@ turns_off p e number s w found off = by e
     granted key config true = turn still still_goes
     granted key config false = turn _ (reshape_goes p.listed (put_first p.listed key config))
 
-    by : (e : Happening) → made_of number (turns_of by_arrivals by_numbers p e) ≡ []
+    by : (e : SubscriberEvent) → made_of number (turns_of by_arrivals by_numbers p e) ≡ []
     by (grant key config) = granted key config (has_key p.grants key)
     by (revoke key) = turn _ (reshape_goes p.listed _)
     by (announce list) = turn _ (reshape_goes p.listed _)
@@ -617,13 +617,13 @@ turns_off p e number s w found off = by e
     by (command asked word) = refl
     by (drain n) = refl
 
-made_off : (p : Model) (e : Happening) (r : Told) (number : ℕ) (s : OneStream) → AreSound p.streams → stream_at p.streams number ≡ Some s → s.slots.is_on ≡ false
+made_off : (p : Model) (e : SubscriberEvent) (r : Told) (number : ℕ) (s : OneStream) → AreSound p.streams → stream_at p.streams number ≡ Some s → s.slots.is_on ≡ false
     → made_at number p e r ≡ []
 made_off p e (done made kept) number s w found off = turns_off p e number s w found off
 made_off p e (refused r) number s w found off = refl
 made_off p e (handed bytes begun gap) number s w found off = turns_off p e number s w found off
 
-pub off-makes_none : (size limit : ℕ) (last : Option ℕ) (before : Run) (number : ℕ) (s : StreamOf (StreamHistory Piece)) (e : Happening) (r : Told)
+pub off-makes_none : (size limit : ℕ) (last : Option ℕ) (before : Run) (number : ℕ) (s : StreamOf (StreamHistory Piece)) (e : SubscriberEvent) (r : Told)
     → IsLegal (begin size limit last) before → stream_at (after (begin size limit last) before).streams number ≡ Some s
     → s.slots.is_on ≡ false → made_at number (after (begin size limit last) before) e r ≡ []
 off-makes_none size limit last before number s e r legal found off =

@@ -23,7 +23,7 @@ use Rattle.pg_audit.specs.Counting.{more, counted}
 use Rattle.pg_entitle.specs.Grants.{has_key, granted, without_key}
 use Rattle.pg_outcfg.specs.Frames.{cfg1_frame, cfg2_frame, header_frame}
 use Rattle.pg_outcfg.specs.Listing.{Listing, config_at, without_config}
-use Rattle.pg_session.specs.Events.{Happening, grant, revoke, announce, measure, define, remove, tick, connect, hangup, command, drain}
+use Rattle.pg_session.specs.Events.{SubscriberEvent, grant, revoke, announce, measure, define, remove, tick, connect, hangup, command, drain}
 use Rattle.pg_session.specs.Streams.{StreamOf, Turn, still, effective_in, first_layout, frame_len, reshape_turn}
 use Rattle.pg_session.specs.Output.{Output, all_ignored, kept_frame, lost_frame, frames_made, ignored, turns_taken}
 use Rattle.pg_session.specs.ByAll.{by_arrivals, by_numbers}
@@ -166,7 +166,7 @@ shows_of c g l s t n ss ts o p w h =
 still-each : (s : StreamOf (Aligned Piece)) (t : StreamOf (StreamHistory Piece)) → StreamShows s t → TurnShows (still s) (still t)
 still-each s t w = record { stream = w; frames = refl; late = refl; twice = refl; past = refl }
 
-abbrev TurnsOf : Happening → Own → Model → Type 0
+abbrev TurnsOf : SubscriberEvent → Own → Model → Type 0
 TurnsOf e v p = TurnsShow (private.turns_of by_slots by_gaps v e) (private.turns_of by_arrivals by_numbers p e)
 
 grant_turns : (b : Bool) (l other : Listing) (ss : List (StreamOf (Aligned Piece))) (ts : List (StreamOf (StreamHistory Piece))) → StreamsShow ss ts
@@ -174,7 +174,7 @@ grant_turns : (b : Bool) (l other : Listing) (ss : List (StreamOf (Aligned Piece
 grant_turns true l other ss ts w = turns-map still still still-each ss ts w
 grant_turns false l other ss ts w = turns-map _ _ (reshape-shows l other) ss ts w
 
-turns_shown : (e : Happening) (v : Own) (p : Model) → OwnShows v p → TurnsOf e v p
+turns_shown : (e : SubscriberEvent) (v : Own) (p : Model) → OwnShows v p → TurnsOf e v p
 turns_shown (grant key config) = lifted_own (TurnsOf (grant key config))
     (λ c g l s t n ss ts q m w h. grant_turns _ l (put_first l key config) ss ts w)
 turns_shown (revoke key) = lifted_own (TurnsOf (revoke key))
@@ -192,11 +192,11 @@ turns_shown hangup = λ v p w. tt
 turns_shown (command number word) = λ v p w. tt
 turns_shown (drain n) = λ v p w. tt
 
-frames_shown : (e : Happening) (v : Own) (p : Model) → OwnShows v p
+frames_shown : (e : SubscriberEvent) (v : Own) (p : Model) → OwnShows v p
     → private.frames_of by_slots by_gaps v e ≡ private.frames_of by_arrivals by_numbers p e
 frames_shown e v p w = turned-frames _ _ (turns_shown e v p w)
 
-turned_shown : (e : Happening) (kept : ℕ) (v : Own) (p : Model) → OwnShows v p
+turned_shown : (e : SubscriberEvent) (kept : ℕ) (v : Own) (p : Model) → OwnShows v p
     → OwnShows (private.turned by_slots by_gaps v e kept) (private.turned by_arrivals by_numbers p e kept)
 turned_shown e kept v p w =
     let turns = turns_shown e v p w in
@@ -237,10 +237,10 @@ streams-length (s ∷ ss) (t ∷ ts) w = ap suc (streams-length ss ts w.1)
 takes_shown : (q : Queue) (m : Numbered) → ring.ShowsNumbered q m → by_gaps.takes_reply q ≡ by_numbers.takes_reply m
 takes_shown q m h = ap by_gaps.takes_reply h.same
 
-abbrev Refuses : Happening → Own → Model → Type 0
+abbrev Refuses : SubscriberEvent → Own → Model → Type 0
 Refuses e v p = private.refusal by_slots by_gaps v e ≡ private.refusal by_arrivals by_numbers p e
 
-refusal_shown : (e : Happening) (v : Own) (p : Model) → OwnShows v p → Refuses e v p
+refusal_shown : (e : SubscriberEvent) (v : Own) (p : Model) → OwnShows v p → Refuses e v p
 refusal_shown (grant key config) = lifted_own (Refuses (grant key config)) (λ c g l s t n ss ts q m w h. refl)
 refusal_shown (revoke key) = lifted_own (Refuses (revoke key)) (λ c g l s t n ss ts q m w h. refl)
 refusal_shown (announce list) = λ v p w. refl
@@ -376,7 +376,7 @@ reply_shows o p x y e h = subst (λ z. OutputShows (private.with_reply by_slots 
       stats = ap (λ (s : Stats). record s { replies = more s.replies 1 }) h.stats;
     }
 
-abbrev Effects : Happening → ℕ → Own → Model → Type 0
+abbrev Effects : SubscriberEvent → ℕ → Own → Model → Type 0
 Effects e kept v p = OwnShows (private.effect by_slots by_gaps v e kept) (private.effect by_arrivals by_numbers p e kept)
 
 grant_by : (b : Bool) (v x : Own) (p y : Model) → OwnShows v p → OwnShows x y → OwnShows (if b then v else x) (if b then p else y)
@@ -386,7 +386,7 @@ grant_by false v x p y w z = z
 wants : (word : ℕ) (x y : Option (List ℕ)) → x ≡ y → (if asks_reply word then x else None) ≡ (if asks_reply word then y else None)
 wants word x y e = ap (λ z. if asks_reply word then z else None) e
 
-effect_shown : (e : Happening) (kept : ℕ) (v : Own) (p : Model) → OwnShows v p → Effects e kept v p
+effect_shown : (e : SubscriberEvent) (kept : ℕ) (v : Own) (p : Model) → OwnShows v p → Effects e kept v p
 effect_shown (grant key config) kept v p w =
     subst (λ g. OwnShows (private.effect by_slots by_gaps v (grant key config) kept)
     (if has_key g key then p
@@ -505,7 +505,7 @@ effect_shown (drain n) kept v p w = record {
   definitions = w.definitions;
 }
 
-answer_shown : (e : Happening) (kept : ℕ) (v : Own) (p : Model) → OwnShows v p
+answer_shown : (e : SubscriberEvent) (kept : ℕ) (v : Own) (p : Model) → OwnShows v p
     → private.answer by_slots by_gaps v e kept ≡ private.answer by_arrivals by_numbers p e kept
 answer_shown (grant key config) kept v p w = ap (λ frames. done (length frames) kept) (frames_shown (grant key config) v p w)
 answer_shown (revoke key) kept v p w = ap (λ frames. done (length frames) kept) (frames_shown (revoke key) v p w)
@@ -525,7 +525,7 @@ refused_by : (b : Bool) (v x : Own) (p y : Model) → OwnShows v p → OwnShows 
 refused_by true v x p y w z = z
 refused_by false v x p y w z = w
 
-refused_shown : (e : Happening) (r : Refusal) (v : Own) (p : Model) → OwnShows v p → OwnShows (refused_at v e r) (refused_at p e r)
+refused_shown : (e : SubscriberEvent) (r : Refusal) (v : Own) (p : Model) → OwnShows v p → OwnShows (refused_at v e r) (refused_at p e r)
 refused_shown (command number word) r v p w =
     subst (λ c. OwnShows (refused_at v (command number word) r) (if c then record p { output = with_refusal p.output r } else p)) w.connected
     (refused_by v.connected v _ p _ w (record {
@@ -549,13 +549,13 @@ refused_shown connect r v p w = w
 refused_shown hangup r v p w = w
 refused_shown (drain n) r v p w = w
 
-next_shown : (e : Happening) (r : Told) (v : Own) (p : Model) → OwnShows v p
+next_shown : (e : SubscriberEvent) (r : Told) (v : Own) (p : Model) → OwnShows v p
     → OwnShows (private.next by_slots by_gaps v e r) (private.next by_arrivals by_numbers p e r)
 next_shown e (done made kept) v p w = effect_shown e kept v p w
 next_shown e (refused r) v p w = refused_shown e r v p w
 next_shown e (handed bytes begun gap) v p w = effect_shown e 0 v p w
 
-may_by : (v : Own) (p : Model) (e : Happening) (lost : Bool) (r : Told) → OwnShows v p → (o : Option Refusal)
+may_by : (v : Own) (p : Model) (e : SubscriberEvent) (lost : Bool) (r : Told) → OwnShows v p → (o : Option Refusal)
     → MatchOption o (((kept : ℕ) × (kept ≤ length (private.frames_of by_slots by_gaps v e)) × (lost ≡ true → kept ≡ 0) × (r ≡ private.answer by_slots by_gaps v e kept))
     ⊎ ((r ≡ refused NoMemory) × (takes_memory e ≡ true))) (λ first. r ≡ refused first)
     → MatchOption o (((kept : ℕ) × (kept ≤ length (private.frames_of by_arrivals by_numbers p e)) × (lost ≡ true → kept ≡ 0) × (r ≡ private.answer by_arrivals by_numbers p e kept))
@@ -565,7 +565,7 @@ may_by v p e lost r w None (inr h) = inr h
 may_by v p e lost r w (Some first) h = h
 
 -- What follows of the kept state follows of the model: the reply may come, and the successor is shown.
-pub follows_shown : (v : Own) (p : Model) (e : Happening) (lost : Bool) (r : Told) → OwnShows v p
+pub follows_shown : (v : Own) (p : Model) (e : SubscriberEvent) (lost : Bool) (r : Told) → OwnShows v p
     → private.May by_slots by_gaps v e lost r
     → private.May by_arrivals by_numbers p e lost r × OwnShows (private.next by_slots by_gaps v e r) (private.next by_arrivals by_numbers p e r)
 follows_shown v p e lost r w may = (
@@ -576,7 +576,7 @@ follows_shown v p e lost r w may = (
 )
 
 -- So one step of what is kept is one step of whatever state it shows.
-pub steps_taken : (old : SubscriberValue) (e : Happening) (lost : Bool) (r : Told) (new : SubscriberValue) → Steps old e lost r new → Takes old e lost r new
+pub steps_taken : (old : SubscriberValue) (e : SubscriberEvent) (lost : Bool) (r : Told) (new : SubscriberValue) → Steps old e lost r new → Takes old e lost r new
 steps_taken old e lost r new s = λ p w.
     let next = follows_shown old.own p e lost r w s.may in
     record {

@@ -7,7 +7,7 @@ use Rattle.pg_wire.specs.declared.ids.PmuKey.{PmuKey}
 use Rattle.pg_data.specs.Pieces.{Piece}
 use Rattle.pg_outcfg.specs.Listing.{Listing}
 use Rattle.pg_align.specs.Slots.{Aligned}
-use Rattle.pg_session.specs.Events.{Happening}
+use Rattle.pg_session.specs.Events.{SubscriberEvent}
 use Rattle.pg_session.specs.Streams.{StreamOf, Turn}
 use Rattle.pg_session.specs.Kept.{by_slots, by_gaps}
 use Rattle.pg_ring.specs.Shown.{Queue}
@@ -33,14 +33,14 @@ abbrev pub beginning : Own → Bool → Sending
 beginning own lost = record { output = own.output; made = 0; kept = 0; lost = lost }
 
 -- All streams took their turns.
-pub record Turned (own : Own) (e : Happening) (lost : Bool) (streams : List (StreamOf (Aligned Piece))) (out : Sending) : Type 0 where
+pub record Turned (own : Own) (e : SubscriberEvent) (lost : Bool) (streams : List (StreamOf (Aligned Piece))) (out : Sending) : Type 0 where
   pub few : out.kept ≤ length (private.frames_of by_slots by_gaps own e)
   pub none : lost ≡ true → out.kept ≡ 0
   pub made : out.made ≡ length (private.frames_of by_slots by_gaps own e)
   pub streams_are : streams ≡ (private.turned by_slots by_gaps own e out.kept).streams
   pub output_is : out.output ≡ (private.turned by_slots by_gaps own e out.kept).output
 
-pub all-turned : (own : Own) (e : Happening) (lost : Bool) (turn : StreamOf (Aligned Piece) → Turn (Aligned Piece)) (streams : List (StreamOf (Aligned Piece)))
+pub all-turned : (own : Own) (e : SubscriberEvent) (lost : Bool) (turn : StreamOf (Aligned Piece) → Turn (Aligned Piece)) (streams : List (StreamOf (Aligned Piece)))
     (old new : Sending) → private.turns_of by_slots by_gaps own e ≡ map turn own.streams → streams ≡ map (λ s. stream_after (turn s)) own.streams
     → old ≡ beginning own lost → Taken (map turn own.streams) old new → Turned own e lost streams new
 all-turned own e lost turn streams old new turns after begun taken =
@@ -75,7 +75,7 @@ same_changed own {g = g} {h = h} {l = l} {m = m} {xs = xs} {ys = ys} {o = o} {p 
     ap (λ k. own_changed own k l xs o) a ∙ ap (λ k. own_changed own h k xs o) b ∙ ap₂ (own_changed own h m) c d
 
 -- an event that no refusal holds of is done
-pub may-done : (own : Own) (e : Happening) (lost : Bool) (r : private.Told) (kept : ℕ) → private.refusal by_slots by_gaps own e ≡ None
+pub may-done : (own : Own) (e : SubscriberEvent) (lost : Bool) (r : private.Told) (kept : ℕ) → private.refusal by_slots by_gaps own e ≡ None
     → kept ≤ length (private.frames_of by_slots by_gaps own e) → (lost ≡ true → kept ≡ 0) → r ≡ private.answer by_slots by_gaps own e kept
     → private.May by_slots by_gaps own e lost r
 may-done own e lost r kept none few zeroed answered = by (private.refusal by_slots by_gaps own e) none

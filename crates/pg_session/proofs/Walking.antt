@@ -265,23 +265,23 @@ fill_past xs i x soc quality frac samples h e off =
 
 -- a copy lies there for each stream up to a place that may keep it
 pub record Spread (xs : List OneStream) (piece : Piece) (items : List Piece) (i : ℕ) : Type 0 where
-  pub laid : items ++ replicate (count_keeping (drop i xs)) piece ≡ replicate (count_keeping xs) piece
+  pub prepared : items ++ replicate (count_keeping (drop i xs)) piece ≡ replicate (count_keeping xs) piece
   pub few : length items ≤ i
 
 pub spread_past : (xs : List OneStream) (piece : Piece) (items : List Piece) → Passes (Spread xs piece items) xs
 spread_past xs piece items i x h e off s = record {
-  laid = ap (λ n. items ++ replicate n piece) (sym (keeping_past xs i x h e off)) ∙ s.laid;
+  prepared = ap (λ n. items ++ replicate n piece) (sym (keeping_past xs i x h e off)) ∙ s.prepared;
   few = omega (arith, s.few);
 }
 
 -- the copies lie there that the streams up to a place ask for
-pub record Laid (xs : List OneStream) (quality : ℕ) (samples : List Sample) (items : List Piece) (i : ℕ) : Type 0 where
-  pub laid : items ++ all_wanted (drop i xs) quality samples ≡ all_wanted xs quality samples
+pub record Prepared (xs : List OneStream) (quality : ℕ) (samples : List Sample) (items : List Piece) (i : ℕ) : Type 0 where
+  pub prepared : items ++ all_wanted (drop i xs) quality samples ≡ all_wanted xs quality samples
   pub few : length items ≤ i * 16
 
-pub laid_past : (xs : List OneStream) (quality : ℕ) (samples : List Sample) (items : List Piece) → Passes (Laid xs quality samples items) xs
-laid_past xs quality samples items i x h e off s = record {
-  laid = ap (λ ys. items ++ ys) (sym (wanted_past xs i x quality samples h e off)) ∙ s.laid;
+pub prepared_past : (xs : List OneStream) (quality : ℕ) (samples : List Sample) (items : List Piece) → Passes (Prepared xs quality samples items) xs
+prepared_past xs quality samples items i x h e off s = record {
+  prepared = ap (λ ys. items ++ ys) (sym (wanted_past xs i x quality samples h e off)) ∙ s.prepared;
   few = omega (arith, s.few);
 }
 
@@ -299,13 +299,13 @@ served_all turn xs now a b s =
 pub spread_all : (xs : List OneStream) (piece : Piece) (items : List Piece) → Spread xs piece items (length xs) → items ≡ replicate (count_keeping xs) piece
 spread_all xs piece items s =
     let none : replicate (count_keeping (drop (length xs) xs)) piece ≡ [] = ap (λ ys. replicate (count_keeping ys) piece) (drop_all (length xs) xs (omega arith)) in
-    sym (append-nil items) ∙ ap (λ ys. items ++ ys) (sym none) ∙ s.laid
+    sym (append-nil items) ∙ ap (λ ys. items ++ ys) (sym none) ∙ s.prepared
 
-pub laid_all : (xs : List OneStream) (quality : ℕ) (samples : List Sample) (items : List Piece) → Laid xs quality samples items (length xs)
+pub prepared_all : (xs : List OneStream) (quality : ℕ) (samples : List Sample) (items : List Piece) → Prepared xs quality samples items (length xs)
     → items ≡ all_wanted xs quality samples
-laid_all xs quality samples items s =
+prepared_all xs quality samples items s =
     let none : all_wanted (drop (length xs) xs) quality samples ≡ [] = ap (λ ys. all_wanted ys quality samples) (drop_all (length xs) xs (omega arith)) in
-    sym (append-nil items) ∙ ap (λ ys. items ++ ys) (sym none) ∙ s.laid
+    sym (append-nil items) ∙ ap (λ ys. items ++ ys) (sym none) ∙ s.prepared
 
 -- the streams up to a place are filled
 abbrev pub Filled : List OneStream → ℕ → ℕ → ℕ → List Sample → ℕ → Type 0

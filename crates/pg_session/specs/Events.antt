@@ -23,25 +23,25 @@ pub record Sample : Type 0 where
   pub config : Part
   pub block : List ℕ
 
-pub data Happening : Type 0 where
+pub data SubscriberEvent : Type 0 where
   -- a PMU is granted, and what it has announced by then, or nothing
-  grant : PmuKey → Option Part → Happening
-  revoke : PmuKey → Happening
+  grant : PmuKey → Option Part → SubscriberEvent
+  revoke : PmuKey → SubscriberEvent
   -- granted PMUs announce their configurations, in the frame's order
-  announce : List Announcing → Happening
+  announce : List Announcing → SubscriberEvent
   -- granted PMUs were measured: the frame's SOC, quality and numerator, and their blocks in the frame's order
-  measure : ℕ → ℕ → ℕ → List Sample → Happening
-  define : Definition → Happening
+  measure : ℕ → ℕ → ℕ → List Sample → SubscriberEvent
+  define : Definition → SubscriberEvent
   -- a stream is removed, by its number
-  remove : ℕ → Happening
+  remove : ℕ → SubscriberEvent
   -- a tick, with its SOC
-  tick : ℕ → Happening
-  connect : Happening
-  hangup : Happening
+  tick : ℕ → SubscriberEvent
+  connect : SubscriberEvent
+  hangup : SubscriberEvent
   -- a command, by its stream number and its word
-  command : ℕ → ℕ → Happening
+  command : ℕ → ℕ → SubscriberEvent
   -- a drain into a buffer of this length
-  drain : ℕ → Happening
+  drain : ℕ → SubscriberEvent
 
 -- the key of a source's PMU
 abbrev pub key_in : Source → Part → PmuKey
@@ -64,16 +64,16 @@ abbrev pub samples_at : Measurement → List ℕ → List Sample
 samples_at m places = flat_map (λ i. sampled_part m i (slice_get m.config.parts i)) places
 
 -- what an event of the code says
-abbrev pub happening : PrivateEvent → Happening
-happening (private.Grant key config) = grant key (option_map (λ c. arc_value c.now) config)
-happening (private.Revoke key) = revoke key
-happening (private.Announce config places) = announce (announced_at config.now places.now)
-happening (private.Measure frame places) =
+abbrev pub subscriber_event : PrivateEvent → SubscriberEvent
+subscriber_event (private.Grant key config) = grant key (option_map (λ c. arc_value c.now) config)
+subscriber_event (private.Revoke key) = revoke key
+subscriber_event (private.Announce config places) = announce (announced_at config.now places.now)
+subscriber_event (private.Measure frame places) =
     measure (arc_value frame.now).soc (arc_value frame.now).quality (arc_value frame.now).frac (samples_at (arc_value frame.now) places.now)
-happening (private.Define definition) = define definition
-happening (private.Remove number) = remove number
-happening (private.Tick soc) = tick soc
-happening private.Connect = connect
-happening private.Hangup = hangup
-happening (private.Command asked) = command asked.stream asked.word
-happening (private.Drain buf) = drain (length buf.items)
+subscriber_event (private.Define definition) = define definition
+subscriber_event (private.Remove number) = remove number
+subscriber_event (private.Tick soc) = tick soc
+subscriber_event private.Connect = connect
+subscriber_event private.Hangup = hangup
+subscriber_event (private.Command asked) = command asked.stream asked.word
+subscriber_event (private.Drain buf) = drain (length buf.items)

@@ -9,7 +9,7 @@ use Rattle.pg_data.specs.Pieces.{Piece}
 use Rattle.pg_data.specs.Measurements.{Measurement, IsMeasurement}
 use Rattle.pg_stream.specs.Slots.{slot_at}
 use Rattle.pg_session.specs.Streams.{Turn, base_of}
-use Rattle.pg_session.specs.Events.{Happening, Sample, samples_at, grant, revoke, announce, measure, define, remove, tick, connect, hangup, command, drain}
+use Rattle.pg_session.specs.Events.{SubscriberEvent, Sample, samples_at, grant, revoke, announce, measure, define, remove, tick, connect, hangup, command, drain}
 use Rattle.pg_session.specs.Private.{Told, done, refused, handed, refusal, answer, May, next, turns_of, frames_of, asks_reply, reply_frame, stream_at}
 use Rattle.pg_session.specs.ByAll.{by_arrivals, by_numbers}
 use Rattle.pg_session.specs.Shown.{Model, begin}
@@ -17,7 +17,7 @@ use Rattle.pg_session.specs.Ready.{ArePlaces}
 
 -- private events, each with the reply to it
 abbrev pub Run : Type 0
-Run = List (Happening × Told)
+Run = List (SubscriberEvent × Told)
 
 -- the state after a run
 abbrev pub after : Model → Run → Model
@@ -29,13 +29,13 @@ abbrev pub unless_refused : Option Refusal → Told → Told
 unless_refused None told = told
 unless_refused (Some r) told = refused r
 
-abbrev pub full_told : Model → Happening → Told
+abbrev pub full_told : Model → SubscriberEvent → Told
 full_told p e =
     unless_refused (refusal by_arrivals by_numbers p e)
     (answer by_arrivals by_numbers p e (length (frames_of by_arrivals by_numbers p e)))
 
 -- private events with the replies to them where no memory is refused
-abbrev pub full_run : Model → List Happening → Run
+abbrev pub full_run : Model → List SubscriberEvent → Run
 full_run p [] = []
 full_run p (e ∷ es) = (e, full_told p e) ∷ full_run (next by_arrivals by_numbers p e (full_told p e)) es
 
@@ -64,7 +64,7 @@ reply_calls None = []
 reply_calls (Some frame) = Reply frame ∷ []
 
 -- what an event that is not refused is to the queue
-abbrev pub calls_done : Model → Happening → ℕ → List Call
+abbrev pub calls_done : Model → SubscriberEvent → ℕ → List Call
 calls_done p (grant key config) kept =
     if has_key p.grants key then [] else turn_calls kept (turns_of by_arrivals by_numbers p (grant key config))
 calls_done p (revoke key) kept = turn_calls kept (turns_of by_arrivals by_numbers p (revoke key))
@@ -79,7 +79,7 @@ calls_done p (command number word) kept =
     reply_calls (if asks_reply word then option_map (reply_frame by_arrivals by_numbers p word) (stream_at p.streams number) else None)
 calls_done p (drain n) kept = Drain n ∷ []
 
-abbrev pub calls_of : Model → Happening → Told → List Call
+abbrev pub calls_of : Model → SubscriberEvent → Told → List Call
 calls_of p e (done made kept) = calls_done p e kept
 calls_of p e (refused r) = []
 calls_of p e (handed bytes begun gap) = calls_done p e 0
@@ -92,8 +92,8 @@ calls_in p (x ∷ xs) = calls_of p x.0 x.1 ++ calls_in (next by_arrivals by_numb
 -- A longer run goes on where the shorter one ends, and hands out the rest after what that handed.
 pub record RunsGoOn : Type 0 where
   -- where no memory is refused the replies are a function of the events, each by the state that those before it leave
-  pub replies : (p : Model) (es fs : List Happening) → full_run p (es ++ fs) ≡ full_run p es ++ full_run (after p (full_run p es)) fs
-  pub may : (p : Model) (e : Happening) → May by_arrivals by_numbers p e false (full_told p e)
+  pub replies : (p : Model) (es fs : List SubscriberEvent) → full_run p (es ++ fs) ≡ full_run p es ++ full_run (after p (full_run p es)) fs
+  pub may : (p : Model) (e : SubscriberEvent) → May by_arrivals by_numbers p e false (full_told p e)
   pub state : (p : Model) (xs ys : Run) → after p (xs ++ ys) ≡ after (after p xs) ys
   pub handed : (xs ys : Run) → handed_in (xs ++ ys) ≡ handed_in xs ++ handed_in ys
 

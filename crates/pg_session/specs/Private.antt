@@ -15,7 +15,7 @@ use Rattle.pg_outcfg.specs.Listing.{Listing, with_config, without_config}
 use Rattle.pg_ring.specs.declared.queue.Drained.{Drained}
 use Rattle.pg_session.specs.declared.event.PrivateReply.{PrivateReply}
 use Rattle.pg_session.specs.declared.event.PrivateReply.TheVariants as reply
-use Rattle.pg_session.specs.Events.{Happening, Announcing, grant, revoke, announce, measure, define, remove, tick, connect, hangup, command, drain}
+use Rattle.pg_session.specs.Events.{SubscriberEvent, Announcing, grant, revoke, announce, measure, define, remove, tick, connect, hangup, command, drain}
 use Rattle.pg_session.specs.Machines.{Alignment, Queueing}
 use Rattle.pg_session.specs.Streams.{StreamOf, Turn, still, effective_in, first_layout, frame_len, reshape_turn, measure_turn, tick_turn}
 use Rattle.pg_session.specs.Output.{Output, turns_taken}
@@ -98,7 +98,7 @@ abbrev pub order_refusal : ℕ → Option Refusal
 order_refusal word = refuse (not (is_known word)) UnknownCommand (refuse (is_unsupported word) Unsupported None)
 
 -- events that may be refused for want of memory
-abbrev pub takes_memory : Happening → Bool
+abbrev pub takes_memory : SubscriberEvent → Bool
 takes_memory (grant key config) = false
 takes_memory (revoke key) = false
 takes_memory (announce list) = false
@@ -115,7 +115,7 @@ takes_memory (drain n) = false
 abbrev pub with_refusal : {Q : Type 0} → Output Q → Refusal → Output Q
 with_refusal out r = record out { stats = record out.stats { by_reason = counted out.stats.by_reason (number_of r) } }
 
-abbrev pub refused_at : {A Q : Type 0} → Private A Q → Happening → Refusal → Private A Q
+abbrev pub refused_at : {A Q : Type 0} → Private A Q → SubscriberEvent → Refusal → Private A Q
 refused_at p (command number word) r = if p.connected then record p { output = with_refusal p.output r } else p
 refused_at p (grant key config) r = p
 refused_at p (revoke key) r = p
@@ -136,7 +136,7 @@ module _ {A Q : Type 0} (slots : Alignment A) (queues : Queueing Q) where
       (refuse (asks_reply word && not (queues.takes_reply p.output.queue)) ReplyFull None))
 
   -- the first refusal of an event that holds, want of memory aside
-  abbrev pub refusal : Private A Q → Happening → Option Refusal
+  abbrev pub refusal : Private A Q → SubscriberEvent → Option Refusal
   refusal p (grant key config) = refuse (not (has_room p.grants key)) GrantsFull None
   refusal p (revoke key) = refuse (not (has_key p.grants key)) NotGranted None
   refusal p (announce list) = None
@@ -154,7 +154,7 @@ module _ {A Q : Type 0} (slots : Alignment A) (queues : Queueing Q) where
 
   -- What an event that may make frames is to each stream, in the order of their definition. Of a list of configurations
   -- all are taken at once, after one flush of each stream whose effective blocks they change.
-  abbrev pub turns_of : Private A Q → Happening → List (Turn A)
+  abbrev pub turns_of : Private A Q → SubscriberEvent → List (Turn A)
   turns_of p (grant key config) =
       if has_key p.grants key then map still p.streams else map (reshape_turn slots p.listed (put_first p.listed key config)) p.streams
   turns_of p (revoke key) = map (reshape_turn slots p.listed (without_config p.listed key)) p.streams
@@ -169,11 +169,11 @@ module _ {A Q : Type 0} (slots : Alignment A) (queues : Queueing Q) where
   turns_of p (drain n) = []
 
   -- the data frames that an event makes
-  abbrev pub frames_of : Private A Q → Happening → List (List ℕ)
+  abbrev pub frames_of : Private A Q → SubscriberEvent → List (List ℕ)
   frames_of p e = flat_map (λ turn. turn.frames) (turns_of p e)
 
   -- each stream takes its turn, and of all frames made the first `kept` are kept
-  abbrev pub turned : Private A Q → Happening → ℕ → Private A Q
+  abbrev pub turned : Private A Q → SubscriberEvent → ℕ → Private A Q
   turned p e kept =
       record p { streams = map (λ turn. turn.stream) (turns_of p e); output = turns_taken queues kept (turns_of p e) p.output }
 
@@ -224,7 +224,7 @@ module _ {A Q : Type 0} (slots : Alignment A) (queues : Queueing Q) where
       }
 
   -- what an event that is not refused does, with the first `kept` of its data frames kept
-  abbrev pub effect : Private A Q → Happening → ℕ → Private A Q
+  abbrev pub effect : Private A Q → SubscriberEvent → ℕ → Private A Q
   effect p (grant key config) kept =
       if has_key p.grants key then p
       else record (turned p (grant key config) kept) { grants = granted p.grants key; listed = put_first p.listed key config }
@@ -250,7 +250,7 @@ module _ {A Q : Type 0} (slots : Alignment A) (queues : Queueing Q) where
   effect p (drain n) kept = record p { output = drained_out p.output n }
 
   -- the reply to an event that is not refused
-  abbrev pub answer : Private A Q → Happening → ℕ → Told
+  abbrev pub answer : Private A Q → SubscriberEvent → ℕ → Told
   answer p (grant key config) kept = done (length (frames_of p (grant key config))) kept
   answer p (revoke key) kept = done (length (frames_of p (revoke key))) kept
   answer p (announce list) kept = done (length (frames_of p (announce list))) kept
@@ -266,14 +266,14 @@ module _ {A Q : Type 0} (slots : Alignment A) (queues : Queueing Q) where
 
   -- This reply may come to the event: its first refusal, or the answer with some of the frames made kept, none where they
   -- are to be lost, or want of memory.
-  abbrev pub May : Private A Q → Happening → Bool → Told → Type 0
+  abbrev pub May : Private A Q → SubscriberEvent → Bool → Told → Type 0
   May p e lost r = MatchOption (refusal p e)
       (((kept : ℕ) × (kept ≤ length (frames_of p e)) × (lost ≡ true → kept ≡ 0) × (r ≡ answer p e kept))
       ⊎ ((r ≡ refused NoMemory) × (takes_memory e ≡ true)))
       (λ first. r ≡ refused first)
 
   -- the state after that reply: a refusal changes nothing but a counter
-  abbrev pub next : Private A Q → Happening → Told → Private A Q
+  abbrev pub next : Private A Q → SubscriberEvent → Told → Private A Q
   next p e (done made kept) = effect p e kept
   next p e (refused r) = refused_at p e r
   next p e (handed bytes begun gap) = effect p e 0

@@ -6,7 +6,7 @@ use Rattle.pg_config.specs.Parts.{Part, block_id}
 use Rattle.pg_data.specs.Pieces.{Piece}
 use Rattle.pg_entitle.specs.Grants.{has_key}
 use Rattle.pg_outcfg.specs.Listing.{Listing, config_at}
-use Rattle.pg_session.specs.Events.{Happening, Announcing, Sample, config_of, happening, grant, revoke, announce, measure, define, remove, tick, connect, hangup, command, drain}
+use Rattle.pg_session.specs.Events.{SubscriberEvent, Announcing, Sample, config_of, subscriber_event, grant, revoke, announce, measure, define, remove, tick, connect, hangup, command, drain}
 use Rattle.pg_session.specs.declared.event.PrivateEvent.{PrivateEvent}
 use Rattle.pg_session.specs.declared.event.PrivateEvent.TheVariants as private
 use Rattle.pg_session.specs.declared.event.PrivateReply.{PrivateReply}
@@ -52,7 +52,7 @@ IsPlaced (private.Drain buf) = Unit {0}
 
 -- An announcement is of granted PMUs alone; so is a measurement, by the configurations listed for them; and what a granted
 -- PMU has announced is of that PMU.
-abbrev pub IsFor : Own → Happening → Type 0
+abbrev pub IsFor : Own → SubscriberEvent → Type 0
 IsFor own (announce list) = AreOwn own.grants list
 IsFor own (measure soc quality frac samples) = AreHeld own.grants own.listed samples
 IsFor own (grant key config) = IfSome config (λ c. block_id c.block ≡ key.pmu)
@@ -68,10 +68,10 @@ IsFor own (drain n) = Unit {0}
 -- The subscriber takes the event.
 pub record Accepts (v : SubscriberValue) (e : PrivateEvent) : Type 0 where
   pub placed : IsPlaced e
-  pub own : IsFor v.own (happening e)
+  pub own : IsFor v.own (subscriber_event e)
 
 -- the copies of blocks that an event asks for: for each stream that is on, of each block that is a member's
-abbrev pub blocks_wanted : Own → Happening → List Piece
+abbrev pub blocks_wanted : Own → SubscriberEvent → List Piece
 blocks_wanted own (measure soc quality frac samples) = all_wanted own.streams quality samples
 blocks_wanted own (announce list) = []
 blocks_wanted own (grant key config) = []
@@ -85,7 +85,7 @@ blocks_wanted own (command number word) = []
 blocks_wanted own (drain n) = []
 
 -- the copies of configurations that an event asks for
-abbrev pub configs_wanted : Own → Happening → List Part
+abbrev pub configs_wanted : Own → SubscriberEvent → List Part
 configs_wanted own (announce list) = map config_of list
 configs_wanted own (grant key config) = granted_wanted own.grants key config
 configs_wanted own (measure soc quality frac samples) = []
@@ -104,12 +104,12 @@ GoesOn items next pieces (Some after) = (drop next items ≡ pieces ++ drop afte
 GoesOn {X = X} items next pieces None = (rest : List X) → drop next items ≢ pieces ++ rest
 
 -- Just the copies that the event asks for lie ready.
-pub record IsReady (v : SubscriberValue) (e : Happening) : Type 0 where
+pub record IsReady (v : SubscriberValue) (e : SubscriberEvent) : Type 0 where
   pub blocks : v.blocks ≡ blocks_wanted v.own e
   pub configs : v.configs ≡ configs_wanted v.own e
 
 -- The event needs no copy.
-pub record NeedsNone (v : SubscriberValue) (e : Happening) : Type 0 where
+pub record NeedsNone (v : SubscriberValue) (e : SubscriberEvent) : Type 0 where
   pub blocks : blocks_wanted v.own e ≡ []
   pub configs : configs_wanted v.own e ≡ []
 

@@ -1,12 +1,12 @@
 -- One step of what is kept of a subscriber.
 use Rattle.std.specs.Prelude.{◌≡◌, ◌≤◌, Bool, []}
-use Rattle.pg_session.specs.Events.{Happening}
+use Rattle.pg_session.specs.Events.{SubscriberEvent}
 use Rattle.pg_session.specs.Private.{Told, done, refused, handed, May, next}
 use Rattle.pg_session.specs.Kept.{by_slots, by_gaps}
 use Rattle.pg_session.specs.Shown.{SubscriberValue}
 
 -- This reply may come to the event, and the state is then its successor.
-pub record Steps (old : SubscriberValue) (e : Happening) (lost : Bool) (r : Told) (new : SubscriberValue) : Type 0 where
+pub record Steps (old : SubscriberValue) (e : SubscriberEvent) (lost : Bool) (r : Told) (new : SubscriberValue) : Type 0 where
   pub may : May by_slots by_gaps old.own e lost r
   pub state : new.own ≡ next by_slots by_gaps old.own e r
 

@@ -1,4 +1,4 @@
-//! The copies of `Arc`s that an event needs. They are laid before it changes anything, as each of them can be refused.
+//! The references (copies of an `Arc`) that an event needs. They are prepared before it changes anything, as each of them can be refused.
 
 ghost use Rattle.std.specs.Prelude.{◌≡◌, ◌+◌, ◌*◌, ◌<◌, ◌≤◌, ◌++◌, [], ◌∷◌, List, length, map, All, None, OnOk, IfErr, IsOk, replicate};
 ghost use Rattle.std.specs.Arc.{arc_value};
@@ -20,13 +20,13 @@ use pg_stream::Definition;
 use pg_wire::{PmuKey, Refusal};
 use std::sync::Arc;
 
-/// Lays a copy of a configuration behind those that lie there. The one refusal is `NoMemory`.
-pub(crate) fn lay_config(
+/// Prepares a copy of a configuration behind those that lie there. The one refusal is `NoMemory`.
+pub(crate) fn prepare_config(
     config: &Arc<PmuConfig>,
     configs: &mut HeapCircularBuffer<Arc<PmuConfig>>,
 ) -> Result<(), Refusal>
     requires room { length configs.old.items < configs.old.capacity }
-    ensures laid { OnOk result (map arc_value configs.new.items ≡ map arc_value configs.old.items ++ arc_value config.now ∷ []) }
+    ensures prepared { OnOk result (map arc_value configs.new.items ≡ map arc_value configs.old.items ++ arc_value config.now ∷ []) }
     ensures long { OnOk result (length configs.new.items ≡ length configs.old.items + 1) }
     ensures capacity { configs.new.capacity ≡ configs.old.capacity }
     ensures memory { IfErr result (λ refusal. refusal ≡ Refusal.NoMemory) }
@@ -38,7 +38,7 @@ pub(crate) fn lay_config(
     Ok(())
 }
 
-/// Lays a copy of what a source says of each of those PMUs, whose places rise. The one refusal is `NoMemory`; some copies may then lie
+/// Prepares a copy of what a source says of each of those PMUs, whose places rise. The one refusal is `NoMemory`; some copies may then lie
 /// there.
 pub fn copy_parts(
     config: &SourceConfig,
@@ -48,21 +48,21 @@ pub fn copy_parts(
     requires rising { AreRising 0 (length config.now.parts) places.now }
     requires empty { configs.old.items ≡ [] }
     requires room { configs.old.capacity ≡ 16 }
-    ensures laid { OnOk result (map arc_value configs.new.items ≡ map config_of (announced_at config.now places.now)) }
+    ensures prepared { OnOk result (map arc_value configs.new.items ≡ map config_of (announced_at config.now places.now)) }
     ensures capacity { configs.new.capacity ≡ configs.old.capacity }
     ensures memory { IfErr result (λ refusal. refusal ≡ Refusal.NoMemory) }
 {
     let _count = config.count();
     for place in places {
-        lay_config(&config.parts[*place], configs)?;
+        prepare_config(&config.parts[*place], configs)?;
     }
     Ok(())
 }
 
-/// Lays a copy of a PMU's block, where that is a member's, which is guessed to be the one at the place `next`. The one refusal
+/// Prepares a copy of a PMU's block, where that is a member's, which is guessed to be the one at the place `next`. The one refusal
 /// is `NoMemory`.
 #[inline(always)]
-fn lay_block(
+fn prepare_block(
     definition: &Definition,
     key: &PmuKey,
     frame: &Arc<DataFrame>,
@@ -73,7 +73,7 @@ fn lay_block(
     requires limits { IsWithinLimits definition.now }
     requires place { place < length (arc_value frame.now).config.parts }
     requires room { length blocks.old.items < blocks.old.capacity }
-    ensures laid { (others : List PlacedBlock) → OnOk result (blocks.new.items ++ map piece_of_placed others
+    ensures prepared { (others : List PlacedBlock) → OnOk result (blocks.new.items ++ map piece_of_placed others
         ≡ blocks.old.items ++ map piece_of_placed (with_place (place_of definition.now.members key.now) (piece_of (arc_value frame.now) place) others)) }
     ensures few { length blocks.new.items ≤ length blocks.old.items + 1 }
     ensures grows { length blocks.old.items ≤ length blocks.new.items }
@@ -84,20 +84,20 @@ fn lay_block(
     if place_next(definition, key, next).is_none() {
         return Ok(());
     }
-    lay_copy(frame, place, blocks)?;
+    prepare_copy(frame, place, blocks)?;
     Ok(())
 }
 
-/// Lays a copy of a block behind those that lie there. The one refusal is `NoMemory`.
+/// Prepares a copy of a block behind those that lie there. The one refusal is `NoMemory`.
 #[inline(always)]
-pub(crate) fn lay_copy(
+pub(crate) fn prepare_copy(
     frame: &Arc<DataFrame>,
     place: usize,
     blocks: &mut HeapCircularBuffer<SharedBlock>,
 ) -> Result<(), Refusal>
     requires place { place < length (arc_value frame.now).config.parts }
     requires room { length blocks.old.items < blocks.old.capacity }
-    ensures laid { OnOk result (blocks.new.items ≡ blocks.old.items ++ piece_of (arc_value frame.now) place ∷ []) }
+    ensures prepared { OnOk result (blocks.new.items ≡ blocks.old.items ++ piece_of (arc_value frame.now) place ∷ []) }
     ensures long { OnOk result (length blocks.new.items ≡ length blocks.old.items + 1) }
     ensures unchanged { IfErr result (λ refusal. blocks.new.items ≡ blocks.old.items) }
     ensures capacity { blocks.new.capacity ≡ blocks.old.capacity }
@@ -110,7 +110,7 @@ pub(crate) fn lay_copy(
     Ok(())
 }
 
-/// Lays a copy of each of those blocks that is a member's; the first is guessed to be the one at the place `guess`. The one
+/// Prepares a copy of each of those blocks that is a member's; the first is guessed to be the one at the place `guess`. The one
 /// refusal is `NoMemory`; some copies may then lie there.
 #[inline(always)]
 pub(crate) fn copy_members(
@@ -123,7 +123,7 @@ pub(crate) fn copy_members(
     requires limits { IsWithinLimits definition.now }
     requires places { All (λ i. i < length (arc_value frame.now).config.parts) places.now }
     requires room { length blocks.old.items + length places.now ≤ blocks.old.capacity }
-    ensures laid { OnOk result (blocks.new.items
+    ensures prepared { OnOk result (blocks.new.items
         ≡ blocks.old.items ++ map piece_of_placed (placed definition.now.members (arc_value frame.now).quality (samples_at (arc_value frame.now) places.now))) }
     ensures few { length blocks.new.items ≤ length blocks.old.items + length places.now }
     ensures needless { placed definition.now.members (arc_value frame.now).quality (samples_at (arc_value frame.now) places.now) ≡ [] → IsOk result }
@@ -134,12 +134,12 @@ pub(crate) fn copy_members(
     let mut next = guess;
     for place in places {
         let key = frame.key(*place);
-        lay_block(definition, &key, frame, *place, &mut next, blocks)?;
+        prepare_block(definition, &key, frame, *place, &mut next, blocks)?;
     }
     Ok(())
 }
 
-/// Lays the copies of a frame's blocks that the streams ask for: those that are on, by their bits. The one refusal is `NoMemory`; some
+/// Prepares the copies of a frame's blocks that the streams ask for: those that are on, by their bits. The one refusal is `NoMemory`; some
 /// copies may then lie there.
 #[inline(always)]
 pub(crate) fn copy_blocks(
@@ -154,7 +154,7 @@ pub(crate) fn copy_blocks(
     requires empty { blocks.old.items ≡ [] }
     requires room { blocks.old.capacity ≡ 128 }
     requires on { AreOn on streams.now }
-    ensures laid { OnOk result (blocks.new.items ≡ all_wanted streams.now (arc_value frame.now).quality (samples_at (arc_value frame.now) places.now)) }
+    ensures prepared { OnOk result (blocks.new.items ≡ all_wanted streams.now (arc_value frame.now).quality (samples_at (arc_value frame.now) places.now)) }
     ensures needless { all_wanted streams.now (arc_value frame.now).quality (samples_at (arc_value frame.now) places.now) ≡ [] → IsOk result }
     ensures capacity { blocks.new.capacity ≡ blocks.old.capacity }
     ensures memory { IfErr result (λ refusal. refusal ≡ Refusal.NoMemory) }
@@ -163,12 +163,12 @@ pub(crate) fn copy_blocks(
     let mut left = u64::from(on);
     'on: while left != 0 {
         let at = take_lowest(&mut left);
-        streams[at].lay_copies(frame, places, blocks)?;
+        streams[at].prepare_copies(frame, places, blocks)?;
     }
     Ok(())
 }
 
-/// Lays a copy of a frame's only block for each stream where it may stay. The one refusal is `NoMemory`; some copies may then lie there.
+/// Prepares a copy of a frame's only block for each stream where it may stay. The one refusal is `NoMemory`; some copies may then lie there.
 #[inline(always)]
 pub(crate) fn copy_for_each(
     frame: &Arc<DataFrame>,
@@ -182,13 +182,13 @@ pub(crate) fn copy_for_each(
     requires empty { blocks.old.items ≡ [] }
     requires room { blocks.old.capacity ≡ 128 }
     requires on { AreOn on streams.now }
-    ensures laid { OnOk result (blocks.new.items ≡ replicate (count_keeping streams.now) (piece_of (arc_value frame.now) place)) }
+    ensures prepared { OnOk result (blocks.new.items ≡ replicate (count_keeping streams.now) (piece_of (arc_value frame.now) place)) }
     ensures capacity { blocks.new.capacity ≡ blocks.old.capacity }
 {
     let mut left = u64::from(on);
     'on: while left != 0 {
         let at = take_lowest(&mut left);
-        streams[at].lay_one(frame, place, blocks)?;
+        streams[at].prepare_one(frame, place, blocks)?;
     }
     Ok(())
 }

@@ -1,4 +1,4 @@
-//! What a subscriber is told, and what it answers.
+//! The events of one subscriber, and the replies to them.
 
 use pg_command::Command;
 use pg_config::{PmuConfig, SourceConfig};

@@ -1,4 +1,4 @@
-//! Laws of whole runs of private events, as contracts of functions that do nothing.
+//! Lemmas about whole runs of private events: contracts of functions that do nothing.
 
 ghost use Rattle.pg_session.specs.Counts.{ChangesAreTold};
 ghost use Rattle.pg_session.specs.Laws.{NeedsNoMemory, NumbersAreKept, OnlyTimeEnds, RunsGoOn};

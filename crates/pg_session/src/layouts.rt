@@ -16,7 +16,7 @@ const AROUND: u16 = 16;
 /// How many of the last layouts of a stream are kept.
 const LAYOUTS: usize = 32;
 
-/// The layouts of a stream's data frames (own rule). A data frame does not say which blocks it carries: its reader knows that by the CFG-2 of
+/// The layouts of a stream's data frames. A data frame does not say which blocks it carries: its reader knows that by the CFG-2 of
 /// its layout.
 #[derive(Clone, Copy, Debug, PartialEq, Eq)]
 pub struct Layouts {

@@ -1,4 +1,5 @@
 //! One subscriber: a private gateway of its own, and the session that cuts its bytes into commands.
+//! What no clause of IEEE C37.118.2 is named for is a rule of this project.
 #![tactic(auto)]
 
 mod accepting;

@@ -1,4 +1,4 @@
-//! What a subscriber's frames go to: its queue, its counters, and what an event made and kept so far.
+//! A subscriber's output: its queue, its counters, and how many frames the event made and kept so far.
 
 ghost use Rattle.std.specs.Prelude.{◌≡◌, ◌+◌, ◌<◌, ◌≤◌, ◌^◌, List, ◌∷◌, [], ℕ, length, take, drop, min, sum_by, true, false, if◌then◌else◌, IfOk, IfErr, Ok, Err, Some, vec_len};
 ghost use Rattle.pg_session.specs.Sending.{Sending, Sends};

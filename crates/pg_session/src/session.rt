@@ -76,7 +76,7 @@ impl Session {
         self.sub
     }
 
-    /// Gives out the buffer that it keeps for drains, of 16,384 bytes (own rule), so that no drain takes memory. Until one is
+    /// Gives out the buffer that it keeps for drains, of 16,384 bytes, so that no drain takes memory. Until one is
     /// put back it keeps an empty one, and nothing is left to write.
     pub fn take_buffer(&mut self) -> Vec<u8>
         ensures buffer { vec_len result ≡ self.old.buffer }

@@ -8,7 +8,7 @@ use crate::layouts::Layouts;
 use pg_outcfg::ConfigList;
 use pg_wire::{PmuKey, StreamId};
 
-/// How a subscriber stands: what waits for it, and one of its streams (own rule).
+/// How a subscriber stands: what waits for it, and one of its streams.
 #[derive(Clone, Copy, Debug, PartialEq, Eq)]
 pub struct Standing {
     /// The frames that wait to be handed out, replies and data frames. The one in hand is one of them where bytes of it are left.
@@ -19,7 +19,7 @@ pub struct Standing {
     pub stream: Option<StreamStanding>,
 }
 
-/// How a stream stands (own rule).
+/// How a stream stands.
 #[derive(Clone, Copy, Debug, PartialEq, Eq)]
 pub struct StreamStanding {
     /// Its number.

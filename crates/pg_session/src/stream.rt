@@ -27,7 +27,7 @@ ghost use Rattle.pg_session.specs.Standing.{stream_standing};
 use crate::accepting::after_members;
 use crate::arriving::{arrive_all_in, arrive_one, count_placed, has_placed, pass_all};
 use crate::change::{Change, config_of};
-use crate::copying::{copy_members, lay_copy};
+use crate::copying::{copy_members, prepare_copy};
 use crate::filling::{Brought, place_all, place_one, send_filled};
 use crate::layouts::{Layouts, frame_len, frame_len_after};
 use crate::leaving::{flush_all, leave_all};
@@ -47,8 +47,8 @@ use std::sync::Arc;
 const MOST_MEMBERS: usize = 32;
 
 /// A stream: its definition, its open slots, and the count of changes of the CFG-1 list since its definition. `front` is that of
-/// its last data frame, a good guess for the next one, or of none where its effective members have changed since. `guess` is the place of
-/// the member whose block is guessed to come next: behind the last one that came it is the next.
+/// its last data frame, a good guess for the next one, or of none where its effective members have changed since. `guess` is the index of
+/// the member whose block is expected next.
 #[derive(Drop)]
 pub(crate) struct Stream {
     definition: Definition,
@@ -476,9 +476,9 @@ impl Stream {
         self.definition.members.as_slice().len() > 1 || self.align.open_slots() > 0
     }
 
-    /// Lays a copy of a frame's only block, where that may stay with it. The one refusal is `NoMemory`.
+    /// Prepares a copy of a frame's only block, where that may stay with it. The one refusal is `NoMemory`.
     #[inline(always)]
-    pub fn lay_one(
+    pub fn prepare_one(
         &self,
         frame: &Arc<DataFrame>,
         place: usize,
@@ -487,14 +487,14 @@ impl Stream {
         requires on { self.now.slots.is_on ≡ true }
         requires place { place < length (arc_value frame.now).config.parts }
         requires room { length blocks.old.items < blocks.old.capacity }
-        ensures laid { OnOk result (blocks.new.items ≡ blocks.old.items ++ replicate (if may_keep self.now then 1 else 0) (piece_of (arc_value frame.now) place)) }
+        ensures prepared { OnOk result (blocks.new.items ≡ blocks.old.items ++ replicate (if may_keep self.now then 1 else 0) (piece_of (arc_value frame.now) place)) }
         ensures few { OnOk result (length blocks.new.items ≤ length blocks.old.items + 1) }
         ensures capacity { blocks.new.capacity ≡ blocks.old.capacity }
     {
         if !self.may_keep() {
             return Ok(());
         }
-        lay_copy(frame, place, blocks)?;
+        prepare_copy(frame, place, blocks)?;
         Ok(())
     }
 
@@ -663,10 +663,10 @@ impl Stream {
         );
     }
 
-    /// Lays a copy of each of those blocks that it asks for, where it is on: of its members'. The one refusal is `NoMemory`; some
-    /// copies may then lie there.
+    /// If the stream is on, takes a reference to the block of each of its members. The one refusal is `NoMemory`; some references may then
+    /// have been taken.
     #[inline(always)]
-    pub fn lay_copies(
+    pub fn prepare_copies(
         &self,
         frame: &Arc<DataFrame>,
         places: &[usize],
@@ -675,7 +675,7 @@ impl Stream {
         requires on { self.now.slots.is_on ≡ true }
         requires places { All (λ i. i < length (arc_value frame.now).config.parts) places.now }
         requires room { length blocks.old.items + length places.now ≤ blocks.old.capacity }
-        ensures laid { OnOk result (blocks.new.items ≡ blocks.old.items ++ wanted_of self.now (arc_value frame.now).quality (samples_at (arc_value frame.now) places.now)) }
+        ensures prepared { OnOk result (blocks.new.items ≡ blocks.old.items ++ wanted_of self.now (arc_value frame.now).quality (samples_at (arc_value frame.now) places.now)) }
         ensures few { length blocks.new.items ≤ length blocks.old.items + length places.now }
         ensures needless { wanted_of self.now (arc_value frame.now).quality (samples_at (arc_value frame.now) places.now) ≡ [] → IsOk result }
         ensures capacity { blocks.new.capacity ≡ blocks.old.capacity }

@@ -4,7 +4,7 @@ ghost use Rattle.std.specs.Prelude.{◌≡◌, ◌+◌, ◌<◌, ◌≤◌, [], 
 ghost use Rattle.std.specs.Arc.{arc_value};
 ghost use Rattle.std.specs.Bool.{Decides};
 ghost use Rattle.pg_entitle.specs.Grants.{has_key};
-ghost use Rattle.pg_session.specs.Events.{Happening, happening, config_of, announced_at, announce, grant, tick, connect, hangup, revoke, remove, drain, command, define, samples_at, measure};
+ghost use Rattle.pg_session.specs.Events.{SubscriberEvent, subscriber_event, config_of, announced_at, announce, grant, tick, connect, hangup, revoke, remove, drain, command, define, samples_at, measure};
 ghost use Rattle.pg_config.specs.Parts.{Part};
 ghost use Rattle.pg_session.specs.Private.{told};
 ghost use Rattle.pg_session.specs.Ready.{Accepts, AreHeld, AreOwn, ArePlaces, IsPlain, IsReady, KeepsBuffer, NeedsNone, ReturnsBuffer};
@@ -12,13 +12,13 @@ ghost use Rattle.pg_session.specs.Shown.{Model, SubscriberValue, ShowsPrivate, T
 ghost use Rattle.pg_session.specs.Standing.{standing_of, own_standing};
 ghost use Rattle.pg_session.specs.Steps.{Steps, MakesFew, HasNoCopies};
 ghost use Rattle.pg_session.specs.Fields.{NeedNoCopies, Serving, Obeys, MayRefuse};
-ghost use Rattle.pg_session.specs.Filling.{IsLaidFor, count_keeping};
+ghost use Rattle.pg_session.specs.Filling.{IsPreparedFor, count_keeping};
 ghost use Rattle.pg_data.specs.Pieces.{piece_of};
 ghost use Rattle.pg_session.specs.Wanted.{all_wanted, granted_wanted};
 
 use crate::accepting::{are_copies, are_held, are_own, are_places, are_wanted, is_copy};
 use crate::change::Change;
-use crate::copying::{copy_blocks, copy_for_each, copy_parts, lay_config};
+use crate::copying::{copy_blocks, copy_for_each, copy_parts, prepare_config};
 use crate::event::{PrivateEvent, PrivateReply};
 use crate::listing::{list_all, list_one};
 use crate::on::mask_of;
@@ -47,12 +47,12 @@ use std::sync::Arc;
 /// The most streams of a subscriber.
 const MOST_STREAMS: usize = 8;
 
-/// The most copies that an event asks for: of blocks 16 for each stream, of configurations 16.
+/// The most references that an event needs: to blocks 16 for each stream, to configurations 16.
 const MOST_BLOCKS: usize = 128;
 
 const MOST_CONFIGS: usize = 16;
 
-/// One subscriber: its grants, its streams, its queue and its counters (own rule). Nothing that it holds speaks of another. `on` has the
+/// One subscriber: its grants, its streams, its queue and its counters. Nothing that it holds speaks of another. `on` has the
 /// bits of those streams that are on, each by its place, so that a data frame visits no other.
 #[derive(Drop)]
 pub struct Subscriber {
@@ -158,7 +158,7 @@ impl Subscriber {
         self.connected
     }
 
-    /// How many PMUs are granted: at most 32 (own rule).
+    /// How many PMUs are granted: at most 32.
     pub fn grant_count(&self) -> usize
         ensures value { result ≡ length self.now.own.grants }
         ensures few { result ≤ 32 }
@@ -166,7 +166,7 @@ impl Subscriber {
         self.grants.len()
     }
 
-    /// How many streams are defined: at most 8 (own rule).
+    /// How many streams are defined: at most 8.
     pub fn stream_count(&self) -> usize
         ensures value { result ≡ length self.now.own.streams }
         ensures few { result ≤ 8 }
@@ -221,7 +221,7 @@ impl Subscriber {
         }
     }
 
-    /// Lays the copies that an event needs, before anything changes. Those that lay ready before are given up. Where the event
+    /// Prepares the copies that an event needs, before anything changes. Those that lay ready before are given up. Where the event
     /// needs none it takes no memory.
     ///
     /// # Errors
@@ -230,14 +230,14 @@ impl Subscriber {
     #[inline(always)]
     pub fn copies(&mut self, event: &PrivateEvent<'_>) -> Result<(), Refusal>
         requires accepts { Accepts self.old event.now }
-        ensures ready { IfOk result (λ u. IsReady self.new (happening event.now)) }
+        ensures ready { IfOk result (λ u. IsReady self.new (subscriber_event event.now)) }
         ensures none { IfErr result (λ refusal. HasNoCopies self.new) }
         ensures memory { IfErr result (λ refusal. refusal ≡ Refusal.NoMemory) }
-        ensures needless { NeedsNone self.old (happening event.now) → IsOk result }
+        ensures needless { NeedsNone self.old (subscriber_event event.now) → IsOk result }
         ensures own { self.new.own ≡ self.old.own }
     {
         self.forget();
-        match self.lay(event) {
+        match self.prepare(event) {
             Ok(_) => Ok(()),
             Err(refusal) => {
                 self.forget();
@@ -249,7 +249,7 @@ impl Subscriber {
     /// Whether just the copies lie ready that an event needs. Any event may be asked about: a place that its frame does not have
     /// needs none.
     pub fn ready(&self, event: &PrivateEvent<'_>) -> bool
-        ensures { Decides result (IsReady self.now (happening event.now)) }
+        ensures { Decides result (IsReady self.now (subscriber_event event.now)) }
     {
         match event {
             PrivateEvent::Grant(key, Some(config)) => {
@@ -275,18 +275,18 @@ impl Subscriber {
         self.configs.len() == 1 && is_copy(&self.configs, 0, config)
     }
 
-    /// Lays the copies that an event needs, where none lie.
+    /// Prepares the copies that an event needs, where none lie.
     #[inline(always)]
-    fn lay(&mut self, event: &PrivateEvent<'_>) -> Result<(), Refusal>
+    fn prepare(&mut self, event: &PrivateEvent<'_>) -> Result<(), Refusal>
         requires accepts { Accepts self.old event.now }
         requires none { HasNoCopies self.old }
-        ensures ready { IfOk result (λ u. IsReady self.new (happening event.now)) }
+        ensures ready { IfOk result (λ u. IsReady self.new (subscriber_event event.now)) }
         ensures memory { IfErr result (λ refusal. refusal ≡ Refusal.NoMemory) }
-        ensures needless { NeedsNone self.old (happening event.now) → IsOk result }
+        ensures needless { NeedsNone self.old (subscriber_event event.now) → IsOk result }
         ensures own { self.new.own ≡ self.old.own }
     {
         match event {
-            PrivateEvent::Grant(key, Some(config)) => self.lay_granted(key, config),
+            PrivateEvent::Grant(key, Some(config)) => self.prepare_granted(key, config),
             PrivateEvent::Announce(config, places) => {
                 copy_parts(config, places, &mut self.configs)
             }
@@ -297,9 +297,9 @@ impl Subscriber {
         }
     }
 
-    /// Lays the copy that a grant needs: of what the PMU has announced, where it is granted anew.
+    /// Prepares the copy that a grant needs: of what the PMU has announced, where it is granted anew.
     #[inline(never)]
-    fn lay_granted(&mut self, key: &PmuKey, config: &Arc<PmuConfig>) -> Result<(), Refusal>
+    fn prepare_granted(&mut self, key: &PmuKey, config: &Arc<PmuConfig>) -> Result<(), Refusal>
         requires none { HasNoCopies self.old }
         ensures blocks { self.new.blocks ≡ [] }
         ensures configs { IfOk result (λ u. self.new.configs ≡ granted_wanted self.old.own.grants key.now (Some (arc_value config.now))) }
@@ -313,7 +313,7 @@ impl Subscriber {
         if self.grants.is_full() {
             return Ok(());
         }
-        lay_config(config, &mut self.configs)?;
+        prepare_config(config, &mut self.configs)?;
         Ok(())
     }
 
@@ -347,10 +347,10 @@ impl Subscriber {
     #[inline(always)]
     pub fn take(&mut self, event: PrivateEvent<'_>, lost: bool) -> PrivateReply
         requires accepts { Accepts self.old event }
-        requires ready { IsReady self.old (happening event) }
-        ensures takes { Takes self.old (happening event.entry) lost (told result) self.new }
+        requires ready { IsReady self.old (subscriber_event event) }
+        ensures takes { Takes self.old (subscriber_event event.entry) lost (told result) self.new }
         // the same of what is kept, whatever state that shows
-        ensures steps { Steps self.old (happening event.entry) lost (told result) self.new }
+        ensures steps { Steps self.old (subscriber_event event.entry) lost (told result) self.new }
         ensures few { MakesFew (told result) }
         ensures buffer { KeepsBuffer event.entry result }
         ensures none { HasNoCopies self.new }
@@ -372,14 +372,14 @@ impl Subscriber {
         }
     }
 
-    /// Lays the copies that a data frame needs, before anything changes, as `copies` does; but none where its blocks leave no slot of a
+    /// Prepares the copies that a data frame needs, before anything changes, as `copies` does; but none where its blocks leave no slot of a
     /// stream open behind them, and of an only block one for each stream where it may stay. Those that lay ready before are given up.
     ///
     /// # Errors
     ///
     /// `NoMemory`, and then no copy lies ready.
     #[inline(always)]
-    pub fn lay_frame(
+    pub fn prepare_frame(
         &mut self,
         frame: &Arc<DataFrame>,
         places: &[usize],
@@ -387,26 +387,26 @@ impl Subscriber {
     ) -> Result<(), Refusal>
         requires places { ArePlaces (length (arc_value frame.now).config.parts) places.now }
         requires held { AreHeld self.old.own.grants self.old.own.listed (samples_at (arc_value frame.now) places.now) }
-        ensures laid { IfOk result (λ u. IsLaidFor self.new (measure (arc_value frame.now).soc (arc_value frame.now).quality (arc_value frame.now).frac (samples_at (arc_value frame.now) places.now))) }
+        ensures prepared { IfOk result (λ u. IsPreparedFor self.new (measure (arc_value frame.now).soc (arc_value frame.now).quality (arc_value frame.now).frac (samples_at (arc_value frame.now) places.now))) }
         ensures none { IfErr result (λ refusal. HasNoCopies self.new) }
         ensures memory { IfErr result (λ refusal. refusal ≡ Refusal.NoMemory) }
         ensures needless { NeedsNone self.old (measure (arc_value frame.now).soc (arc_value frame.now).quality (arc_value frame.now).frac (samples_at (arc_value frame.now) places.now)) → IsOk result }
         ensures own { self.new.own ≡ self.old.own }
     {
         if places.len() != 1 {
-            return self.lay_just(frame, places, stamps);
+            return self.prepare_just(frame, places, stamps);
         }
         self.forget();
-        self.lay_block(frame, places[0], stamps)
+        self.prepare_block(frame, places[0], stamps)
     }
 
-    /// Lays the copies that a frame's only block needs, as `lay_frame` does, where none lie ready.
+    /// Prepares the copies that a frame's only block needs, as `prepare_frame` does, where none lie ready.
     ///
     /// # Errors
     ///
     /// `NoMemory`, and then no copy lies ready.
     #[inline(always)]
-    pub fn lay_block(
+    pub fn prepare_block(
         &mut self,
         frame: &Arc<DataFrame>,
         place: usize,
@@ -415,21 +415,21 @@ impl Subscriber {
         requires place { place < length (arc_value frame.now).config.parts }
         requires held { AreHeld self.old.own.grants self.old.own.listed (samples_at (arc_value frame.now) (place ∷ [])) }
         requires none { HasNoCopies self.old }
-        ensures laid { IfOk result (λ u. IsLaidFor self.new (measure (arc_value frame.now).soc (arc_value frame.now).quality (arc_value frame.now).frac (samples_at (arc_value frame.now) (place ∷ [])))) }
+        ensures prepared { IfOk result (λ u. IsPreparedFor self.new (measure (arc_value frame.now).soc (arc_value frame.now).quality (arc_value frame.now).frac (samples_at (arc_value frame.now) (place ∷ [])))) }
         ensures none { IfErr result (λ refusal. HasNoCopies self.new) }
         ensures memory { IfErr result (λ refusal. refusal ≡ Refusal.NoMemory) }
         ensures needless { NeedsNone self.old (measure (arc_value frame.now).soc (arc_value frame.now).quality (arc_value frame.now).frac (samples_at (arc_value frame.now) (place ∷ []))) → IsOk result }
         ensures own { self.new.own ≡ self.old.own }
     {
-        if self.lay_one(frame, place) {
+        if self.prepare_one(frame, place) {
             return Ok(());
         }
-        self.lay_just(frame, &[place], stamps)
+        self.prepare_just(frame, &[place], stamps)
     }
 
-    /// Lays a copy of a frame's only block for each stream where it may stay. The answer is whether there was memory.
+    /// Prepares a copy of a frame's only block for each stream where it may stay. The answer is whether there was memory.
     #[inline(always)]
-    fn lay_one(&mut self, frame: &Arc<DataFrame>, place: usize) -> bool
+    fn prepare_one(&mut self, frame: &Arc<DataFrame>, place: usize) -> bool
         requires place { place < length (arc_value frame.now).config.parts }
         requires none { HasNoCopies self.old }
         ensures blocks { IsTrue result → self.new.blocks ≡ replicate (count_keeping self.new.own.streams) (piece_of (arc_value frame.now) place) }
@@ -439,9 +439,9 @@ impl Subscriber {
         copy_for_each(frame, place, self.on, &self.streams, &mut self.blocks).is_ok()
     }
 
-    /// Lays just the copies that a data frame asks for, or none, where its blocks leave no slot of a stream open behind them.
+    /// Prepares just the copies that a data frame asks for, or none, where its blocks leave no slot of a stream open behind them.
     #[inline(never)]
-    fn lay_just(
+    fn prepare_just(
         &mut self,
         frame: &Arc<DataFrame>,
         places: &[usize],
@@ -449,7 +449,7 @@ impl Subscriber {
     ) -> Result<(), Refusal>
         requires places { ArePlaces (length (arc_value frame.now).config.parts) places.now }
         requires held { AreHeld self.old.own.grants self.old.own.listed (samples_at (arc_value frame.now) places.now) }
-        ensures laid { IfOk result (λ u. IsLaidFor self.new (measure (arc_value frame.now).soc (arc_value frame.now).quality (arc_value frame.now).frac (samples_at (arc_value frame.now) places.now))) }
+        ensures prepared { IfOk result (λ u. IsPreparedFor self.new (measure (arc_value frame.now).soc (arc_value frame.now).quality (arc_value frame.now).frac (samples_at (arc_value frame.now) places.now))) }
         ensures none { IfErr result (λ refusal. HasNoCopies self.new) }
         ensures memory { IfErr result (λ refusal. refusal ≡ Refusal.NoMemory) }
         ensures needless { NeedsNone self.old (measure (arc_value frame.now).soc (arc_value frame.now).quality (arc_value frame.now).frac (samples_at (arc_value frame.now) places.now)) → IsOk result }
@@ -463,10 +463,10 @@ impl Subscriber {
         Ok(())
     }
 
-    /// Takes a data frame's blocks: the same step as `take` of them, where just the copies lie ready that `lay_frame` lays. Afterwards
+    /// Applies a data frame's blocks: the same step as `take` of them, where just the copies lie ready that `prepare_frame` prepares. Afterwards
     /// no copy lies ready.
     #[inline(always)]
-    pub fn take_frame(
+    pub fn apply_frame(
         &mut self,
         frame: &Arc<DataFrame>,
         places: &[usize],
@@ -475,7 +475,7 @@ impl Subscriber {
     ) -> PrivateReply
         requires places { ArePlaces (length (arc_value frame.now).config.parts) places.now }
         requires held { AreHeld self.old.own.grants self.old.own.listed (samples_at (arc_value frame.now) places.now) }
-        requires laid { IsLaidFor self.old (measure (arc_value frame.now).soc (arc_value frame.now).quality (arc_value frame.now).frac (samples_at (arc_value frame.now) places.now)) }
+        requires prepared { IsPreparedFor self.old (measure (arc_value frame.now).soc (arc_value frame.now).quality (arc_value frame.now).frac (samples_at (arc_value frame.now) places.now)) }
         ensures takes { Takes self.old (measure (arc_value frame.now).soc (arc_value frame.now).quality (arc_value frame.now).frac (samples_at (arc_value frame.now) places.now)) lost (told result) self.new }
         // the same of what is kept, whatever state that shows
         ensures steps { Steps self.old (measure (arc_value frame.now).soc (arc_value frame.now).quality (arc_value frame.now).frac (samples_at (arc_value frame.now) places.now)) lost (told result) self.new }
@@ -492,9 +492,9 @@ impl Subscriber {
         self.measure(frame, places, lost, stamps)
     }
 
-    /// Takes a frame's only block: the same step as `take_frame` of it.
+    /// Applies a frame's only block: the same step as `apply_frame` of it.
     #[inline(always)]
-    pub fn take_block(
+    pub fn apply_block(
         &mut self,
         frame: &Arc<DataFrame>,
         place: usize,
@@ -503,7 +503,7 @@ impl Subscriber {
     ) -> PrivateReply
         requires place { place < length (arc_value frame.now).config.parts }
         requires held { AreHeld self.old.own.grants self.old.own.listed (samples_at (arc_value frame.now) (place ∷ [])) }
-        requires laid { IsLaidFor self.old (measure (arc_value frame.now).soc (arc_value frame.now).quality (arc_value frame.now).frac (samples_at (arc_value frame.now) (place ∷ []))) }
+        requires prepared { IsPreparedFor self.old (measure (arc_value frame.now).soc (arc_value frame.now).quality (arc_value frame.now).frac (samples_at (arc_value frame.now) (place ∷ []))) }
         ensures takes { Takes self.old (measure (arc_value frame.now).soc (arc_value frame.now).quality (arc_value frame.now).frac (samples_at (arc_value frame.now) (place ∷ []))) lost (told result) self.new }
         // the same of what is kept, whatever state that shows
         ensures steps { Steps self.old (measure (arc_value frame.now).soc (arc_value frame.now).quality (arc_value frame.now).frac (samples_at (arc_value frame.now) (place ∷ []))) lost (told result) self.new }

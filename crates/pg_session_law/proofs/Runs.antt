@@ -9,7 +9,7 @@ use Rattle.pg_stream.specs.declared.definition.Definition.{Definition}
 use Rattle.pg_stream.specs.Limits.{is_within_limits}
 use Rattle.pg_align.specs.Histories.{StreamHistory}
 use Rattle.pg_outcfg.specs.Listing.{Listing, without_config}
-use Rattle.pg_session.specs.Events.{Happening, grant, revoke, announce, measure, define, remove, tick, connect, hangup, command, drain}
+use Rattle.pg_session.specs.Events.{SubscriberEvent, grant, revoke, announce, measure, define, remove, tick, connect, hangup, command, drain}
 use Rattle.pg_session.specs.Streams.{StreamOf, frame_len, still, reshape_turn, measure_turn, tick_turn}
 use Rattle.pg_session.specs.Private.{Told, done, refused, handed, May, next, refusal, refuse, refused_at, effect, turns_of, stream_at, defined, stopped, switched, at_stream, put_first, put_all, with_refusal}
 use Rattle.pg_session.specs.ByAll.{by_arrivals, by_numbers}
@@ -100,7 +100,7 @@ none_is : (o : Option OneStream) → is_some o ≡ false → o ≡ None
 none_is None e = refl
 none_is (Some s) e = absurd (cc e)
 
-effect_kept : (p : Model) (e : Happening) (kept : ℕ) → refusal by_arrivals by_numbers p e ≡ None → IsRead p.listed e → IsKept p
+effect_kept : (p : Model) (e : SubscriberEvent) (kept : ℕ) → refusal by_arrivals by_numbers p e ≡ None → IsRead p.listed e → IsKept p
     → IsKept (effect by_arrivals by_numbers p e kept)
 effect_kept p (grant key config) kept none read w = by (has_key p.grants key) refl
   where
@@ -161,7 +161,7 @@ effect_kept p (command asked word) kept none read w = record {
 effect_kept p (drain n) kept none read w = record { checked = w.checked; streams = w.streams }
 
 -- a refusal changes nothing but a counter
-refused_kept : (p : Model) (e : Happening) (r : Refusal) → IsKept p → IsKept (refused_at p e r)
+refused_kept : (p : Model) (e : SubscriberEvent) (r : Refusal) → IsKept p → IsKept (refused_at p e r)
 refused_kept p (command asked word) r w = by p.connected
   where
     by : (b : Bool) → IsKept (if b then record p { output = with_refusal p.output r } else p)
@@ -183,7 +183,7 @@ none_holds : (B : Type 0) (r : Told) → ((first : Refusal) → r ≡ refused fi
 none_holds B r plain None h = refl
 none_holds B r plain (Some first) h = absurd (plain first h)
 
-next_kept : (p : Model) (e : Happening) (r : Told) → May by_arrivals by_numbers p e false r → IsRead p.listed e → IsKept p
+next_kept : (p : Model) (e : SubscriberEvent) (r : Told) → May by_arrivals by_numbers p e false r → IsRead p.listed e → IsKept p
     → IsKept (next by_arrivals by_numbers p e r)
 next_kept p e (done made kept) may read w =
     effect_kept p e kept (none_holds _ (done made kept) (λ first h. cc h) (refusal by_arrivals by_numbers p e) may) read w
@@ -192,7 +192,7 @@ next_kept p e (handed bytes begun gap) may read w =
     effect_kept p e 0 (none_holds _ (handed bytes begun gap) (λ first h. cc h) (refusal by_arrivals by_numbers p e) may) read w
 
 -- the frames that a stream makes at an event
-turns_long : (p : Model) (e : Happening) (number : ℕ) (s : OneStream) → IsRead p.listed e → IsKept p → stream_at p.streams number ≡ Some s
+turns_long : (p : Model) (e : SubscriberEvent) (number : ℕ) (s : OneStream) → IsRead p.listed e → IsKept p → stream_at p.streams number ≡ Some s
     → AreOfLayout s (made_of number (turns_of by_arrivals by_numbers p e))
 turns_long p (grant key config) number s read w found = by (has_key p.grants key)
   where
@@ -217,7 +217,7 @@ turns_long p hangup number s read w found = tt
 turns_long p (command asked word) number s read w found = tt
 turns_long p (drain n) number s read w found = tt
 
-made_long : (p : Model) (e : Happening) (r : Told) (number : ℕ) (s : OneStream) → IsRead p.listed e → IsKept p → stream_at p.streams number ≡ Some s
+made_long : (p : Model) (e : SubscriberEvent) (r : Told) (number : ℕ) (s : OneStream) → IsRead p.listed e → IsKept p → stream_at p.streams number ≡ Some s
     → AreOfLayout s (made_at number p e r)
 made_long p e (done made kept) number s read w found = turns_long p e number s read w found
 made_long p e (refused r) number s read w found = tt
@@ -251,7 +251,7 @@ changed_known listed f each number ss s t fit found there =
     let one = found-so (IsFit listed) number ss s fit found in
     subst (λ l. AreKnownSince 1 s.layouts l) (sym (each s one).layouts ∙ ap (λ (x : OneStream). x.layouts) same) (known-same 1 s.layouts one.number)
 
-effect_known : (p : Model) (e : Happening) (kept number : ℕ) (s t : OneStream) → IsRead p.listed e → IsKept p → stream_at p.streams number ≡ Some s
+effect_known : (p : Model) (e : SubscriberEvent) (kept number : ℕ) (s t : OneStream) → IsRead p.listed e → IsKept p → stream_at p.streams number ≡ Some s
     → stream_at (effect by_arrivals by_numbers p e kept).streams number ≡ Some t → AreKnownSince 1 s.layouts t.layouts
 effect_known p (grant key config) kept number s t read w found there = by (has_key p.grants key) refl there
   where
@@ -288,7 +288,7 @@ effect_known p (command asked word) kept number s t read w found there =
     number p.streams s t w.streams.fit found there
 effect_known p (drain n) kept number s t read w found there = same_known 1 p.listed number p.streams s t w.streams.fit found there
 
-refused_streams : (p : Model) (e : Happening) (r : Refusal) → (refused_at p e r).streams ≡ p.streams
+refused_streams : (p : Model) (e : SubscriberEvent) (r : Refusal) → (refused_at p e r).streams ≡ p.streams
 refused_streams p (command asked word) r = by p.connected
   where
     by : (b : Bool) → (if b then record p { output = with_refusal p.output r } else p).streams ≡ p.streams
@@ -305,7 +305,7 @@ refused_streams p connect r = refl
 refused_streams p hangup r = refl
 refused_streams p (drain n) r = refl
 
-next_known : (p : Model) (e : Happening) (r : Told) (number : ℕ) (s t : OneStream) → IsRead p.listed e → IsKept p → stream_at p.streams number ≡ Some s
+next_known : (p : Model) (e : SubscriberEvent) (r : Told) (number : ℕ) (s t : OneStream) → IsRead p.listed e → IsKept p → stream_at p.streams number ≡ Some s
     → stream_at (next by_arrivals by_numbers p e r).streams number ≡ Some t → AreKnownSince 1 s.layouts t.layouts
 next_known p e (done made kept) number s t read w found there = effect_known p e kept number s t read w found there
 next_known p e (refused r) number s t read w found there =
@@ -331,7 +331,7 @@ pub head-told : (p : Model) (number : ℕ) (s : StreamOf (StreamHistory Piece)) 
     → slice_index s.layouts.lengths 0 ≡ frame_len p.listed s.definition.members
 head-told p number s is found = (found-so (IsFit p.listed) number p.streams s (reached_kept p is).streams.fit found).head
 
-pub frames-told : (p : Model) (number : ℕ) (s : StreamOf (StreamHistory Piece)) (e : Happening) (r : Told) → IsReached p → stream_at p.streams number ≡ Some s
+pub frames-told : (p : Model) (number : ℕ) (s : StreamOf (StreamHistory Piece)) (e : SubscriberEvent) (r : Told) → IsReached p → stream_at p.streams number ≡ Some s
     → IsRead p.listed e → AllByRecursion (λ frame. length frame ≡ slice_index s.layouts.lengths 0) (made_at number p e r)
 frames-told p number s e r is found read = made_long p e r number s read (reached_kept p is) found
 

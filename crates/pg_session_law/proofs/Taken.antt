@@ -11,7 +11,7 @@ use Rattle.pg_data.proofs.Blocks.{lens_within, place_sized, range_sized}
 use Rattle.pg_outcfg.specs.Listing.{Listing}
 use Rattle.pg_session.specs.declared.event.PrivateEvent.{PrivateEvent}
 use Rattle.pg_session.specs.declared.event.PrivateEvent.TheVariants as private
-use Rattle.pg_session.specs.Events.{happening, announced_part, announced_at, sampled_part, samples_at}
+use Rattle.pg_session.specs.Events.{subscriber_event, announced_part, announced_at, sampled_part, samples_at}
 use Rattle.pg_session.specs.Shown.{Model, SubscriberValue, ShowsPrivate}
 use Rattle.pg_session.specs.Ready.{Accepts, AreHeld}
 use Rattle.pg_session_law.specs.Lengths.{IsChecked, IsLongAs, IsLongBy, IsRead, WasChecked}
@@ -55,7 +55,7 @@ samples_long m grants listed (i ∷ places) is held =
 
 -- ---- events
 
-own_read : (v : SubscriberValue) (e : PrivateEvent) → Accepts v e → WasChecked e → IsRead v.own.listed (happening e)
+own_read : (v : SubscriberValue) (e : PrivateEvent) → Accepts v e → WasChecked e → IsRead v.own.listed (subscriber_event e)
 own_read v (private.Grant key None) takes is = tt
 own_read v (private.Grant key (Some config)) takes is = is
 own_read v (private.Announce config places) takes is = announced_checked config.now places.now is
@@ -69,5 +69,5 @@ own_read v private.Hangup takes is = tt
 own_read v (private.Command asked) takes is = tt
 own_read v (private.Drain buf) takes is = tt
 
-pub taken-read : (v : SubscriberValue) (p : Model) (e : PrivateEvent) → ShowsPrivate v p → Accepts v e → WasChecked e → IsRead p.listed (happening e)
-taken-read v p e shows takes is = subst (λ listed. IsRead listed (happening e)) shows.listed (own_read v e takes is)
+pub taken-read : (v : SubscriberValue) (p : Model) (e : PrivateEvent) → ShowsPrivate v p → Accepts v e → WasChecked e → IsRead p.listed (subscriber_event e)
+taken-read v p e shows takes is = subst (λ listed. IsRead listed (subscriber_event e)) shows.listed (own_read v e takes is)

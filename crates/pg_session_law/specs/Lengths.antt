@@ -9,7 +9,7 @@ use Rattle.pg_align.specs.Histories.{StreamHistory}
 use Rattle.pg_outcfg.specs.Listing.{Listing, config_at}
 use Rattle.pg_session.specs.declared.event.PrivateEvent.{PrivateEvent}
 use Rattle.pg_session.specs.declared.event.PrivateEvent.TheVariants as private
-use Rattle.pg_session.specs.Events.{Happening, Announcing, Sample, happening, grant, revoke, announce, measure, define, remove, tick, connect, hangup, command, drain}
+use Rattle.pg_session.specs.Events.{SubscriberEvent, Announcing, Sample, subscriber_event, grant, revoke, announce, measure, define, remove, tick, connect, hangup, command, drain}
 use Rattle.pg_session.specs.declared.layouts.Layouts.{Layouts}
 use Rattle.pg_session.specs.Streams.{StreamOf, frame_len}
 use Rattle.pg_session.specs.Private.{Told, next, stream_at}
@@ -33,7 +33,7 @@ abbrev pub IsLongBy : Listing → Sample → Type 0
 IsLongBy listed s = IsLongAs (config_at listed s.key) s.block
 
 -- What an event brings was read: its configurations were checked, and its blocks are as long as the listed configurations say.
-abbrev pub IsRead : Listing → Happening → Type 0
+abbrev pub IsRead : Listing → SubscriberEvent → Type 0
 IsRead listed (grant key config) = IfSome config IsPart
 IsRead listed (announce list) = AllByRecursion IsChecked list
 IsRead listed (measure soc quality frac samples) = AllByRecursion (IsLongBy listed) samples
@@ -96,11 +96,11 @@ pub record LengthsAreKnown : Type 0 where
       → slice_index s.layouts.lengths 0 ≡ frame_len p.listed s.definition.members
   -- Each data frame that the stream makes at the next event has that length. Where the event changes the layout, its frames are still of
   -- the layout before it.
-  pub frames : (p : Model) (number : ℕ) (s : StreamOf (StreamHistory Piece)) (e : Happening) (r : Told) → IsReached p → stream_at p.streams number ≡ Some s
+  pub frames : (p : Model) (number : ℕ) (s : StreamOf (StreamHistory Piece)) (e : SubscriberEvent) (r : Told) → IsReached p → stream_at p.streams number ≡ Some s
       → IsRead p.listed e → AllByRecursion (λ frame. length frame ≡ slice_index s.layouts.lengths 0) (made_at number p e r)
   -- Behind more events the lengths are still known, so that the layout's number when a frame was made gives the frame's length.
   pub known : (p : Model) (run : Run) (number : ℕ) (s t : StreamOf (StreamHistory Piece)) → IsReached p → IsLegal p run → AreRead p run
       → stream_at p.streams number ≡ Some s → StaysDefined number p run → stream_at (after p run).streams number ≡ Some t
       → AreKnownSince (length run) s.layouts t.layouts
   -- Each event that a subscriber takes was read, in whatever state the subscriber shows.
-  pub taken : (v : SubscriberValue) (p : Model) (e : PrivateEvent) → ShowsPrivate v p → Accepts v e → WasChecked e → IsRead p.listed (happening e)
+  pub taken : (v : SubscriberValue) (p : Model) (e : PrivateEvent) → ShowsPrivate v p → Accepts v e → WasChecked e → IsRead p.listed (subscriber_event e)

@@ -6,11 +6,11 @@ use mathlib.Core.List.{IsPrefix}
 use Rattle.pg_wire.specs.declared.refusal.Refusal.{Refusal}
 use Rattle.pg_turn.specs.Known.{Known}
 use Rattle.pg_session.specs.Events as session
-use Rattle.pg_session.specs.Events.{Happening, drain}
+use Rattle.pg_session.specs.Events.{SubscriberEvent, drain}
 use Rattle.pg_gateway.specs.declared.event.Event.{Event}
 use Rattle.pg_gateway.specs.declared.event.Reply.{Reply}
-use Rattle.pg_gateway.specs.Occurrences as gateway
-use Rattle.pg_gateway.specs.Occurrences.{Occurrence, occurrence, asks, tells}
+use Rattle.pg_gateway.specs.GatewayEvents as gateway
+use Rattle.pg_gateway.specs.GatewayEvents.{GatewayEvent, gateway_event, asks, tells}
 use Rattle.pg_gateway.specs.Sharing.{SubscriberSlot}
 use Rattle.pg_gateway.specs.State.{SharedMachine, opening, own_answer}
 use Rattle.pg_gateway.specs.Histories.{said}
@@ -59,7 +59,7 @@ decided_by_views u s s' t t' left left' w w' x x' one other full own full' own' 
 
 -- ---- where nobody drains a subscriber it is handed nothing
 
-own_quiet : (o : Option Refusal) (seat : Option SubscriberSlot) (x : Happening) (k : ℕ) → ((size : ℕ) → x ≢ drain size)
+own_quiet : (o : Option Refusal) (seat : Option SubscriberSlot) (x : SubscriberEvent) (k : ℕ) → ((size : ℕ) → x ≢ drain size)
     → handed_out (full_by o (tells (own_answer seat x k))) ≡ []
 own_quiet (Some r) seat x k free = refl
 own_quiet None None x k free = refl
@@ -82,7 +82,7 @@ asked_quiet u w l none = by (nat_eq u w) refl
     by true is = ap (λ (b : Bool). bytes_of (if b then l else [])) is ∙ ap bytes_of (none (eqb-true u w is))
     by false is = ap (λ (b : Bool). bytes_of (if b then l else [])) is
 
-full_quiet : (u : ℕ) (S : SharedMachine) (e : Occurrence) → ((size : ℕ) → e ≢ asks u (drain size)) → bytes_of (handed_one u e (full_answer S e)) ≡ []
+full_quiet : (u : ℕ) (S : SharedMachine) (e : GatewayEvent) → ((size : ℕ) → e ≢ asks u (drain size)) → bytes_of (handed_one u e (full_answer S e)) ≡ []
 full_quiet u S (gateway.asks w x) free =
     asked_quiet u w (handed_out (full_answer S (asks w x)))
     (λ same. own_quiet _ _ x _ (λ size is. free size (ap₂ (λ y z. asks y z) (sym same) is)))
@@ -104,7 +104,7 @@ all_quiet : (u : ℕ) (S : SharedMachine) (calls : List Call) → NoneDrains u (
     → bytes_of (handed_to u (events_in calls) (full_answers S (events_in calls))) ≡ []
 all_quiet u S [] free = refl
 all_quiet u S (x ∷ calls) free =
-    let e = occurrence x.0 in
+    let e = gateway_event x.0 in
     let later = shared_step S e in
     flat_map-append (λ (y : Handed). y.0) (handed_one u e (full_answer S e)) (handed_to u (events_in calls) (full_answers later (events_in calls)))
     ∙ ap₂ (λ y z. y ++ z) (full_quiet u S e free.0) (all_quiet u later calls free.1)

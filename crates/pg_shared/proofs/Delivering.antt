@@ -13,7 +13,7 @@ use Rattle.pg_gateway.specs.declared.event.Event.{Event}
 use Rattle.pg_gateway.specs.declared.event.Event.TheVariants as event
 use Rattle.pg_gateway.specs.declared.event.Reply.{Reply}
 use Rattle.pg_gateway.specs.declared.event.Reply.TheVariants as reply
-use Rattle.pg_gateway.specs.Occurrences.{Occurrence, occurrence, told, Answer, asks, tells, sub_counts, pmu_counts, entry, stands, those_waiting}
+use Rattle.pg_gateway.specs.GatewayEvents.{GatewayEvent, gateway_event, told, Answer, asks, tells, sub_counts, pmu_counts, entry, stands, those_waiting}
 use Rattle.pg_gateway.specs.State.{SharedMachine, opening, own_of, next}
 use Rattle.pg_gateway.specs.Histories.{Legal, state_after, said}
 use Rattle.pg_gateway.specs.Laws.{after, events_of, answers_of}
@@ -80,7 +80,7 @@ other_none u w l other = by (nat_eq u w) refl
     by false is = ap (λ (b : Bool). bytes_of (if b then l else [])) is
 
 -- A call that is no drain of u hands it nothing.
-none_given : (u : ℕ) (e : Event) (r : Reply) → Answers e r → ((size : ℕ) → occurrence e ≢ asks u (drain size)) → given_to u (said (e, r)) ≡ []
+none_given : (u : ℕ) (e : Event) (r : Reply) → Answers e r → ((size : ℕ) → gateway_event e ≢ asks u (drain size)) → given_to u (said (e, r)) ≡ []
 none_given u (event.Drain w buf) r h free = other_none u w (handed_out (told r)) (λ same. free (length buf.items) (ap (λ x. asks x (drain (length buf.items))) (sym same)))
 none_given u (event.AddPmu key) r h free = refl
 none_given u (event.DropPmu key) r h free = refl
@@ -245,13 +245,13 @@ delivers_meanwhile u s s' left w on others = record {
       ∙ given_behind u s.seen on.pieces (went_legal s s' on) (went_full s s' on full));
 }
 
-pub view_more : (u : ℕ) (S : SharedMachine) (es fs : List Occurrence) → view u S (es ++ fs) ≡ view u S es ++ view u (shared_run S es) fs
+pub view_more : (u : ℕ) (S : SharedMachine) (es fs : List GatewayEvent) → view u S (es ++ fs) ≡ view u S es ++ view u (shared_run S es) fs
 view_more u S [] fs = refl
 view_more u S (e ∷ es) fs =
     ap (λ l. part u S e ++ l) (view_more u (shared_step S e) es fs)
     ∙ sym (append_assoc (part u S e) (view u (shared_step S e) es) (view u (shared_run (shared_step S e) es) fs))
 
-run_more : (S : SharedMachine) (es fs : List Occurrence) → shared_run S (es ++ fs) ≡ shared_run (shared_run S es) fs
+run_more : (S : SharedMachine) (es fs : List GatewayEvent) → shared_run S (es ++ fs) ≡ shared_run (shared_run S es) fs
 run_more S [] fs = refl
 run_more S (e ∷ es) fs = run_more (shared_step S e) es fs
 
@@ -267,7 +267,7 @@ handed_more o (x ∷ xs) ys =
 
 pub events_more : (a b : List Call) → events_in (a ++ b) ≡ events_in a ++ events_in b
 events_more [] b = refl
-events_more (x ∷ a) b = ap (λ l. occurrence x.0 ∷ l) (events_more a b)
+events_more (x ∷ a) b = ap (λ l. gateway_event x.0 ∷ l) (events_more a b)
 
 pub private_both : (u : ℕ) (a b k : List Call) → private_bytes u a (b ++ k) ≡ private_bytes u a b ++ private_bytes u (a ++ b) k
 private_both u a b k =

@@ -5,7 +5,7 @@ use Rattle.pg_turn.specs.Known.{Known}
 use Rattle.pg_turn.specs.Turns.{IsLegalAfter, IsLegal, Called}
 use Rattle.pg_gateway.specs.declared.event.Event.{Event}
 use Rattle.pg_gateway.specs.declared.event.Reply.{Reply}
-use Rattle.pg_gateway.specs.Occurrences.{Occurrence, occurrence, asks, Answer, told}
+use Rattle.pg_gateway.specs.GatewayEvents.{GatewayEvent, gateway_event, asks, Answer, told}
 use Rattle.pg_gateway.specs.State.{SharedMachine, opening, own_of, May, next}
 use Rattle.pg_gateway.specs.Histories.{Legal, state_after, said, MayCall}
 use Rattle.pg_gateway.specs.Laws.{events_of, answers_of, after}
@@ -19,7 +19,7 @@ use Rattle.pg_shared.proofs.Opening.{state_after-append}
 -- the state after one call more
 state_more : (calls : List Call) (x : Call)
     → state_after opening (history_of (calls ++ x ∷ []))
-    ≡ next (state_after opening (history_of calls)) (occurrence x.0) (told x.1)
+    ≡ next (state_after opening (history_of calls)) (gateway_event x.0) (told x.1)
 state_more calls x = ap (λ h. state_after opening h) (map-append said calls (x ∷ []))
     ∙ state_after-append opening (history_of calls) (said x ∷ [])
 
@@ -63,22 +63,22 @@ posts v e r w called =
       between_answers = answered_behind [] v.seen called.0 (e, r) (subst (λ h. IsLegal MayCall h) called.1 called.3);
     }
 
-pub hands_by_views : (h : List (Occurrence × Answer)) → Legal opening h → HandsByViews h
+pub hands_by_views : (h : List (GatewayEvent × Answer)) → Legal opening h → HandsByViews h
 hands_by_views h legal full u = ap (λ answers. handed_to u (events_of h) answers) (full_history opening h legal full).0
     ∙ handed-run u opening (events_of h) tt
 
 -- the parts of a legal history without loss, before its last call and at it
-legal_front : (S : SharedMachine) (before : List (Occurrence × Answer)) (x : Occurrence × Answer) → Legal S (before ++ x ∷ [])
+legal_front : (S : SharedMachine) (before : List (GatewayEvent × Answer)) (x : GatewayEvent × Answer) → Legal S (before ++ x ∷ [])
     → Legal S before × May (state_after S before) x.0 x.1
 legal_front S [] x legal = (tt, legal.0)
 legal_front S (y ∷ before) x legal = let rest = legal_front (next S y.0 y.1) before x legal.1 in ((legal.0, rest.0), rest.1)
 
-lossless_front : (before : List (Occurrence × Answer)) (x : Occurrence × Answer) → AllLossless (answers_of (before ++ x ∷ []))
+lossless_front : (before : List (GatewayEvent × Answer)) (x : GatewayEvent × Answer) → AllLossless (answers_of (before ++ x ∷ []))
     → AllLossless (answers_of before) × Lossless x.1
 lossless_front [] x full = (tt, full.0)
 lossless_front (y ∷ before) x full = let rest = lossless_front before x full.1 in ((full.0, rest.0), rest.1)
 
-pub answers_by_view : (h : List (Occurrence × Answer)) → Legal opening h → AnswersByView h
+pub answers_by_view : (h : List (GatewayEvent × Answer)) → Legal opening h → AnswersByView h
 answers_by_view h legal before u x a p is full shows =
     let front = legal_front opening before (asks u x, a) (subst (λ l. Legal opening l) is legal) in
     let lossless = lossless_front before (asks u x, a) (subst (λ l. AllLossless (answers_of l)) is full) in

@@ -9,7 +9,7 @@ use Rattle.pg_wire.specs.Split.{frames_in}
 use Rattle.pg_gateway.specs.declared.event.Event.{Event}
 use Rattle.pg_gateway.specs.declared.event.Reply.{Reply}
 use Rattle.pg_gateway.specs.Histories.{said}
-use Rattle.pg_gateway.specs.Occurrences.{Occurrence}
+use Rattle.pg_gateway.specs.GatewayEvents.{GatewayEvent}
 use Rattle.pg_ingest.specs.declared.run.End.{End}
 use Rattle.pg_ingest.specs.Items.{Item, AreTold}
 use Rattle.pg_ingest.specs.Commands.{asks, tells, told_in}
@@ -27,7 +27,7 @@ use Rattle.pg_shared.specs.Telling.{Tells, HasTold}
 use Rattle.pg_shared.proofs.Opening.{none_told}
 
 -- a seat's gate takes all events
-all_taken : (events : List Occurrence) → filter (λ o. true) events ≡ events
+all_taken : (events : List GatewayEvent) → filter (λ o. true) events ≡ events
 all_taken [] = refl
 all_taken (o ∷ events) = ap (λ xs. o ∷ xs) (all_taken events)
 

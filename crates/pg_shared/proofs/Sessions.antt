@@ -20,7 +20,7 @@ use Rattle.pg_session.specs.Commands.{Hearing, Item, commands, ignores, item_of,
 use Rattle.pg_ring.specs.declared.queue.Drained.{Drained}
 use Rattle.pg_session.specs.Ready.{handed_len}
 use Rattle.pg_session.specs.Private.{drain_told}
-use Rattle.pg_gateway.specs.Occurrences.{Answer, tells}
+use Rattle.pg_gateway.specs.GatewayEvents.{Answer, tells}
 use Rattle.pg_gateway.specs.Posting.{Posted, Notes}
 use Rattle.pg_ingest.specs.declared.run.End.{End}
 use Rattle.pg_ingest.specs.declared.run.End.TheVariants.{Closed, Quiet, Stalled, Fault}

@@ -8,7 +8,7 @@ use Rattle.pg_session.specs.Events.{connect, hangup, command, drain}
 use Rattle.pg_session.specs.Commands.{Hearing, Item, items_of, ShowsHearing}
 use Rattle.pg_gateway.specs.declared.event.Event.{Event}
 use Rattle.pg_gateway.specs.declared.event.Reply.{Reply}
-use Rattle.pg_gateway.specs.Occurrences.{Occurrence, asks}
+use Rattle.pg_gateway.specs.GatewayEvents.{GatewayEvent, asks}
 use Rattle.pg_gateway.specs.State.{opening}
 use Rattle.pg_gateway.specs.Posting.{Posted}
 use Rattle.pg_gateway.specs.Laws.{after, events_of, answers_of}
@@ -21,7 +21,7 @@ use Rattle.pg_shared.specs.Onward.{Piece, calls_in, own_in, places_in}
 abbrev pub bytes_of : List Handed → List ℕ
 bytes_of all = flat_map (λ (handed : Handed). handed.0) all
 
-abbrev pub events_in : List Call → List Occurrence
+abbrev pub events_in : List Call → List GatewayEvent
 events_in calls = events_of (history_of calls)
 
 -- The private gateway of u has seen its view of the calls before: the bytes that it hands out on its view of the calls since

@@ -2,10 +2,10 @@
 use Rattle.pg_session.specs.Events as session
 use Rattle.pg_gateway.specs.declared.edit.Edit.{Edit}
 use Rattle.pg_gateway.specs.declared.edit.Edit.TheVariants as edit
-use Rattle.pg_gateway.specs.Occurrences.{Occurrence, add_pmu, drop_pmu, add_sub, drop_sub, grant, asks, stats, pmu_stats, audit}
+use Rattle.pg_gateway.specs.GatewayEvents.{GatewayEvent, add_pmu, drop_pmu, add_sub, drop_sub, grant, asks, stats, pmu_stats, audit}
 
 -- the event that an edit is
-abbrev pub edited : Edit → Occurrence
+abbrev pub edited : Edit → GatewayEvent
 edited (edit.AddPmu key) = add_pmu key
 edited (edit.DropPmu key) = drop_pmu key
 edited (edit.AddSub u size bytes) = add_sub u size bytes

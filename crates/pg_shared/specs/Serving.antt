@@ -7,10 +7,10 @@ use Rattle.pg_wire.specs.declared.refusal.Refusal.{Refusal}
 use Rattle.pg_wire.specs.Number.{number_of}
 use Rattle.pg_command.specs.declared.command.Command.{Command}
 use Rattle.pg_session.specs.Events as session
-use Rattle.pg_session.specs.Events.{Happening}
+use Rattle.pg_session.specs.Events.{SubscriberEvent}
 use Rattle.pg_session.specs.Private.{Told, done, refused, handed}
 use Rattle.pg_session.specs.Commands.{Hearing, Item, commands, ignores, items_of, break_in, ShowsHearing}
-use Rattle.pg_gateway.specs.Occurrences.{asks, Answer, tells, sub_counts, pmu_counts, entry, stands, those_waiting}
+use Rattle.pg_gateway.specs.GatewayEvents.{asks, Answer, tells, sub_counts, pmu_counts, entry, stands, those_waiting}
 use Rattle.pg_gateway.specs.Posting.{Posted, Notes}
 use Rattle.pg_ingest.specs.declared.run.End.{End}
 use Rattle.pg_ingest.specs.declared.run.End.TheVariants.{Closed, Quiet, Stalled, Fault}
@@ -26,13 +26,13 @@ abbrev pub Call : Type 0
 Call = Post × Answer
 
 -- what a post says, where the buffer for drains has this length
-abbrev pub happening_of : ℕ → Post → Happening
-happening_of buffer (passes c) = session.command c.stream c.word
-happening_of buffer drains = session.drain buffer
-happening_of buffer hangs_up = session.hangup
+abbrev pub subscriber_event_of : ℕ → Post → SubscriberEvent
+subscriber_event_of buffer (passes c) = session.command c.stream c.word
+subscriber_event_of buffer drains = session.drain buffer
+subscriber_event_of buffer hangs_up = session.hangup
 
 abbrev pub posted_by : Hearing → Call → Posted
-posted_by v call = (asks v.sub (happening_of v.buffer call.0), call.1)
+posted_by v call = (asks v.sub (subscriber_event_of v.buffer call.0), call.1)
 
 -- the command of an item, and of a post, where it is one
 abbrev pub command_in : Item → List Command

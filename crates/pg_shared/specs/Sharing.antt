@@ -1,12 +1,12 @@
 -- What those who share a gateway are told: its calls are one legal history, and in one without loss drains go by views alone.
 use Rattle.std.specs.Prelude.{◌≡◌, ℕ, List, [], ◌∷◌, ◌++◌, length, map, Some, None}
 use mathlib.Core.List.{IsPrefix}
-use Rattle.pg_session.specs.Events.{Happening}
+use Rattle.pg_session.specs.Events.{SubscriberEvent}
 use Rattle.pg_session.specs.Shown.{Model}
 use Rattle.pg_turn.specs.Known.{Known, StandsIn}
 use Rattle.pg_gateway.specs.declared.event.Event.{Event}
 use Rattle.pg_gateway.specs.declared.event.Reply.{Reply}
-use Rattle.pg_gateway.specs.Occurrences.{Occurrence, occurrence, asks, Answer, told, tells}
+use Rattle.pg_gateway.specs.GatewayEvents.{GatewayEvent, gateway_event, asks, Answer, told, tells}
 use Rattle.pg_gateway.specs.State.{opening, May}
 use Rattle.pg_gateway.specs.Shown.{GatewayValue, GatewayShows}
 use Rattle.pg_gateway.specs.Posting.{Answers}
@@ -19,7 +19,7 @@ abbrev pub Call : Type 0
 Call = Event × Reply
 
 -- what these calls say
-abbrev pub history_of : List Call → List (Occurrence × Answer)
+abbrev pub history_of : List Call → List (GatewayEvent × Answer)
 history_of calls = map said calls
 
 -- each reply is one that may come to its event, by its form
@@ -36,20 +36,20 @@ pub record PostedCall (v : Known Event Reply) (e : Event) (r : Reply) (w : Known
   pub others : StandsIn v.own v.seen
   pub legal : Legal opening (history_of w.seen)
   -- the reply is one that the gateway of one thread gives after the calls before it
-  pub may : May (state_after opening (history_of (v.seen ++ between))) (occurrence e) (told r)
+  pub may : May (state_after opening (history_of (v.seen ++ between))) (gateway_event e) (told r)
   pub answers : Answers e r
   pub between_answers : AreAnswered between
 
 -- Where no answer of the history tells a loss or want of memory, its drains hand to each subscriber, all told, what a private
 -- gateway of that subscriber's view hands out: bytes, frames begun, gaps
-abbrev pub HandsByViews : List (Occurrence × Answer) → Type 0
+abbrev pub HandsByViews : List (GatewayEvent × Answer) → Type 0
 HandsByViews h = AllLossless (answers_of h) → (u : ℕ)
     → handed_to u (events_of h) (answers_of h) ≡ handed_in None (view u opening (events_of h))
 
 -- And where the history's last call asks something for a subscriber, a drain among others, its answer is what the private
 -- gateway of the view before it answers
-abbrev pub AnswersByView : List (Occurrence × Answer) → Type 0
-AnswersByView h = (before : List (Occurrence × Answer)) (u : ℕ) (x : Happening) (a : Answer) (p : Model)
+abbrev pub AnswersByView : List (GatewayEvent × Answer) → Type 0
+AnswersByView h = (before : List (GatewayEvent × Answer)) (u : ℕ) (x : SubscriberEvent) (a : Answer) (p : Model)
     → h ≡ before ++ (asks u x, a) ∷ [] → AllLossless (answers_of h)
     → private_run None (view u opening (events_of before)) ≡ Some p → a ≡ tells (full_told p x)
 

@@ -1,14 +1,14 @@
 //! Edits become events.
 
 ghost use Rattle.std.specs.Prelude.{◌≡◌};
-ghost use Rattle.pg_gateway.specs.Occurrences.{occurrence};
+ghost use Rattle.pg_gateway.specs.GatewayEvents.{gateway_event};
 ghost use Rattle.pg_shared.specs.Edits.{edited};
 
 use pg_gateway::{Edit, Event};
 
-/// The event that an operator's edit is (own rule). It takes no memory.
+/// The event that an operator's edit is. It takes no memory.
 pub fn event_of(edit: Edit) -> Event
-    ensures event { occurrence result ≡ edited edit }
+    ensures event { gateway_event result ≡ edited edit }
 {
     match edit {
         Edit::AddPmu(key) => Event::AddPmu(key),

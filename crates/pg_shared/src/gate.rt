@@ -2,7 +2,7 @@
 
 ghost use Rattle.std.specs.Prelude.{◌≡◌, Bool, true, false, [], ◌∷◌, Some};
 ghost use Rattle.atomic_table.specs.Seated.{TableId};
-ghost use Rattle.pg_gateway.specs.Occurrences.{Occurrence, occurrence, told};
+ghost use Rattle.pg_gateway.specs.GatewayEvents.{GatewayEvent, gateway_event, told};
 ghost use Rattle.pg_gateway.specs.Posting.{Answers, Notes};
 ghost use Rattle.pg_shared.specs.Gates.{said_at};
 ghost use Rattle.pg_shared.specs.Continuing.{goes_on_same, goes_on_more};
@@ -16,7 +16,7 @@ use pg_wire::Refusal;
 use std::marker::{Brand, Model, PhantomData};
 use std::sync::Wait;
 
-/// Names a shared gateway, so that the seats of many threads are known to be of the same one (own rule).
+/// The name of a shared gateway in proofs: seats of many threads with one name are of the same gateway.
 pub trait Named {
     // The shared gateway.
     ghost table: { TableId };
@@ -26,7 +26,7 @@ impl Named for Brand {
     ghost table = { record { words = 0; slots = 0; views_name = 0; atom = 0; block = 0; offset = 0; slot_names = [] } };
 }
 
-/// A gate that holds a seat of the shared gateway that N names, and posts at it (own rule). Contracts see it as its seat. What it
+/// A gate that holds a seat of the shared gateway that N names, and posts at it. Contracts see it as its seat. What it
 /// tells of its posts is what stands at the seat's own places in the history. Each post may wait.
 #[derive(Drop)]
 pub struct SharedGate<'a, R: Wait, N: Named> {
@@ -90,8 +90,8 @@ impl<R: Wait, N: Named> Gate for SharedGate<'_, R, N> {
         ensures own { AnswersByView (history_of self.new.seen) }
         ensures answers { Answers event result }
         ensures posted { Notes (Some (said_at self.old.seen self.old.own)) (Some (said_at self.new.seen self.new.own))
-            ((occurrence event, told result) ∷ []) }
-        ensures takes { ◌≡◌ {A = Occurrence → Bool} (λ _. true) (λ _. true) }
+            ((gateway_event event, told result) ∷ []) }
+        ensures takes { ◌≡◌ {A = GatewayEvent → Bool} (λ _. true) (λ _. true) }
         ensures refused { true ≡ false → result ≡ Reply.Refused Refusal.FarClock }
         ensures goes_on { GoesOn self.old self.new }
     {

@@ -1,9 +1,9 @@
-//! Laws of the loops over a shared gateway, as contracts of functions that do nothing: a caller that needs one calls it.
+//! Lemmas about the loops over a shared gateway: contracts of functions that do nothing.
 ghost use Rattle.std.specs.Prelude.{◌≡◌, ℕ, true, List, [], ◌++◌, ◌∷◌, Option, Some};
 ghost use Rattle.std.specs.List.{flat_map};
 ghost use mathlib.Core.List.{IsPrefix};
 ghost use Rattle.pg_ingest.specs.declared.run.End.{End};
-ghost use Rattle.pg_gateway.specs.Occurrences.{Answer};
+ghost use Rattle.pg_gateway.specs.GatewayEvents.{Answer};
 ghost use Rattle.pg_gateway.specs.Posting.{Posted};
 ghost use Rattle.pg_session.specs.Commands.{Hearing, Item, ShowsHearing};
 ghost use Rattle.pg_shared.specs.Serving.{Call as Post, drains, handed_by, AreWritten, Ran, Served};

@@ -1,5 +1,6 @@
 //! A gateway that threads share: its gates, the loop of a session over any reader and writer, the event that an operator's edit
 //! is, and workers in threads of their own.
+//! What no clause of IEEE C37.118.2 is named for is a rule of this project.
 #![tactic(auto)]
 
 mod asked;

@@ -1,7 +1,7 @@
 //! A gate that posts to a shared gateway.
 
 ghost use Rattle.std.specs.Prelude.{◌≡◌, Bool, true, false, [], ◌∷◌, Some};
-ghost use Rattle.pg_gateway.specs.Occurrences.{Occurrence, occurrence, told};
+ghost use Rattle.pg_gateway.specs.GatewayEvents.{GatewayEvent, gateway_event, told};
 ghost use Rattle.pg_gateway.specs.Posting.{Answers, Notes};
 ghost use Rattle.pg_shared.specs.Gates.{said_at};
 ghost use Rattle.pg_shared.specs.Continuing.{goes_on_same, goes_on_more};
@@ -14,7 +14,7 @@ use pg_wire::Refusal;
 use std::marker::Model;
 use std::sync::Wait;
 
-/// A gate that holds a seat of a shared gateway, and posts at it (own rule). Contracts see it as its seat.
+/// A gate that holds a seat of a shared gateway, and posts at it. Contracts see it as its seat.
 ///
 /// What it tells of its posts is what stands at the seat's own places in the history.
 #[derive(Drop)]
@@ -89,8 +89,8 @@ impl<R: Wait> Gate for SeatGate<'_, R> {
         ensures own { AnswersByView (history_of self.new.seen) }
         ensures answers { Answers event result }
         ensures posted { Notes (Some (said_at self.old.seen self.old.own)) (Some (said_at self.new.seen self.new.own))
-            ((occurrence event, told result) ∷ []) }
-        ensures takes { ◌≡◌ {A = Occurrence → Bool} (λ _. true) (λ _. true) }
+            ((gateway_event event, told result) ∷ []) }
+        ensures takes { ◌≡◌ {A = GatewayEvent → Bool} (λ _. true) (λ _. true) }
         ensures refused { true ≡ false → result ≡ Reply.Refused Refusal.FarClock }
         ensures goes_on { GoesOn self.old self.new }
     {

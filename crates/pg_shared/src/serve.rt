@@ -176,7 +176,7 @@ fn hang_up<G: Gate>(session: &Session, gate: &mut G)
     gate.post(Event::Hangup(session.sub()));
 }
 
-/// Serves a session (own rule): each turn writes what an earlier turn left, reads at most 4,096 of the subscriber's bytes,
+/// Serves a session: each turn writes what an earlier turn left, reads at most 4,096 of the subscriber's bytes,
 /// posts their commands, and then a drain, and writes what it hands out. It ends where the reader ends or would block, where
 /// the writer would block, at a fault, where the bytes break, and after `turns` reads. Where it ends as `Closed` or as a fault,
 /// it posts a `Hangup` last.

@@ -17,11 +17,11 @@ use std::sync::Wait;
 /// A caller's place at a shared gateway. It may go to another thread.
 ///
 /// Contracts see of it the shared gateway that it is of, the calls as far as it has seen them, and the places of its own
-/// calls among these (own rule).
+/// calls among these.
 pub type Seat = pg_turn::Seat<Gateway>;
 
 /// One gateway that many threads post to. All calls, of all threads, are one legal history of a gateway of one thread, from
-/// its beginning without PMUs and subscribers (own rule).
+/// its beginning without PMUs and subscribers.
 ///
 /// Threads share it by reference. Contracts see it as a name: a seat is one of this gateway where `seat.table` is that name.
 #[derive(Drop)]

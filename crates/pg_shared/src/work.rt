@@ -9,7 +9,7 @@ use std::sync::atomic::{AtomicBool, Ordering};
 use std::thread;
 use std::thread::{JoinHandle, Threads};
 
-/// What a thread does again and again (own rule).
+/// What a thread does again and again.
 pub trait Work {
     /// Does a part of the work, and tells whether more is to be done.
     fn turn(&mut self) -> bool;
@@ -26,7 +26,7 @@ fn work_on<W: Work>(mut worker: W, turns: u64, stop: &AtomicBool) -> W {
 }
 
 /// Gives each worker a thread, which ends when a turn answers false, after `turns` turns or once `stop` is set; joins all of
-/// them, and hands the workers back in their order (own rule). With no workers it returns at once.
+/// them, and hands the workers back in their order. With no workers it returns at once.
 ///
 /// It waits until all threads have ended. As many workers come back as went. That they run at once, that each comes back in its
 /// place, and how many turns it made, is shown by tests and not proved.

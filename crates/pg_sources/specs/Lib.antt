@@ -1,2 +1,2 @@
 -- Definitions that the contracts of the connections to sources cite.
-pub mod Lines
+pub mod Connections

@@ -5,7 +5,7 @@ ghost use Rattle.std.specs.Prelude.{◌≡◌};
 use pg_gateway::{Event, Gate, Reply};
 use pg_limits::LayoutChanges;
 
-/// A gate that counts each announcement as a change of layouts that is begun before it is posted, and done behind that (own rule). All is
+/// A gate that counts each announcement as a change of layouts that is begun before it is posted, and done behind that. All is
 /// answered as by the gate inside.
 #[derive(Drop)]
 pub struct CountedAnnouncements<'a, G> {

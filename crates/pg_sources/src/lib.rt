@@ -9,6 +9,6 @@ mod sources;
 mod ticker;
 
 pub use counted_announcements::CountedAnnouncements;
-pub use source::{SourceLine, Turn};
+pub use source::{SourceConnection, Turn};
 pub use sources::SourceWorker;
 pub use ticker::Ticker;

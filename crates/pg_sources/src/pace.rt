@@ -1,18 +1,18 @@
 //! How far the sources of a worker may be ahead of the subscribers' workers.
 
 use pg_limits::Credit;
-use pg_service::{Mailbox, Neighbours, PortOrder};
+use pg_service::{Mailbox, PortOrder, WorkerHandles};
 use std::alloc::Global;
 use std::time::{Duration, Instant};
 
-/// How many events may make frames where nobody has told (own rule).
+/// How many events may make frames where nobody has told.
 const ROOM: u32 = 16;
 
-/// How long it is waited at most that frames are handed out, in milliseconds (own rule): a worker that has ended, or that the machine gives
+/// How long it is waited at most that frames are handed out, in milliseconds: a worker that has ended, or that the machine gives
 /// no time, holds no source longer.
 const HOLD_MS: u64 = 100;
 
-/// How far the sources of a worker may be ahead of those who hand their frames out (own rule): a ring that holds them all drops none
+/// How far the sources of a worker may be ahead of those who hand their frames out: a ring that holds them all drops none
 /// but where its subscriber's socket takes none. What was made up to a mark is handed out once each worker that serves subscribers has ended
 /// a turn that it began behind the mark.
 #[derive(Drop)]
@@ -47,38 +47,38 @@ impl Pace {
     }
 
     /// So many events made frames. Where half of all have, the workers that hand them out are woken.
-    pub(crate) fn spend(&mut self, events: u64, neighbours: &Neighbours<'_>) {
+    pub(crate) fn spend(&mut self, events: u64, handles: &WorkerHandles<'_>) {
         self.credit.spend(u32::try_from(events).unwrap_or(u32::MAX));
         self.is_owed = true;
         if !self.credit.is_half_free() {
-            self.wake(neighbours);
+            self.wake(handles);
         }
     }
 
     /// Wakes the workers where frames were made since they were woken.
-    pub(crate) fn wake(&mut self, neighbours: &Neighbours<'_>) {
+    pub(crate) fn wake(&mut self, handles: &WorkerHandles<'_>) {
         if self.is_owed {
             self.is_owed = false;
-            self.settle(neighbours);
-            neighbours.wake_ports();
+            self.settle(handles);
+            handles.wake_ports();
         }
     }
 
     /// Counts what was handed out, and sets the mark anew.
-    fn settle(&mut self, neighbours: &Neighbours<'_>) {
-        if self.is_marked && self.is_handed_out(neighbours.ports) {
+    fn settle(&mut self, handles: &WorkerHandles<'_>) {
+        if self.is_marked && self.is_handed_out(handles.ports) {
             self.credit.confirm();
             self.is_marked = false;
         }
         if !self.is_marked && self.credit.has_spent() {
             self.turns.clear();
-            for mailbox in neighbours.ports {
+            for mailbox in handles.ports {
                 // A worker for which there is no memory is not waited for.
                 let _ = self.turns.push(mailbox.next_turn());
             }
             self.credit.mark();
             self.is_marked = true;
-            neighbours.wake_ports();
+            handles.wake_ports();
         }
     }
 
@@ -97,15 +97,15 @@ impl Pace {
         &mut self,
         held: Option<Instant>,
         now: Instant,
-        neighbours: &Neighbours<'_>,
+        handles: &WorkerHandles<'_>,
     ) -> Option<Instant> {
         if held.is_none() && self.left() > 0 {
             return None;
         }
-        for mailbox in neighbours.ports {
+        for mailbox in handles.ports {
             mailbox.wait_for_end();
         }
-        self.settle(neighbours);
+        self.settle(handles);
         if self.credit.is_half_free() {
             return None;
         }

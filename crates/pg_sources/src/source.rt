@@ -7,21 +7,21 @@ ghost use Rattle.pg_audit.specs.Counting.{no_pmu_stats};
 ghost use Rattle.pg_ingest.specs.Linking.{unfed};
 ghost use Rattle.pg_ingest.specs.Runs.{wires};
 ghost use Rattle.pg_ingest.specs.Served.{IsCall};
-ghost use Rattle.pg_sources.specs.Lines.{Turned, guarding, hearing, settled, turn_after, unlinked, with_plan};
+ghost use Rattle.pg_sources.specs.Connections.{Turned, check, hearing, settled, turn_after, unlinked, with_plan};
 ghost use Rattle.pg_limits.specs.Plans.{asked, begun, called, due_by, ended, made, received, renewed, rested, sought};
 ghost use Rattle.pg_service.specs.Posts.{passes};
 
 use pg_gateway::Gate;
 use pg_ingest::{End, Link, run_link};
 use pg_limits::{Budget, CallPlan, Due};
-use pg_service::{Guarding, Guards, Seen, Watched};
+use pg_service::{ClockCheck, GateStats, Guards, MeteredGate};
 use pg_wire::{PmuId, Refusal};
 use std::alloc::Global;
 use std::io::{Read, Write};
 use std::marker::Model;
 use std::time::{Duration, Instant};
 
-/// The turns that a call of `run_link` takes at most (own rule). The budget of reads ends before.
+/// The turns that a call of `run_link` takes at most. The budget of reads ends before.
 const TURNS: u64 = 10_000;
 
 /// How a source was served.
@@ -35,23 +35,23 @@ pub enum Turn {
     Ended(End),
 }
 
-/// The line to a source (own rule): its link, and when it is called. It knows neither sockets nor clocks.
+/// The line to a source: its link, and when it is called. It knows neither sockets nor clocks.
 #[derive(Drop)]
-pub struct SourceLine {
+pub struct SourceConnection {
     link: Link,
     plan: CallPlan,
     guards: Guards,
 }
 
-impl Model for SourceLine {
-    ghost use Rattle.pg_sources.specs.Lines.{Line};
+impl Model for SourceConnection {
+    ghost use Rattle.pg_sources.specs.Connections.{SourceState};
 
-    ghost Value = { Line };
+    ghost Value = { SourceState };
 
     ghost view = { λ l. record { link = l.link; plan = l.plan; guards = l.guards } };
 }
 
-impl SourceLine {
+impl SourceConnection {
     /// The line to a source that is to be called at once. A connection may be silent for `silence`, `None` for ever, and the times of its
     /// measurements as far from the clocks as `guards` say.
     ///
@@ -64,11 +64,11 @@ impl SourceLine {
         silence: Option<Duration>,
         guards: Guards,
         now: Instant,
-    ) -> Result<SourceLine, Refusal>
+    ) -> Result<SourceConnection, Refusal>
         ensures state { IfOk result (λ l. l ≡ record { link = unfed source no_pmu_stats; plan = begun (instant_nanos now) (option_map as_nanos silence); guards = guards }) }
         ensures memory { IfErr result (λ refusal. refusal ≡ Refusal.NoMemory) }
     {
-        Ok(SourceLine {
+        Ok(SourceConnection {
             link: Link::new(alloc, source)?,
             plan: CallPlan::new(now, silence),
             guards,
@@ -170,29 +170,29 @@ impl SourceLine {
         &mut self,
         reader: &mut Budget<R>,
         writer: &mut W,
-        gate: &mut Watched<G>,
+        gate: &mut MeteredGate<G>,
         now: Instant,
         clock: u64,
         reference: u64,
-    ) -> (Turn, Seen)
+    ) -> (Turn, GateStats)
         // It posts what its bytes tell and nothing else, but for the measurements that its guards do not take.
         ensures turned { Turned (instant_nanos now) reader.new.left result.0 result.1 self.old self.new
-            (wires (R.remaining reader.old.reader) (W.contents writer.old) (G.posts gate.old.gate) (passes (guarding self.old clock reference) (G.takes gate.old.gate)))
-            (wires (R.remaining reader.new.reader) (W.contents writer.new) (G.posts gate.new.gate) (passes gate.new.guarding (G.takes gate.new.gate))) }
+            (wires (R.remaining reader.old.reader) (W.contents writer.old) (G.posts gate.old.gate) (passes (check self.old clock reference) (G.takes gate.old.gate)))
+            (wires (R.remaining reader.new.reader) (W.contents writer.new) (G.posts gate.new.gate) (passes gate.new.check (G.takes gate.new.gate))) }
     {
-        let guarding = Guarding {
+        let check = ClockCheck {
             guards: self.guards,
             clock,
             reference,
         };
-        let end = run_guarded(&mut self.link, guarding, reader, writer, gate);
-        let seen = gate.take_seen();
+        let end = run_guarded(&mut self.link, check, reader, writer, gate);
+        let seen = gate.take_stats();
         self.hear(&seen, now);
         (self.settle(end, reader.is_used_up(), now), seen)
     }
 
     /// The plan goes by the announcements and measurements that came.
-    fn hear(&mut self, seen: &Seen, now: Instant)
+    fn hear(&mut self, seen: &GateStats, now: Instant)
         ensures { self.new ≡ record self.old { plan = hearing seen.now (instant_nanos now) self.old.plan } }
     {
         if let Some(rate) = seen.rate {
@@ -222,15 +222,15 @@ impl SourceLine {
 /// One call of a link's loop, with its measurements guarded so.
 fn run_guarded<R: Read, W: Write, G: Gate>(
     link: &mut Link,
-    guarding: Guarding,
+    check: ClockCheck,
     reader: &mut Budget<R>,
     writer: &mut W,
-    gate: &mut Watched<G>,
+    gate: &mut MeteredGate<G>,
 ) -> End
     ensures call { IsCall result 10000 link.old link.new
-        (wires (R.remaining reader.old.reader) (W.contents writer.old) (G.posts gate.old.gate) (passes guarding (G.takes gate.old.gate)))
-        (wires (R.remaining reader.new.reader) (W.contents writer.new) (G.posts gate.new.gate) (passes gate.new.guarding (G.takes gate.new.gate))) }
+        (wires (R.remaining reader.old.reader) (W.contents writer.old) (G.posts gate.old.gate) (passes check (G.takes gate.old.gate)))
+        (wires (R.remaining reader.new.reader) (W.contents writer.new) (G.posts gate.new.gate) (passes gate.new.check (G.takes gate.new.gate))) }
 {
-    gate.guard(guarding);
+    gate.guard(check);
     run_link(link, reader, writer, gate, TURNS)
 }

@@ -4,17 +4,18 @@ ghost use Rattle.std.specs.Prelude.{◌≡◌, IfSome, Some, option_map, slice_g
 
 use crate::counted_announcements::CountedAnnouncements;
 use crate::pace::Pace;
-use crate::source::{SourceLine, Turn};
+use crate::source::{SourceConnection, Turn};
 use mio::net::TcpStream;
 use mio::{Interest, Poll, Token};
 use pg_audit::PmuStats;
 use pg_config::SourceConfig;
 use pg_gateway::Gate;
-use pg_limits::{Budget, Clocks, Due, Phase, Portion, StopsShort, reference};
-use pg_log::{ConfigChange, Detail, Entry, Journal, MOST_PMUS, Notice, Whom};
+use pg_limits::{Budget, Clocks, Due, Phase, Portion, StopAfterShortRead, reference};
+use pg_log::{ConfigChange, Detail, Entry, Journal, LogEvent, MOST_PMUS, Subject};
 use pg_service::{
-    Address, Agenda, Board, Dial, Guards, Lookup, Mailbox, Neighbours, PortOrder, READS, REASONS,
-    Reach, Resolver, Seen, SourceOrder, SourceReport, Waiting, Watched, ended, sooner,
+    Address, Dial, GateStats, Guards, LinkState, Lookup, Mailbox, MeteredGate, Poller, PortOrder,
+    READS, REASONS, ReadyQueue, Resolver, SourceOrder, SourceReport, StatusCollector,
+    WorkerHandles, ended, sooner,
 };
 use pg_shared::{Named, SharedGate, Work};
 use pg_wire::{PmuId, Refusal};
@@ -26,7 +27,7 @@ use std::rt::Clock;
 use std::sync::{Arc, Wait};
 use std::time::{Duration, Instant, SystemTime};
 
-/// How long the times of all sources are held for their newest (own rule), in milliseconds.
+/// How long the times of all sources are held for their newest, in milliseconds.
 const TIMES_MS: u64 = 10;
 
 /// How soon it is looked at the clocks of all sources once more, in milliseconds.
@@ -38,7 +39,7 @@ const SHORTEST: usize = 22;
 /// A source with its connection, if there is one.
 #[derive(Drop)]
 struct Source {
-    line: SourceLine,
+    line: SourceConnection,
     address: Option<Address>,
     // The number of its last dial, the address of its name that was found since, and whether the name is being looked up.
     dial: u64,
@@ -72,20 +73,20 @@ fn place_of(sources: &[Source], id: PmuId) -> Option<usize>
     sources.iter().position(|it| it.line.source() == id)
 }
 
-/// A worker that calls sources and serves their connections (own rule). A turn waits until a socket is ready, it is woken, or
+/// A worker that calls sources and serves their connections. A turn waits until a socket is ready, it is woken, or
 /// one of its sources is waited for no longer; then it serves those alone.
 #[derive(Drop)]
 pub struct SourceWorker<'a, R: Wait + Net + Clock, N: Named> {
     rt: &'a R,
     alloc: Global,
-    gate: Watched<CountedAnnouncements<'a, SharedGate<'a, R, N>>>,
-    waiting: Waiting,
+    gate: MeteredGate<CountedAnnouncements<'a, SharedGate<'a, R, N>>>,
+    waiting: Poller,
     number: usize,
     mailbox: &'a Mailbox<SourceOrder>,
-    neighbours: Neighbours<'a>,
+    handles: WorkerHandles<'a>,
     sources: Vec<Source>,
     // The places of sources that are served, and when a source is waited for no longer.
-    agenda: Agenda,
+    queue: ReadyQueue,
     // How far its sources may be ahead of those who hand their frames out.
     pace: Pace,
     clock: u64,
@@ -119,25 +120,25 @@ impl<'a, R: Wait + Net + Clock, N: Named> SourceWorker<'a, R, N> {
         rt: &'a R,
         alloc: Global,
         gate: SharedGate<'a, R, N>,
-        waiting: Waiting,
+        waiting: Poller,
         number: usize,
         mailbox: &'a Mailbox<SourceOrder>,
-        neighbours: Neighbours<'a>,
+        handles: WorkerHandles<'a>,
         now: Instant,
     ) -> SourceWorker<'a, R, N>
         ensures seat { result ≡ gate.entry }
     {
-        let gate = CountedAnnouncements::new(gate, neighbours.board.layout_changes());
+        let gate = CountedAnnouncements::new(gate, handles.collector.layout_changes());
         SourceWorker {
             rt,
             alloc,
-            gate: Watched::new(gate),
+            gate: MeteredGate::new(gate),
             waiting,
             number,
             mailbox,
-            neighbours,
+            handles,
             sources: Vec::new(alloc),
-            agenda: Agenda::new(alloc, now),
+            queue: ReadyQueue::new(alloc, now),
             pace: Pace::new(alloc),
             clock: 0,
             reference: 0,
@@ -162,10 +163,10 @@ impl<'a, R: Wait + Net + Clock, N: Named> SourceWorker<'a, R, N> {
             silence,
             guards,
         } = dial;
-        let line = SourceLine::new(self.alloc, source, silence, guards, self.agenda.now)?;
-        self.agenda.reserve(self.sources.len() + 1)?;
+        let line = SourceConnection::new(self.alloc, source, silence, guards, self.queue.now)?;
+        self.queue.reserve(self.sources.len() + 1)?;
         self.own_times.try_reserve(self.sources.len() + 1)?;
-        self.agenda.due = Some(self.agenda.now);
+        self.queue.due = Some(self.queue.now);
         self.dials = self.dials.wrapping_add(1);
         let dial = self.dials;
         if let Some(old) = self.source_mut(source) {
@@ -213,15 +214,15 @@ impl<'a, R: Wait + Net + Clock, N: Named> SourceWorker<'a, R, N> {
     }
 
     /// Notes what was met.
-    fn note(&self, notice: Notice) {
-        self.neighbours.journal.note(notice);
+    fn note(&self, event: LogEvent) {
+        self.handles.journal.note(event);
     }
 
     /// Reads this machine's clock. Where it can't be read, it is as late as it was.
     fn read_clock(&mut self) {
         match clock_ms(self.rt) {
             Some(clock) => self.clock = clock,
-            None => self.note(Notice::ClockFault),
+            None => self.note(LogEvent::ClockFault),
         }
     }
 
@@ -240,8 +241,12 @@ impl<'a, R: Wait + Net + Clock, N: Named> SourceWorker<'a, R, N> {
                 let _ = self.own_times.push(time);
             }
         }
-        let Neighbours { journal, board, .. } = self.neighbours;
-        board.exchange_times(
+        let WorkerHandles {
+            journal,
+            collector,
+            ..
+        } = self.handles;
+        collector.exchange_times(
             self.rt,
             journal,
             self.number,
@@ -256,7 +261,7 @@ impl<'a, R: Wait + Net + Clock, N: Named> SourceWorker<'a, R, N> {
     fn mark(&mut self, place: usize) {
         if let Some(source) = self.sources.get_mut(place) {
             // There is room for each source once.
-            if !source.is_ready && self.agenda.add(place) {
+            if !source.is_ready && self.queue.add(place) {
                 source.is_ready = true;
             }
         }
@@ -295,15 +300,15 @@ impl<'a, R: Wait + Net + Clock, N: Named> SourceWorker<'a, R, N> {
         match order {
             SourceOrder::Dial(dial) => {
                 if self.dial(dial).is_err() {
-                    self.note(Notice::MailFault);
+                    self.note(LogEvent::MailFault);
                 }
             }
             SourceOrder::Undial(id) => self.undial(id),
             SourceOrder::Renew(id) => {
-                let now = self.agenda.now;
+                let now = self.queue.now;
                 if let Some(source) = self.source_mut(id) {
                     source.renew(now);
-                    self.agenda.due = Some(now);
+                    self.queue.due = Some(now);
                 }
             }
             SourceOrder::Rest(id) => {
@@ -328,8 +333,8 @@ impl<'a, R: Wait + Net + Clock, N: Named> SourceWorker<'a, R, N> {
         };
         source.rest();
         if source.address.take().is_some() {
-            let entry = source.entry(Notice::Undialed, Detail::Nothing);
-            self.neighbours.journal.tell(self.rt, entry);
+            let entry = source.entry(LogEvent::Undialed, Detail::Nothing);
+            self.handles.journal.tell(self.rt, entry);
         }
     }
 
@@ -340,16 +345,20 @@ impl<'a, R: Wait + Net + Clock, N: Named> SourceWorker<'a, R, N> {
             if source.address.is_none() {
                 continue;
             }
-            let is_told = match source.report(self.alloc, self.agenda.now) {
+            let is_told = match source.report(self.alloc, self.queue.now) {
                 Ok(report) => told.push(report).is_ok(),
                 Err(_) => false,
             };
             if !is_told {
-                self.note(Notice::MailFault);
+                self.note(LogEvent::MailFault);
             }
         }
-        let Neighbours { journal, board, .. } = self.neighbours;
-        board.tell_sources(self.rt, journal, asking, told);
+        let WorkerHandles {
+            journal,
+            collector,
+            ..
+        } = self.handles;
+        collector.tell_sources(self.rt, journal, asking, told);
     }
 
     /// A source's name was looked up: the source is called there, if its call waits for the address. It is passed over where the source was
@@ -372,18 +381,18 @@ impl<'a, R: Wait + Net + Clock, N: Named> SourceWorker<'a, R, N> {
                 self.waiting.poll(),
                 place,
                 address,
-                self.agenda.now,
+                self.queue.now,
             ),
             Some(_) => return,
             None => {
                 if source.awaits_address() {
-                    source.line.ended(self.agenda.now);
+                    source.line.ended(self.queue.now);
                 }
-                source.entry(Notice::NoAddress, Detail::Nothing)
+                source.entry(LogEvent::NoAddress, Detail::Nothing)
             }
         };
-        self.agenda.due = Some(self.agenda.now);
-        self.neighbours.journal.tell(self.rt, entry);
+        self.queue.due = Some(self.queue.now);
+        self.handles.journal.tell(self.rt, entry);
     }
 
     /// Does what is due by now, and finds out when something is due next.
@@ -399,14 +408,14 @@ impl<'a, R: Wait + Net + Clock, N: Named> SourceWorker<'a, R, N> {
                 }
             }
         }
-        self.agenda.due = next;
+        self.queue.due = next;
         self.tell_clocks(clocks);
     }
 
     /// Does what is due by now of the source at this place, and tells when something is due next.
     fn do_due_of(&mut self, place: usize) -> Option<Instant> {
         let source = self.sources.get_mut(place)?;
-        let due = source.line.due(self.agenda.now);
+        let due = source.line.due(self.queue.now);
         let entry = match due {
             Due::Nothing => None,
             Due::Call => source.call(
@@ -415,60 +424,64 @@ impl<'a, R: Wait + Net + Clock, N: Named> SourceWorker<'a, R, N> {
                 self.waiting.poll(),
                 self.number,
                 place,
-                self.neighbours,
-                self.agenda.now,
+                self.handles,
+                self.queue.now,
             ),
             Due::GiveUp => {
-                let notice = if source.awaits_address() {
-                    Notice::NotFound
+                let event = if source.awaits_address() {
+                    LogEvent::NotFound
                 } else {
-                    Notice::GivenUp
+                    LogEvent::GivenUp
                 };
-                source.end(self.agenda.now);
-                Some(source.entry(notice, Detail::Nothing))
+                source.end(self.queue.now);
+                Some(source.entry(event, Detail::Nothing))
             }
             Due::Silent => {
-                source.end(self.agenda.now);
-                Some(source.entry(Notice::Silent, Detail::Nothing))
+                source.end(self.queue.now);
+                Some(source.entry(LogEvent::Silent, Detail::Nothing))
             }
             Due::Ask => {
                 source.line.ask_again();
-                Some(source.entry(Notice::AskedAgain, Detail::Nothing))
+                Some(source.entry(LogEvent::AskedAgain, Detail::Nothing))
             }
         };
-        let left = source.line.plan().left(self.agenda.now);
+        let left = source.line.plan().left(self.queue.now);
         if let Some(entry) = entry {
-            self.neighbours.journal.tell(self.rt, entry);
+            self.handles.journal.tell(self.rt, entry);
         }
         if due == Due::Ask {
             // Its commands are written where it is served.
             self.mark(place);
         }
-        self.agenda.now.checked_add(left?)
+        self.queue.now.checked_add(left?)
     }
 
     /// Puts up at the board how the clocks of its sources stand, and reports where this machine's clock is probably the wrong one.
     fn tell_clocks(&mut self, clocks: Clocks) {
-        let Neighbours { journal, board, .. } = self.neighbours;
+        let WorkerHandles {
+            journal,
+            collector,
+            ..
+        } = self.handles;
         if clocks != self.clocks {
             self.clocks = clocks;
-            board.put_up(self.rt, journal, self.number, clocks);
+            collector.put_up(self.rt, journal, self.number, clocks);
         }
         if clocks.has_refused() {
-            if let Some(off) = board.clocks(self.rt).wrong_by() {
+            if let Some(off) = collector.clocks(self.rt).wrong_by() {
                 journal.tell(
                     self.rt,
-                    Entry::new(Notice::WrongClock, Whom::Nobody, Detail::Off(off)),
+                    Entry::new(LogEvent::WrongClock, Subject::Nobody, Detail::Off(off)),
                 );
             }
         }
-        self.looked = self.agenda.now;
+        self.looked = self.queue.now;
     }
 
     /// Serves the source at this place, whose socket is ready or whose reads were used up, and wakes those who hand out the frames made.
     fn serve(&mut self, place: usize) {
         self.read_in(place);
-        self.pace.wake(&self.neighbours);
+        self.pace.wake(&self.handles);
     }
 
     /// Reads of the source at this place, and posts what came.
@@ -478,39 +491,41 @@ impl<'a, R: Wait + Net + Clock, N: Named> SourceWorker<'a, R, N> {
         };
         source.is_ready = false;
         if let Phase::Calling = source.line.plan().phase() {
-            if let Some(entry) = source.finish_call(self.agenda.now) {
-                self.neighbours.journal.tell(self.rt, entry);
+            if let Some(entry) = source.finish_call(self.queue.now) {
+                self.handles.journal.tell(self.rt, entry);
             }
-            self.agenda.due = Some(self.agenda.now);
+            self.queue.due = Some(self.queue.now);
         }
         for _ in 0..READS {
             let events = self.pace.left();
             if events == 0 {
                 break;
             }
+            // A turn may take long: the clock is read again before each read, so that no measurement is ahead of an old time.
+            let clock = clock_ms(self.rt).unwrap_or(self.clock);
             let Some((turn, seen)) = source.serve(
                 &mut self.gate,
                 events,
-                self.agenda.now,
-                self.clock,
-                self.reference,
+                self.queue.now,
+                clock,
+                self.reference.max(clock),
             ) else {
                 return;
             };
             if seen.makers > 0 {
-                self.pace.spend(seen.makers, &self.neighbours);
+                self.pace.spend(seen.makers, &self.handles);
             }
-            let is_other = source.note_seen(&seen, self.clock, self.agenda.now);
-            source.tell_seen(self.rt, &mut self.gate, self.neighbours.journal, &seen);
+            let is_other = source.note_seen(&seen, clock, self.queue.now);
+            source.tell_seen(self.rt, &mut self.gate, self.handles.journal, &seen);
             if let Turn::Ended(end) = turn {
-                let entry = source.entry(Notice::SourceEnded, ended(end));
-                self.agenda.due = Some(self.agenda.now);
-                self.neighbours.journal.tell(self.rt, entry);
+                let entry = source.entry(LogEvent::SourceEnded, ended(end));
+                self.queue.due = Some(self.queue.now);
+                self.handles.journal.tell(self.rt, entry);
             }
             if is_other {
                 // It is looked at the clocks of all sources, a second after the last time at the earliest.
                 let soon = self.looked.checked_add(Duration::from_millis(CLOCKS_MS));
-                self.agenda.expect(soon);
+                self.queue.expect(soon);
             }
             if turn != Turn::More {
                 return;
@@ -522,13 +537,13 @@ impl<'a, R: Wait + Net + Clock, N: Named> SourceWorker<'a, R, N> {
     /// Serves those that are ready. Those whose reads are used up are served again in the next turn, and so is who is left once as many
     /// frames are out as may be.
     fn serve_ready(&mut self) {
-        self.agenda.begin();
-        for at in 0..self.agenda.served() {
+        self.queue.begin();
+        for at in 0..self.queue.served() {
             if self.pace.left() == 0 {
-                self.agenda.put_off(at);
+                self.queue.put_off(at);
                 break;
             }
-            if let Some(place) = self.agenda.serving(at) {
+            if let Some(place) = self.queue.serving(at) {
                 self.serve(place);
             }
         }
@@ -536,16 +551,16 @@ impl<'a, R: Wait + Net + Clock, N: Named> SourceWorker<'a, R, N> {
 
     /// Finds out whether its sources are held, since as many frames are out as may be.
     fn hold(&mut self) {
-        self.agenda.held = self
+        self.queue.held = self
             .pace
-            .hold(self.agenda.held, self.agenda.now, &self.neighbours);
+            .hold(self.queue.held, self.queue.now, &self.handles);
     }
 }
 
 impl Source {
     /// What is told of it.
-    fn entry(&self, notice: Notice, detail: Detail) -> Entry {
-        Entry::new(notice, Whom::Source(self.line.source()), detail)
+    fn entry(&self, event: LogEvent, detail: Detail) -> Entry {
+        Entry::new(event, Subject::Source(self.line.source()), detail)
     }
 
     /// How it stands.
@@ -556,11 +571,11 @@ impl Source {
             None => None,
         };
         let reach = match self.line.plan().phase() {
-            Phase::Up => Reach::Up,
-            Phase::Calling => Reach::Calling,
+            Phase::Up => LinkState::Up,
+            Phase::Calling => LinkState::Calling,
             Phase::Resting => match self.line.plan().left(now) {
-                Some(left) => Reach::Pause(left),
-                None => Reach::Rests,
+                Some(left) => LinkState::Pause(left),
+                None => LinkState::Rests,
             },
         };
         let last = match self.heard {
@@ -578,7 +593,7 @@ impl Source {
     }
 
     /// Keeps when it was heard and how far its clock is off, and tells whether its data are refused for that from now on, or no longer.
-    fn note_seen(&mut self, seen: &Seen, clock: u64, now: Instant) -> bool {
+    fn note_seen(&mut self, seen: &GateStats, clock: u64, now: Instant) -> bool {
         if seen.events > seen.far {
             self.heard = Some(now);
         }
@@ -598,15 +613,15 @@ impl Source {
     fn tell_seen<R: Wait + Clock, G: Gate>(
         &mut self,
         rt: &R,
-        gate: &mut Watched<G>,
+        gate: &mut MeteredGate<G>,
         journal: &Journal,
-        seen: &Seen,
+        seen: &GateStats,
     ) {
         if let Some(config) = gate.take_announced() {
             self.tell_config(rt, config, journal);
         }
         if let (Some(off), true) = (self.off, seen.far > 0) {
-            let mut entry = self.entry(Notice::FarMeasurement, Detail::Off(off));
+            let mut entry = self.entry(LogEvent::FarMeasurement, Detail::Off(off));
             entry.times = seen.far;
             journal.tell(rt, entry);
         }
@@ -629,13 +644,13 @@ impl Source {
         if !self.has_announced {
             self.has_announced = true;
             let detail = Detail::Config(rate_of(&config), pmus_of(&config));
-            journal.tell(rt, self.entry(Notice::Announced, detail));
+            journal.tell(rt, self.entry(LogEvent::Announced, detail));
         }
         if let Some(change) = change {
             if !change.is_nothing() {
                 journal.tell(
                     rt,
-                    self.entry(Notice::Reconfigured, Detail::Differs(change)),
+                    self.entry(LogEvent::Reconfigured, Detail::Differs(change)),
                 );
             }
         }
@@ -653,7 +668,7 @@ impl Source {
             };
             let times = new.saturating_sub(*old);
             if times > 0 {
-                let mut entry = self.entry(Notice::Ignored, Detail::Because(reason));
+                let mut entry = self.entry(LogEvent::Ignored, Detail::Because(reason));
                 entry.times = times;
                 journal.tell(rt, entry);
             }
@@ -664,18 +679,18 @@ impl Source {
     /// Serves its connection, if it stands, by one read, in which no more than so many data frames end.
     fn serve<G: Gate>(
         &mut self,
-        gate: &mut Watched<G>,
+        gate: &mut MeteredGate<G>,
         events: u32,
         now: Instant,
         clock: u64,
         reference: u64,
-    ) -> Option<(Turn, Seen)> {
+    ) -> Option<(Turn, GateStats)> {
         let Phase::Up = self.line.plan().phase() else {
             return None;
         };
         let stream = self.stream.as_ref()?;
         let most = self.size.saturating_mul(events as usize);
-        let reader = Portion::new(StopsShort::new(stream, self.is_ending), most);
+        let reader = Portion::new(StopAfterShortRead::new(stream, self.is_ending), most);
         let mut budget = Budget::new(reader, 1);
         let mut writer = stream;
         let (turn, seen) = self
@@ -712,16 +727,16 @@ impl Source {
         poll: &Poll,
         worker: usize,
         place: usize,
-        neighbours: Neighbours<'_>,
+        handles: WorkerHandles<'_>,
         now: Instant,
     ) -> Option<Entry> {
         let known = match &self.address {
             Some(Address::Known(address)) => Some(*address),
             Some(Address::Name(_)) => {
-                if self.seek(rt, alloc, worker, neighbours).is_err() {
+                if self.seek(rt, alloc, worker, handles).is_err() {
                     self.line.ended(now);
                     let detail = Detail::System(ErrorKind::OutOfMemory);
-                    return Some(self.entry(Notice::NotMade, detail));
+                    return Some(self.entry(LogEvent::NotMade, detail));
                 }
                 self.found
             }
@@ -745,7 +760,7 @@ impl Source {
         rt: &R,
         alloc: Global,
         worker: usize,
-        neighbours: Neighbours<'_>,
+        handles: WorkerHandles<'_>,
     ) -> Result<(), AllocError> {
         let Some(Address::Name(name)) = &self.address else {
             return Ok(());
@@ -759,7 +774,7 @@ impl Source {
             dial: self.dial,
             name: String::from_str(alloc, name.as_str())?,
         };
-        self.is_sought = neighbours.look_up(rt, lookup);
+        self.is_sought = handles.look_up(rt, lookup);
         Ok(())
     }
 
@@ -779,7 +794,7 @@ impl Source {
             Ok(stream) => stream,
             Err(error) => {
                 self.line.ended(now);
-                return self.entry(Notice::NotMade, Detail::System(error.kind()));
+                return self.entry(LogEvent::NotMade, Detail::of_error(&error));
             }
         };
         if poll
@@ -788,13 +803,13 @@ impl Source {
             .is_err()
         {
             self.line.ended(now);
-            return self.entry(Notice::SocketFault, Detail::Nothing);
+            return self.entry(LogEvent::SocketFault, Detail::Nothing);
         }
         self.stream = Some(stream);
         self.is_ending = false;
         self.size = SHORTEST;
         self.line.called(now);
-        self.entry(Notice::Called, Detail::At(address))
+        self.entry(LogEvent::Called, Detail::At(address))
     }
 
     /// Finds out whether the connection that was begun is made by now, or has failed.
@@ -804,23 +819,23 @@ impl Source {
         };
         let failed = match stream.take_error() {
             Ok(None) => None,
-            Ok(Some(error)) | Err(error) => Some(error.kind()),
+            Ok(Some(error)) | Err(error) => Some(Detail::of_error(&error)),
         };
-        if let Some(kind) = failed {
+        if let Some(detail) = failed {
             self.end(now);
-            return Some(self.entry(Notice::NotMade, Detail::System(kind)));
+            return Some(self.entry(LogEvent::NotMade, detail));
         }
         if stream.peer_addr().is_err() {
             return None;
         }
         let is_set = stream.set_nodelay(true).is_ok();
         self.line.made(now);
-        let notice = if is_set {
-            Notice::Made
+        let event = if is_set {
+            LogEvent::Made
         } else {
-            Notice::SocketFault
+            LogEvent::SocketFault
         };
-        Some(self.entry(notice, Detail::Nothing))
+        Some(self.entry(event, Detail::Nothing))
     }
 
     /// Ends the connection, or the call.
@@ -868,19 +883,19 @@ fn clock_ms<R: Clock>(rt: &R) -> Option<u64> {
 
 impl<R: Wait + Net + Clock, N: Named> Work for SourceWorker<'_, R, N> {
     fn turn(&mut self) -> bool {
-        self.agenda
-            .wait(self.rt, &mut self.waiting, self.neighbours.journal);
+        self.queue
+            .wait(self.rt, &mut self.waiting, self.handles.journal);
         self.read_clock();
         self.find_reference();
         if self.waiting.is_woken() {
             self.obey_all();
         }
         self.mark_named();
-        if self.agenda.is_due() {
+        if self.queue.is_due() {
             self.do_due();
         }
         self.hold();
-        if self.agenda.held.is_none() {
+        if self.queue.held.is_none() {
             self.serve_ready();
             self.hold();
         }

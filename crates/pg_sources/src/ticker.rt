@@ -3,8 +3,8 @@
 ghost use Rattle.std.specs.Prelude.{◌≡◌};
 
 use pg_gateway::{Event, Gate};
-use pg_log::Notice;
-use pg_service::{Neighbours, Watched};
+use pg_log::LogEvent;
+use pg_service::{MeteredGate, WorkerHandles};
 use pg_shared::{Named, SharedGate, Work};
 use std::marker::Model;
 use std::rt::Clock;
@@ -12,13 +12,13 @@ use std::sync::Wait;
 use std::thread;
 use std::time::{Duration, SystemTime};
 
-/// A worker that posts the ticks (own rule).
+/// A worker that posts the ticks.
 #[derive(Drop)]
 pub struct Ticker<'a, R: Wait + Clock, N: Named> {
     rt: &'a R,
-    gate: Watched<SharedGate<'a, R, N>>,
+    gate: MeteredGate<SharedGate<'a, R, N>>,
     wait: Duration,
-    neighbours: Neighbours<'a>,
+    handles: WorkerHandles<'a>,
 }
 
 impl<'a, R: Wait + Clock, N: Named> Model for Ticker<'a, R, N> {
@@ -38,15 +38,15 @@ impl<'a, R: Wait + Clock, N: Named> Ticker<'a, R, N> {
         rt: &'a R,
         gate: SharedGate<'a, R, N>,
         wait: Duration,
-        neighbours: Neighbours<'a>,
+        handles: WorkerHandles<'a>,
     ) -> Ticker<'a, R, N>
         ensures seat { result ≡ gate.entry }
     {
         Ticker {
             rt,
-            gate: Watched::new(gate),
+            gate: MeteredGate::new(gate),
             wait,
-            neighbours,
+            handles,
         }
     }
 
@@ -75,11 +75,11 @@ impl<R: Wait + Clock, N: Named> Work for Ticker<'_, R, N> {
         match soc_now(self.rt) {
             Some(soc) => {
                 self.gate.post(Event::Tick(soc));
-                if self.gate.take_seen().made > 0 {
-                    self.neighbours.wake_ports();
+                if self.gate.take_stats().made > 0 {
+                    self.handles.wake_ports();
                 }
             }
-            None => self.neighbours.journal.note(Notice::ClockFault),
+            None => self.handles.journal.note(LogEvent::ClockFault),
         }
         true
     }

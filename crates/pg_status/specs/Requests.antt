@@ -4,7 +4,7 @@ use Rattle.std.specs.List.{position}
 use Rattle.std.specs.Str.{bytes_eq}
 use Rattle.pg_status.specs.declared.request.Shown.{Shown}
 use Rattle.pg_status.specs.declared.request.Shown.TheVariants.{Page, State, Metrics}
-use Rattle.pg_status.specs.declared.request.Denial.TheVariants.{NotFound, Method}
+use Rattle.pg_status.specs.declared.request.HttpError.TheVariants.{NotFound, Method}
 use Rattle.pg_status.specs.declared.request.Request.{Request}
 use Rattle.pg_status.specs.declared.request.Request.TheVariants.{Show, Deny}
 

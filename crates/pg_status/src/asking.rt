@@ -36,7 +36,7 @@ enum Turn {
     Silent,
 }
 
-/// Sends lines, each once the one before it was answered, writes their answers, and tells how they were answered (own rule). Behind each
+/// Sends lines, each once the one before it was answered, writes their answers, and tells how they were answered. Behind each
 /// goes the line `end`, whose answer tells that the one before it was answered. `quit` is answered by the end of the connection.
 ///
 /// # Errors

@@ -9,7 +9,7 @@ use crate::request::Shown;
 use crate::snapshot::Snapshot;
 use std::alloc::{AllocError, Global};
 
-/// What is answered where this is asked for (own rule): the page as it is, the metrics, or the state and history as JSON.
+/// What is answered where this is asked for: the page as it is, the metrics, or the state and history as JSON.
 ///
 /// # Errors
 ///

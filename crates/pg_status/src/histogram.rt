@@ -12,7 +12,7 @@ pub const BOUNDS: [u64; BUCKETS] = [
     10_000_000, 30_000_000,
 ];
 
-/// How many frames were how old as they were written (own rule). Its counts stop at the largest number.
+/// How many frames were how old as they were written. Its counts stop at the largest number.
 #[derive(Clone, Copy, Debug, PartialEq, Eq)]
 pub struct Histogram {
     /// Of each bound, the ages that are at most this bound and above the one before.

@@ -32,7 +32,7 @@ fn grown(before: u64, total: u64) -> u64
     }
 }
 
-/// What a subscriber was handed and what it lost in each of the last 300 seconds (own rule). It takes memory when it is made, and
+/// What a subscriber was handed and what it lost in each of the last 300 seconds. It takes memory when it is made, and
 /// none later.
 #[derive(Drop)]
 pub struct Past {
@@ -117,7 +117,7 @@ struct Kept {
     past: Past,
 }
 
-/// What all subscribers were handed and what they lost in the last five minutes (own rule).
+/// What all subscribers were handed and what they lost in the last five minutes.
 #[derive(Drop)]
 pub struct History {
     alloc: Global,

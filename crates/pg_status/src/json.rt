@@ -6,7 +6,7 @@ use crate::snapshot::{
 };
 use std::alloc::{AllocError, Global};
 
-/// A snapshot and what is remembered of its subscribers, as one JSON text (own rule): an object with `name`, and the lists
+/// A snapshot and what is remembered of its subscribers, as one JSON text: an object with `name`, and the lists
 /// `sources`, `subscribers` and `streams`. The members are named as the fields of the states; what is not there is `null`. `call` is one of
 /// `up`, `calling`, `pause` and `rests`, and `seconds` holds the lists `handed` and `dropped`, of the frames in each of the last 300
 /// seconds, the oldest first.

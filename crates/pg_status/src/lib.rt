@@ -4,32 +4,32 @@
 
 mod asking;
 mod contents;
-mod dialogue;
-mod exchange;
+mod control_protocol;
 mod histogram;
 mod history;
+mod http_exchange;
 mod json;
 mod lines;
 mod metrics;
-mod outbox;
 mod page;
 mod places;
 mod request;
 mod snapshot;
 mod status;
+mod write_buffer;
 
 pub use asking::{Answered, BUSY, converse};
 pub use contents::contents_of;
-pub use dialogue::{Answer, Dialogue, LineAnswer, OWED_BYTES, Turned};
-pub use exchange::{Exchange, Step};
+pub use control_protocol::{Answer, ControlProtocol, LineAnswer, OWED_BYTES, Turned};
 pub use histogram::{BOUNDS, BUCKETS, Histogram};
 pub use history::{Frames, History, Past, SECONDS, Total};
+pub use http_exchange::{HttpExchange, Step};
 pub use json::state_json;
 pub use lines::{END, LINE_BYTES, LineKind, Lines, kind_of};
 pub use metrics::print_metrics;
 pub use page::page_text;
 pub use places::place_for;
-pub use request::{Denial, HEAD_BYTES, Request, Shown, read_request};
+pub use request::{HEAD_BYTES, HttpError, Request, Shown, read_request};
 pub use snapshot::{
     Call, Ignored, Presence, Queue, Snapshot, SourceState, StreamState, SubscriberState,
 };

@@ -12,7 +12,7 @@ pub const LINE_BYTES: usize = 4096;
 /// The line by which a client asks whether all before it were answered. The answer is the same.
 pub const END: &[u8] = b"end";
 
-/// What a line is for the connection that it came by (own rule).
+/// What a line is for the connection that it came by.
 #[derive(Clone, Copy, PartialEq, Eq)]
 pub enum LineKind {
     /// It is answered by who answers lines.
@@ -62,7 +62,7 @@ fn has_quit(line: &[u8]) -> bool
     word.starts_with(b"quit") && without_spaces(&word[4..]).is_empty()
 }
 
-/// A line that comes byte by byte (own rule). It keeps 4,096 bytes at most; of a longer one it knows that it is too long.
+/// A line that comes byte by byte. It keeps 4,096 bytes at most; of a longer one it knows that it is too long.
 #[derive(Drop)]
 pub struct Lines {
     bytes: Vec<u8>,

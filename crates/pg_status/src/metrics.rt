@@ -33,10 +33,11 @@ impl SourceFigure {
 
     fn help(self) -> &'static str {
         match self {
-            SourceFigure::Up => "Whether the source is connected.",
-            SourceFigure::Pause => "Time until the source is called again, 0 where no pause runs.",
-            SourceFigure::Frames => "Whole frames that came from the source.",
-            SourceFigure::Events => "Announcements and measurements that came from the source.",
+            SourceFigure::Up => "1 if the source is connected, else 0.",
+            SourceFigure::Pause =>
+                "Seconds until the next attempt to connect to the source, 0 if none is due.",
+            SourceFigure::Frames => "Frames received from the source.",
+            SourceFigure::Events => "Configurations and data frames taken from the source.",
         }
     }
 
@@ -100,22 +101,22 @@ impl SubscriberFigure {
 
     fn help(self) -> &'static str {
         match self {
-            SubscriberFigure::Connected => "Whether the subscriber is connected.",
+            SubscriberFigure::Connected => "1 if the subscriber is connected, else 0.",
             SubscriberFigure::Waiting => {
-                "Time since the subscriber was connected last, 0 while it is."
+                "Seconds since the subscriber was last connected, 0 while it is."
             }
             SubscriberFigure::Made => "Data frames made for the subscriber.",
-            SubscriberFigure::Dropped => "Data frames dropped, for the subscriber's ring was full.",
-            SubscriberFigure::Lost => "Data frames not made, for want of memory.",
-            SubscriberFigure::Late => "Blocks that came for a slot that had left.",
-            SubscriberFigure::Twice => "Blocks that came a second time.",
-            SubscriberFigure::Handed => "Bytes handed out to the subscriber.",
-            SubscriberFigure::Frames => "Data frames handed out to the subscriber.",
+            SubscriberFigure::Dropped => "Data frames dropped from the subscriber's full queue.",
+            SubscriberFigure::Lost => "Data frames lost because memory ran out.",
+            SubscriberFigure::Late => "Data blocks that came after their frame was sent.",
+            SubscriberFigure::Twice => "Data blocks that came a second time for one frame.",
+            SubscriberFigure::Handed => "Bytes sent to the subscriber.",
+            SubscriberFigure::Frames => "Data frames sent to the subscriber.",
             SubscriberFigure::Gaps => {
-                "Data frames that are missing before one that was handed out to the subscriber."
+                "Data frames dropped or lost before one that was sent to the subscriber."
             }
-            SubscriberFigure::QueueFrames => "Frames that wait for the subscriber.",
-            SubscriberFigure::QueueBytes => "Bytes that wait for the subscriber.",
+            SubscriberFigure::QueueFrames => "Data frames in the subscriber's queue.",
+            SubscriberFigure::QueueBytes => "Bytes in the subscriber's queue.",
         }
     }
 
@@ -162,8 +163,8 @@ impl StreamFigure {
 
     fn help(self) -> &'static str {
         match self {
-            StreamFigure::On => "Whether the subscriber has started the stream.",
-            StreamFigure::Effective => "Members of the stream that its frames carry.",
+            StreamFigure::On => "1 if the subscriber has started the stream, else 0.",
+            StreamFigure::Effective => "Members of the stream that are granted and announced.",
             StreamFigure::Members => "Members of the stream.",
         }
     }
@@ -177,7 +178,7 @@ impl StreamFigure {
     }
 }
 
-/// Writes all metrics (own rule): what stands in a snapshot, and the ages of data frames as they were written.
+/// Writes all metrics: what stands in a snapshot, and the ages of data frames as they were written.
 ///
 /// # Errors
 ///
@@ -239,7 +240,7 @@ fn print_silences<W: Write>(out: &mut W, sources: &[SourceState]) -> io::Result<
         out,
         name,
         "gauge",
-        "Time since the last event of the source.",
+        "Seconds since the last configuration or data frame taken from the source.",
     )?;
     for source in sources {
         if let Some(seconds) = source.last {
@@ -257,7 +258,7 @@ fn print_ignored<W: Write>(out: &mut W, sources: &[SourceState]) -> io::Result<(
         out,
         name,
         "counter",
-        "Frames and breaks of the source that were ignored, by reason.",
+        "Frames of the source that were ignored, and bytes that begin no frame, by reason.",
     )?;
     for source in sources {
         let number = source.source.get();
@@ -328,7 +329,7 @@ fn print_ages<W: Write>(out: &mut W, ages: &Histogram) -> io::Result<()> {
         out,
         name,
         "histogram",
-        "Age of data frames as they are written: this machine's clock less the frame's time.",
+        "This machine's clock minus the timestamp of a data frame, when it is sent.",
     )?;
     let mut total = 0u64;
     for (bound, count) in BOUNDS.iter().zip(ages.counts.iter()) {

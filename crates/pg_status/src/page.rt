@@ -1,6 +1,6 @@
 //! The page.
 
-/// The page at `/` (own rule): one text of HTML without outside parts. It asks for `/state` each second, and tells where the
+/// The page at `/`: one text of HTML without outside parts. It asks for `/state` each second, and tells where the
 /// gateway is out of reach.
 pub fn page_text() -> &'static str {
     PAGE
@@ -116,14 +116,14 @@ svg { display: block; width: 100%; overflow: visible; }
 <div><b id="sources-up">-</b><span>sources up</span></div>
 <div><b id="subscribers-in">-</b><span>subscribers connected</span></div>
 <div><b id="streams-on">-</b><span>streams on</span></div>
-<div><b id="rate">-</b><span>frames/s handed out</span></div>
+<div><b id="rate">-</b><span>frames/s sent</span></div>
 <div><b id="drops">-</b><span>frames dropped in five minutes</span></div>
 </div>
 <section>
 <h2>Data frames of all subscribers<small>per second</small></h2>
 <div class="plot">
-<div class="large"><span id="frames-top">0</span><span>handed out</span><span>0</span></div>
-<svg class="large" viewBox="0 0 300 100" preserveAspectRatio="none" role="img" aria-label="Frames handed out"><path class="base" d="M0 100H300"/><path class="frames" id="frames-curve"/></svg>
+<div class="large"><span id="frames-top">0</span><span>sent</span><span>0</span></div>
+<svg class="large" viewBox="0 0 300 100" preserveAspectRatio="none" role="img" aria-label="Frames sent"><path class="base" d="M0 100H300"/><path class="frames" id="frames-curve"/></svg>
 <div class="small"><span id="drops-top">0</span><span>dropped</span><span>0</span></div>
 <svg class="small" viewBox="0 0 300 100" preserveAspectRatio="none" role="img" aria-label="Frames dropped"><path class="base" d="M0 100H300"/><path class="drops" id="drops-curve"/></svg>
 <p class="times" style="margin:0"><span>5 min ago</span><span>now</span></p>
@@ -251,7 +251,7 @@ function callOf(source) {
     case 'up': return ['up', 'word good'];
     case 'calling': return ['calling', 'word warn'];
     case 'pause': return ['pause, ' + span(source.pause), 'word bad'];
-    default: return ['not called', 'word off'];
+    default: return ['not connected', 'word off'];
   }
 }
 
@@ -270,7 +270,7 @@ function showSources(sources) {
 
 function showSubscribers(subscribers) {
   const heads = [['Subscriber', 'lead'], ['State'], ['Address', 'full'], ['Port', 'num full'], ['Five minutes', 'curve'], ['Frames/s', 'num'],
-    ['Made', 'num'], ['Dropped', 'num'], ['Lost', 'num'], ['Late', 'num'], ['Twice', 'num'], ['Gaps', 'num'], ['Handed', 'num'], ['Queue', 'num full']];
+    ['Made', 'num'], ['Dropped', 'num'], ['Lost', 'num'], ['Late', 'num'], ['Twice', 'num'], ['Gaps', 'num'], ['Sent', 'num'], ['Queue', 'num full']];
   const count = (value, kind) => [whole.format(value), value > 0 ? 'num ' + kind : 'num'];
   fill('subscribers', heads, subscribers.map(one => [sum(one.seconds.dropped) > 0, [
     [String(one.subscriber)],
@@ -334,8 +334,8 @@ async function ask() {
     byId('lost').hidden = true;
     byId('main').className = '';
   } catch (error) {
-    const since = seen ? 'What is shown is of ' + time(seen) + '.' : 'Nothing was heard of it yet.';
-    byId('lost').textContent = 'The gateway is out of reach. ' + since;
+    const since = seen ? 'The figures are of ' + time(seen) + '.' : 'It has not answered yet.';
+    byId('lost').textContent = 'The gateway does not answer. ' + since;
     byId('lost').hidden = false;
     byId('main').className = 'stale';
   }

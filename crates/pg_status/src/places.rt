@@ -5,7 +5,7 @@ ghost use Rattle.std.specs.List.{All, IsFirstMaxByKey};
 
 use std::time::Duration;
 
-/// The place that a new connection gets (own rule), by how long the connection of each place has been idle: for no time where it is
+/// The place that a new connection gets, by how long the connection of each place has been idle: for no time where it is
 /// busy, for `Duration::MAX` where the place is free. It is the first of those that have been idle longest, where that is `least` at
 /// least: its connection is to be closed. Else there is none.
 pub fn place_for(idle: &[Duration], least: Duration) -> Option<usize>

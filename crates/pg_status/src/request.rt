@@ -13,7 +13,7 @@ pub const HEAD_BYTES: usize = 8192;
 /// The header fields of a head at most.
 const FIELDS: usize = 64;
 
-/// What can be asked for (own rule).
+/// What can be asked for.
 #[derive(Clone, Copy, Debug, PartialEq, Eq)]
 pub enum Shown {
     /// The page, at `/`.
@@ -24,9 +24,9 @@ pub enum Shown {
     Metrics,
 }
 
-/// Why a request is refused (own rule).
+/// Why a request is refused.
 #[derive(Clone, Copy)]
-pub enum Denial {
+pub enum HttpError {
     /// 400: the bytes begin no request.
     NoRequest,
     /// 404: nothing is at this path.
@@ -37,7 +37,7 @@ pub enum Denial {
     TooLarge,
 }
 
-/// What bytes ask for (own rule).
+/// What bytes ask for.
 #[derive(Clone, Copy)]
 pub enum Request {
     /// Nothing yet: more bytes have to come.
@@ -52,7 +52,7 @@ pub enum Request {
     /// It is refused, by the head of the answer alone where `is_head`.
     Deny {
         /// Why.
-        denial: Denial,
+        denial: HttpError,
         /// Whether the method is HEAD.
         is_head: bool,
     },
@@ -75,15 +75,15 @@ pub fn read_request(head: &[u8]) -> Request
             if head.len() < HEAD_BYTES {
                 Request::Partial
             } else {
-                deny(Denial::TooLarge, false)
+                deny(HttpError::TooLarge, false)
             }
         }
-        Err(Error::TooManyHeaders) => deny(Denial::TooLarge, false),
-        Err(_) => deny(Denial::NoRequest, false),
+        Err(Error::TooManyHeaders) => deny(HttpError::TooLarge, false),
+        Err(_) => deny(HttpError::NoRequest, false),
     }
 }
 
-fn deny(denial: Denial, is_head: bool) -> Request
+fn deny(denial: HttpError, is_head: bool) -> Request
     ensures { result ≡ Request.Deny denial is_head }
 {
     Request::Deny { denial, is_head }
@@ -98,7 +98,7 @@ fn answer_to(method: &[u8], target: &[u8]) -> Request
     } else if method == b"HEAD".as_slice() {
         show(shown_at(path_of(target)), true)
     } else {
-        deny(Denial::Method, false)
+        deny(HttpError::Method, false)
     }
 }
 
@@ -108,7 +108,7 @@ fn show(what: Option<Shown>, is_head: bool) -> Request
 {
     match what {
         Some(shown) => Request::Show { shown, is_head },
-        None => deny(Denial::NotFound, is_head),
+        None => deny(HttpError::NotFound, is_head),
     }
 }
 

@@ -2,7 +2,7 @@
 
 use pg_wire::{PmuId, Refusal, StreamId, SubId};
 
-/// How the connection to a source stands (own rule).
+/// How the connection to a source stands.
 #[derive(Clone, Copy, Debug, PartialEq, Eq)]
 pub enum Call {
     /// It is connected.
@@ -15,7 +15,7 @@ pub enum Call {
     Rests,
 }
 
-/// How often a source's bytes were ignored for a reason (own rule).
+/// How often a source's bytes were ignored for a reason.
 #[derive(Clone, Copy, Debug, PartialEq, Eq)]
 pub struct Ignored {
     /// The reason.
@@ -24,7 +24,7 @@ pub struct Ignored {
     pub count: u64,
 }
 
-/// A source (own rule).
+/// A source.
 #[derive(Debug, Drop)]
 pub struct SourceState {
     /// The source.
@@ -43,7 +43,7 @@ pub struct SourceState {
     pub last: Option<u64>,
 }
 
-/// Whether a subscriber is connected (own rule).
+/// Whether a subscriber is connected.
 #[derive(Debug, Drop)]
 pub enum Presence {
     /// It is, from this address.
@@ -52,7 +52,7 @@ pub enum Presence {
     Waiting(u64),
 }
 
-/// What waits for a subscriber (own rule).
+/// What waits for a subscriber.
 #[derive(Clone, Copy, Debug, PartialEq, Eq)]
 pub struct Queue {
     /// Frames.
@@ -61,7 +61,7 @@ pub struct Queue {
     pub bytes: u64,
 }
 
-/// A subscriber (own rule).
+/// A subscriber.
 #[derive(Debug, Drop)]
 pub struct SubscriberState {
     /// The subscriber.
@@ -90,7 +90,7 @@ pub struct SubscriberState {
     pub queue: Queue,
 }
 
-/// A stream of a subscriber (own rule).
+/// A stream of a subscriber.
 #[derive(Clone, Copy, Debug)]
 pub struct StreamState {
     /// The subscriber.
@@ -105,7 +105,7 @@ pub struct StreamState {
     pub members: u32,
 }
 
-/// What the service shows of itself at one moment (own rule): each list in the order in which it is shown.
+/// What the service shows of itself at one moment: each list in the order in which it is shown.
 #[derive(Debug, Drop)]
 pub struct Snapshot {
     /// The gateway's name.

@@ -6,7 +6,7 @@ use crate::snapshot::{
 use std::io;
 use std::io::Write;
 
-/// Writes a line for each source, subscriber and stream (own rule). `-` stands for what is not there: an address, a port, an event
+/// Writes a line for each source, subscriber and stream. `-` stands for what is not there: an address, a port, an event
 /// to count from, a reason, the seconds of a pause that does not end by itself.
 ///
 /// ```text

@@ -1,2 +1,3 @@
 -- Lemmas of the connections of subscribers.
 pub mod Own
+pub mod Running

@@ -6,10 +6,10 @@ use Rattle.pg_session.specs.Commands.{Hearing}
 use Rattle.pg_gateway.specs.Posting.{Posted, Notes}
 use Rattle.pg_ingest.specs.declared.run.End.{End}
 use Rattle.pg_ingest.proofs.Known.{notes_nil, notes_more}
-use Rattle.pg_shared.specs.Serving.{Call, happening_of, posted_by, Served}
-use Rattle.pg_session.specs.Events.{Happening}
+use Rattle.pg_shared.specs.Serving.{Call, subscriber_event_of, posted_by, Served}
+use Rattle.pg_session.specs.Events.{SubscriberEvent}
 use Rattle.pg_service.specs.Posts.{IsOf, OwnOnly, Asks}
-use Rattle.pg_subscribers.specs.Visits.{HasHeard}
+use Rattle.pg_subscribers.specs.Endpoints.{HasHeard}
 
 pub own_nil : (sub : ℕ) (o : Option (List Posted)) → OwnOnly sub o o
 own_nil sub o = record { more = []; noted = notes_nil o; own = All-nil (IsOf sub) }
@@ -24,12 +24,12 @@ own_as sub sub' a b e h = subst (λ u. OwnOnly u a b) e h
 pub own_one : (sub : ℕ) (a b : Option (List Posted)) (x : Posted) → Notes a b (x ∷ []) → IsOf sub x → OwnOnly sub a b
 own_one sub a b x h k = record { more = x ∷ []; noted = h; own = All-cons (IsOf sub) x [] k (All-nil (IsOf sub)) }
 
-pub asks_as : (sub sub' : ℕ) (h : Happening) (a b : Option (List Posted)) → sub ≡ sub' → Asks sub h a b → Asks sub' h a b
+pub asks_as : (sub sub' : ℕ) (h : SubscriberEvent) (a b : Option (List Posted)) → sub ≡ sub' → Asks sub h a b → Asks sub' h a b
 asks_as sub sub' h a b e k = subst (λ u. Asks u h a b) e k
 
 posted_own : (v : Hearing) (calls : List Call) → All (IsOf v.sub) (map (posted_by v) calls)
 posted_own v [] = All-nil (IsOf v.sub)
-posted_own v (call ∷ calls) = All-cons (IsOf v.sub) (posted_by v call) (map (posted_by v) calls) (inl (happening_of v.buffer call.0, refl)) (posted_own v calls)
+posted_own v (call ∷ calls) = All-cons (IsOf v.sub) (posted_by v call) (map (posted_by v) calls) (inl (subscriber_event_of v.buffer call.0, refl)) (posted_own v calls)
 
 -- A call of a session posts of its subscriber alone, and its session has heard something after it as before.
 pub served_own : (end : End) (v v' : Hearing) (r r' w w' : Option (List ℕ)) (p p' : Option (List Posted)) → HasHeard v

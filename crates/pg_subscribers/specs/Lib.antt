@@ -1,2 +1,2 @@
 -- Definitions that the contracts of the connections of subscribers cite.
-pub mod Visits
+pub mod Endpoints

@@ -13,12 +13,12 @@ pub(crate) enum Posted {
     /// CFG-2 is among the replies.
     Done,
     /// There is no such stream, or its subscriber is not connected.
-    Gone,
+    CloseReason,
     /// Too many replies wait, or there is no memory: it is to be posted again.
     Later,
 }
 
-/// Asks for CFG-2 of a stream in its subscriber's name (own rule).
+/// Asks for CFG-2 of a stream in its subscriber's name.
 pub(crate) fn post_config<G: Gate>(sub: SubId, stream: u16, gate: &mut G) -> Posted
     // It posts of its own subscriber alone.
     ensures own { OwnOnly sub (G.posts gate.old) (G.posts gate.new) }
@@ -27,7 +27,7 @@ pub(crate) fn post_config<G: Gate>(sub: SubId, stream: u16, gate: &mut G) -> Pos
     posted_by(&reply)
 }
 
-/// Asks for CFG-2 of a stream and starts it, in its subscriber's name (own rule). Where the CFG-2 has to wait it is not started.
+/// Asks for CFG-2 of a stream and starts it, in its subscriber's name. Where the CFG-2 has to wait it is not started.
 #[tactic(auto, using(crate::proofs::Own::own_more))]
 pub(crate) fn post_resume<G: Gate>(sub: SubId, stream: u16, gate: &mut G) -> Posted
     // It posts of its own subscriber alone.
@@ -45,7 +45,7 @@ fn posted_by(reply: &Reply) -> Posted {
     match reply {
         Reply::Done { .. } => Posted::Done,
         Reply::Refused(Refusal::ReplyFull | Refusal::NoMemory) => Posted::Later,
-        _ => Posted::Gone,
+        _ => Posted::CloseReason,
     }
 }
 

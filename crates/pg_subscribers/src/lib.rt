@@ -4,16 +4,13 @@
 #![tactic(auto)]
 
 mod commands;
-mod door;
-mod guest;
-mod known_layouts;
+mod connection;
+mod endpoint;
+mod latency;
 mod ports;
-mod stamps;
 mod standings;
 
-pub use door::{Door, Knock};
-pub use guest::{Gone, Guest, Stay};
-pub use known_layouts::{Judged, KnownLayouts, ServedOnce, Verdict};
+pub use connection::{CloseReason, ServeResult, SubscriberConnection};
+pub use endpoint::{Admission, SubscriberEndpoint};
+pub use latency::LatencyMeter;
 pub use ports::{Port, PortWorker};
-pub use stamps::Stamps;
-pub use standings::STREAMS;

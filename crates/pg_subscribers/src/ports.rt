@@ -5,21 +5,22 @@ ghost use Rattle.std.specs.Duration.{as_nanos};
 ghost use Rattle.pg_service.specs.Posts.{OwnOnly};
 
 use crate::commands::{Posted, post_config, post_resume};
-use crate::door::{Door, Knock};
-use crate::guest::{FULL, Gone, Stay};
-use crate::known_layouts::{KnownLayouts, ServedOnce};
-use crate::stamps::{Aged, Stamps};
-use crate::standings::{STREAMS, Standings, ask_standings};
+use crate::connection::{CloseReason, FULL, ServeResult};
+use crate::endpoint::{Admission, SubscriberEndpoint};
+use crate::latency::{LatencyMeter, LatencyWriter};
+use crate::standings::{Standings, ask_standings};
 use mio::net::{TcpListener, TcpStream};
 use mio::{Interest, Poll, Token};
 use pg_gateway::{Event, Gate, Reply};
-use pg_limits::{Budget, Counted, HeldWriter, LayoutChanges, Never, Overdue, Unacknowledged};
-use pg_log::{Detail, Entry, Journal, Notice, Whom};
-use pg_service::{
-    Agenda, Board, Connections, DoorRules, Mailbox, PortOrder, PortReport, READS, Seen,
-    SourceOrder, Switches, Waiting, Watched, ended, sooner,
+use pg_limits::{
+    AlwaysBlocked, Budget, CountingIo, FoundStream, HeldWriter, KnownLayouts, LayoutChanges,
+    STREAMS, ServedOnce, Switches, Timeout, Unacknowledged,
 };
-use pg_session::StreamStanding;
+use pg_log::{Detail, Entry, Journal, LogEvent, Subject};
+use pg_service::{
+    ConnectionRules, Connections, GateStats, Mailbox, MeteredGate, Poller, PortOrder, PortReport,
+    READS, ReadyQueue, SourceOrder, StatusCollector, ended, sooner,
+};
 use pg_shared::{Named, SharedGate, Work};
 use pg_status::Histogram;
 use pg_wire::{Refusal, StreamId, SubId};
@@ -39,16 +40,16 @@ const ACCEPTED: u32 = 16;
 /// turn.
 const PASSES: u32 = 64;
 
-/// How soon it is tried again to bind a port (own rule), in milliseconds.
+/// How soon it is tried again to bind a port, in milliseconds.
 const BIND_MS: u64 = 30_000;
 
-/// When it is tried again to accept, where the system could not (own rule): it does not name a listener twice for one who waits.
+/// When it is tried again to accept, where the system could not: it does not name a listener twice for one who waits.
 const RETRY_MS: u64 = 1_000;
 
 /// The port of a subscriber, where it connects, with its connection if there is one.
 #[derive(Drop)]
 pub struct Port {
-    door: Door,
+    endpoint: SubscriberEndpoint,
     listener: TcpListener,
     stream: Option<TcpStream>,
     is_ready: bool,
@@ -62,7 +63,7 @@ pub struct Port {
     // The frames that were dropped before those that were handed out.
     gaps: u64,
     // What goes out to who has connected.
-    stamps: Stamps,
+    stamps: LatencyMeter,
     // What who has connected knows of the layouts of its streams, and how many changes were done before its streams were asked about; None
     // where they are to be asked about again.
     known: KnownLayouts,
@@ -79,7 +80,7 @@ pub struct Port {
 #[derive(Drop)]
 struct Unbound {
     sub: SubId,
-    rules: DoorRules,
+    rules: ConnectionRules,
     address: SocketAddr,
     retry: Instant,
 }
@@ -115,26 +116,26 @@ impl Passed {
 }
 
 impl Model for Port {
-    ghost use Rattle.pg_subscribers.specs.Visits.{Doorway};
+    ghost use Rattle.pg_subscribers.specs.Endpoints.{EndpointState};
 
-    ghost Value = { Doorway };
+    ghost Value = { EndpointState };
 
-    ghost view = { λ p. p.door };
+    ghost view = { λ p. p.endpoint };
 }
 
 impl Port {
     /// The port of this subscriber at this listener. Nobody has connected.
-    pub fn new(sub: SubId, rules: DoorRules, listener: TcpListener) -> Port
+    pub fn new(sub: SubId, rules: ConnectionRules, listener: TcpListener) -> Port
         ensures sub { result.sub ≡ sub }
         ensures allow { result.allow ≡ option_map (λ v. v.items) rules.allow.networks }
         ensures takeover { result.takeover ≡ rules.takeover }
         ensures stall { result.stall ≡ option_map as_nanos rules.stall }
         ensures idle { result.idle ≡ option_map as_nanos rules.idle }
         ensures change { result.change ≡ rules.change }
-        ensures nobody { result.guest ≡ None }
+        ensures nobody { result.connection ≡ None }
     {
         Port {
-            door: Door::new(sub, rules),
+            endpoint: SubscriberEndpoint::new(sub, rules),
             listener,
             stream: None,
             is_ready: false,
@@ -143,7 +144,7 @@ impl Port {
             peer: None,
             since: None,
             gaps: 0,
-            stamps: Stamps::new(),
+            stamps: LatencyMeter::new(),
             known: KnownLayouts::new(),
             settled: None,
             written: 0,
@@ -157,14 +158,14 @@ impl Port {
     pub fn sub(&self) -> SubId
         ensures { result ≡ self.now.sub }
     {
-        self.door.sub()
+        self.endpoint.sub()
     }
 
     /// Whether it is this subscriber's.
     fn is_of(&self, sub: SubId) -> bool
         ensures { result ≡ true → self.now.sub ≡ sub }
     {
-        self.door.sub() == sub
+        self.endpoint.sub() == sub
     }
 
     /// Where it listens.
@@ -177,20 +178,20 @@ impl Port {
     }
 }
 
-/// A worker that serves subscribers at their ports (own rule). A turn waits until a socket is ready, it is woken, or one of its
+/// A worker that serves subscribers at their ports. A turn waits until a socket is ready, it is woken, or one of its
 /// subscribers is waited for no longer. Where it was woken, what waits is handed out to all that have connected; then those whose sockets
 /// are ready are served.
 #[derive(Drop)]
 pub struct PortWorker<'a, R: Wait + Net + Clock, N: Named> {
     rt: &'a R,
     alloc: Global,
-    gate: Watched<SharedGate<'a, R, N>>,
-    waiting: Waiting,
+    gate: MeteredGate<SharedGate<'a, R, N>>,
+    waiting: Poller,
     mailbox: &'a Mailbox<PortOrder>,
     // Those who may wait until it has handed out what they made.
     sources: &'a [Mailbox<SourceOrder>],
     journal: &'a Journal,
-    board: &'a Board,
+    collector: &'a StatusCollector,
     ports: Vec<Option<Port>>,
     // The ports that could not be bound.
     unbound: Vec<Unbound>,
@@ -201,7 +202,7 @@ pub struct PortWorker<'a, R: Wait + Net + Clock, N: Named> {
     // How often the table of connections was read when it was looked at last.
     reads: u64,
     // The places of ports that are served, and when a subscriber is waited for no longer.
-    agenda: Agenda,
+    queue: ReadyQueue,
 }
 
 impl<'a, R: Wait + Net + Clock, N: Named> Model for PortWorker<'a, R, N> {
@@ -221,11 +222,11 @@ impl<'a, R: Wait + Net + Clock, N: Named> PortWorker<'a, R, N> {
         rt: &'a R,
         alloc: Global,
         gate: SharedGate<'a, R, N>,
-        waiting: Waiting,
+        waiting: Poller,
         mailbox: &'a Mailbox<PortOrder>,
         sources: &'a [Mailbox<SourceOrder>],
         journal: &'a Journal,
-        board: &'a Board,
+        collector: &'a StatusCollector,
         now: Instant,
     ) -> PortWorker<'a, R, N>
         ensures seat { result ≡ gate.entry }
@@ -233,18 +234,18 @@ impl<'a, R: Wait + Net + Clock, N: Named> PortWorker<'a, R, N> {
         PortWorker {
             rt,
             alloc,
-            gate: Watched::new(gate),
+            gate: MeteredGate::new(gate),
             waiting,
             mailbox,
             sources,
             journal,
-            board,
+            collector,
             ports: Vec::new(alloc),
             unbound: Vec::new(alloc),
             asked: Vec::new(alloc),
             ages: Histogram::new(),
             reads: 0,
-            agenda: Agenda::new(alloc, now),
+            queue: ReadyQueue::new(alloc, now),
         }
     }
 
@@ -256,13 +257,13 @@ impl<'a, R: Wait + Net + Clock, N: Named> PortWorker<'a, R, N> {
     pub fn open(&mut self, mut port: Port) -> io::Result<()> {
         let free = self.ports.iter().position(|it| it.is_none());
         let place = free.unwrap_or(self.ports.len());
-        self.agenda.reserve(self.ports.len() + 1)?;
+        self.queue.reserve(self.ports.len() + 1)?;
         self.asked.try_reserve(self.ports.len() + 1)?;
         self.waiting
             .poll()
             .registry()
             .register(&mut port.listener, listening(place), Interest::READABLE)?;
-        port.since = Some(self.agenda.now);
+        port.since = Some(self.queue.now);
         match self.ports.get_mut(place) {
             Some(free) => *free = Some(port),
             None => self.ports.push(Some(port))?,
@@ -284,7 +285,7 @@ impl<'a, R: Wait + Net + Clock, N: Named> PortWorker<'a, R, N> {
         if let Some(Some(port)) = self.ports.get_mut(place) {
             port.is_asked = port.is_asked || asks;
             // There is room for each port once.
-            if !port.is_ready && self.agenda.add(place) {
+            if !port.is_ready && self.queue.add(place) {
                 port.is_ready = true;
             }
         }
@@ -329,9 +330,9 @@ impl<'a, R: Wait + Net + Clock, N: Named> PortWorker<'a, R, N> {
     }
 
     /// Tries later to bind this port. Where there is no memory for it, that is noted.
-    fn bind_later(&mut self, sub: SubId, rules: DoorRules, address: SocketAddr) {
+    fn bind_later(&mut self, sub: SubId, rules: ConnectionRules, address: SocketAddr) {
         self.forget_unbound(sub);
-        let now = self.agenda.now;
+        let now = self.queue.now;
         let retry = now
             .checked_add(Duration::from_millis(BIND_MS))
             .unwrap_or(now);
@@ -342,16 +343,16 @@ impl<'a, R: Wait + Net + Clock, N: Named> PortWorker<'a, R, N> {
             retry,
         };
         if self.unbound.push(port).is_err() {
-            self.journal.note(Notice::MailFault);
+            self.journal.note(LogEvent::MailFault);
         }
-        self.agenda.expect(Some(retry));
+        self.queue.expect(Some(retry));
     }
 
     /// Tries to bind the ports for which it is time, or all of them.
     fn bind_all(&mut self, is_all: bool) {
         let unbound = mem::replace(&mut self.unbound, Vec::new(self.alloc));
         for port in unbound {
-            let is_due = is_all || port.retry <= self.agenda.now;
+            let is_due = is_all || port.retry <= self.queue.now;
             self.bind(port, is_due);
         }
     }
@@ -360,7 +361,7 @@ impl<'a, R: Wait + Net + Clock, N: Named> PortWorker<'a, R, N> {
     fn bind(&mut self, port: Unbound, is_due: bool) {
         if !is_due {
             if self.unbound.push(port).is_err() {
-                self.journal.note(Notice::MailFault);
+                self.journal.note(LogEvent::MailFault);
             }
             return;
         }
@@ -380,28 +381,29 @@ impl<'a, R: Wait + Net + Clock, N: Named> PortWorker<'a, R, N> {
     fn report(&self, asking: u64) {
         let mut told = Vec::new(self.alloc);
         for port in self.ports.iter().flatten() {
-            if told.push(port.report(self.agenda.now)).is_err() {
-                self.journal.note(Notice::MailFault);
+            if told.push(port.report(self.queue.now)).is_err() {
+                self.journal.note(LogEvent::MailFault);
             }
         }
-        self.board
+        self.collector
             .tell_ports(self.rt, self.journal, asking, told, &self.ages);
     }
 
     /// Serves this port too, and tells the log.
     fn open_told(&mut self, port: Port) {
-        let whom = Whom::Subscriber(port.sub());
+        let subject = Subject::Subscriber(port.sub());
         let detail = match port.address() {
             Ok(address) => Detail::At(address),
             Err(_) => Detail::Nothing,
         };
         let is_open = self.open(port).is_ok();
-        let notice = if is_open {
-            Notice::Listening
+        let event = if is_open {
+            LogEvent::Listening
         } else {
-            Notice::SocketFault
+            LogEvent::SocketFault
         };
-        self.journal.tell(self.rt, Entry::new(notice, whom, detail));
+        self.journal
+            .tell(self.rt, Entry::new(event, subject, detail));
     }
 
     /// Serves the subscriber's port no longer, and hangs up who has connected there.
@@ -415,8 +417,8 @@ impl<'a, R: Wait + Net + Clock, N: Named> PortWorker<'a, R, N> {
             }
         }
         if is_closed {
-            let whom = Whom::Subscriber(sub);
-            let entry = Entry::new(Notice::Unlistened, whom, Detail::Nothing);
+            let subject = Subject::Subscriber(sub);
+            let entry = Entry::new(LogEvent::Unlistened, subject, Detail::Nothing);
             self.journal.tell(self.rt, entry);
         }
     }
@@ -424,9 +426,9 @@ impl<'a, R: Wait + Net + Clock, N: Named> PortWorker<'a, R, N> {
     /// Hangs up who has connected as this subscriber.
     fn hang_up(&mut self, sub: SubId) {
         for port in self.ports.iter_mut().flatten() {
-            if port.is_of(sub) && port.door.hang_up(&mut self.gate) {
-                port.part(self.agenda.now);
-                let entry = port.entry(Notice::HungUp, Detail::Nothing);
+            if port.is_of(sub) && port.endpoint.hang_up(&mut self.gate) {
+                port.part(self.queue.now);
+                let entry = port.entry(LogEvent::HungUp, Detail::Nothing);
                 self.journal.tell(self.rt, entry);
             }
         }
@@ -456,21 +458,21 @@ impl<'a, R: Wait + Net + Clock, N: Named> PortWorker<'a, R, N> {
             let Some(Some(port)) = self.ports.get_mut(place) else {
                 continue;
             };
-            if let Some(overdue) = port.door.expire(&mut self.gate, self.agenda.now) {
-                port.part(self.agenda.now);
-                let entry = port.entry(notice_of(Gone::Overdue(overdue)), Detail::Nothing);
+            if let Some(timeout) = port.endpoint.expire(&mut self.gate, self.queue.now) {
+                port.part(self.queue.now);
+                let entry = port.entry(notice_of(CloseReason::Timeout(timeout)), Detail::Nothing);
                 self.journal.tell(self.rt, entry);
             }
-            let is_retried = port.retry.is_some_and(|at| at <= self.agenda.now);
+            let is_retried = port.retry.is_some_and(|at| at <= self.queue.now);
             if is_retried {
                 port.retry = None;
             }
-            next = sooner(next, port.due(self.agenda.now));
+            next = sooner(next, port.due(self.queue.now));
             if is_retried {
                 self.mark(place, true);
             }
         }
-        self.agenda.due = next;
+        self.queue.due = next;
     }
 
     /// Is due no later than this port, and serves it again where it has more to do.
@@ -480,27 +482,27 @@ impl<'a, R: Wait + Net + Clock, N: Named> PortWorker<'a, R, N> {
         }
         if let Some(Some(port)) = self.ports.get_mut(place) {
             if mem::replace(&mut port.has_written, false) {
-                self.board.connections().ask();
+                self.collector.connections().ask();
             }
-            let due = port.due(self.agenda.now);
-            self.agenda.expect(due);
+            let due = port.due(self.queue.now);
+            self.queue.expect(due);
         }
     }
 
     /// Looks whether bytes that were sent are not acknowledged, where the table of connections was read since.
     fn look_at_connections(&mut self) {
-        let connections = self.board.connections();
+        let connections = self.collector.connections();
         let reads = connections.reads();
         if reads == self.reads {
             return;
         }
         self.reads = reads;
         for port in self.ports.iter_mut().flatten() {
-            if port.look(self.rt, connections, self.agenda.now) {
+            if port.look(self.rt, connections, self.queue.now) {
                 connections.ask();
             }
-            let due = port.due(self.agenda.now);
-            self.agenda.expect(due);
+            let due = port.due(self.queue.now);
+            self.queue.expect(due);
         }
     }
 
@@ -513,10 +515,10 @@ impl<'a, R: Wait + Net + Clock, N: Named> PortWorker<'a, R, N> {
         let mut is_more = port.serve(
             self.rt,
             &mut self.gate,
-            self.board.layout_changes(),
+            self.collector.layout_changes(),
             self.journal,
             &mut self.ages,
-            self.agenda.now,
+            self.queue.now,
         );
         if port.is_asked && port.retry.is_none() {
             is_more |= port.accept(
@@ -525,9 +527,9 @@ impl<'a, R: Wait + Net + Clock, N: Named> PortWorker<'a, R, N> {
                 self.waiting.poll(),
                 place,
                 &mut self.gate,
-                self.board.layout_changes(),
+                self.collector.layout_changes(),
                 self.journal,
-                self.agenda.now,
+                self.queue.now,
             );
         }
         self.after(place, is_more);
@@ -535,9 +537,9 @@ impl<'a, R: Wait + Net + Clock, N: Named> PortWorker<'a, R, N> {
 
     /// Serves those that are ready. Those that have more to do are served again in the next turn.
     fn serve_ready(&mut self) {
-        self.agenda.begin();
-        for at in 0..self.agenda.served() {
-            if let Some(place) = self.agenda.serving(at) {
+        self.queue.begin();
+        for at in 0..self.queue.served() {
+            if let Some(place) = self.queue.serving(at) {
                 self.serve(place);
             }
             // So a subscriber that sends much delays what others are handed by its own turn at most.
@@ -594,10 +596,10 @@ impl<'a, R: Wait + Net + Clock, N: Named> PortWorker<'a, R, N> {
             let is_more = port.hand_out(
                 self.rt,
                 &mut self.gate,
-                self.board.layout_changes(),
+                self.collector.layout_changes(),
                 self.journal,
                 &mut self.ages,
-                self.agenda.now,
+                self.queue.now,
             );
             self.after(place, is_more);
         }
@@ -605,7 +607,7 @@ impl<'a, R: Wait + Net + Clock, N: Named> PortWorker<'a, R, N> {
 }
 
 /// What happened while a subscriber was served, by what its gate saw.
-fn served_by(seen: &Seen) -> ServedOnce {
+fn served_by(seen: &GateStats) -> ServedOnce {
     ServedOnce {
         configured: seen.configured,
         switched: seen.switched,
@@ -616,9 +618,9 @@ fn served_by(seen: &Seen) -> ServedOnce {
 }
 
 /// The stream of this number among these, where it is there and off.
-fn stopped_in(found: &Standings, stream: u16) -> Option<StreamStanding> {
+fn stopped_in(found: &Standings, stream: u16) -> Option<FoundStream> {
     for standing in found.iter().flatten() {
-        if standing.stream.get() == stream && !standing.is_on {
+        if standing.stream == stream && !standing.is_on {
             return Some(*standing);
         }
     }
@@ -635,12 +637,12 @@ fn connected(place: usize) -> Token {
 }
 
 /// What is noted where a connection is gone.
-fn notice_of(gone: Gone) -> Notice {
-    match gone {
-        Gone::Ended(_) => Notice::GuestEnded,
-        Gone::Overdue(Overdue::Stalled) => Notice::Stalled,
-        Gone::Overdue(Overdue::Unacknowledged) => Notice::Unacknowledged,
-        Gone::Overdue(Overdue::Idle) => Notice::Idle,
+fn notice_of(reason: CloseReason) -> LogEvent {
+    match reason {
+        CloseReason::Ended(_) => LogEvent::GuestEnded,
+        CloseReason::Timeout(Timeout::Stalled) => LogEvent::Stalled,
+        CloseReason::Timeout(Timeout::Unacknowledged) => LogEvent::Unacknowledged,
+        CloseReason::Timeout(Timeout::Idle) => LogEvent::Idle,
     }
 }
 
@@ -655,7 +657,7 @@ fn host_of(address: SocketAddr) -> Ipv4Addr {
 impl Port {
     /// When something is to be done for it though its sockets stay silent.
     fn due(&self, now: Instant) -> Option<Instant> {
-        let waited = match self.door.left(now) {
+        let waited = match self.endpoint.left(now) {
             Some(left) => now.checked_add(left),
             None => None,
         };
@@ -688,7 +690,7 @@ impl Port {
         let queue = connections.unacknowledged(rt, address.port(), peer);
         self.unacknowledged.look(self.looked, queue, now);
         self.looked = self.written;
-        self.door.acknowledged(self.unacknowledged.since());
+        self.endpoint.acknowledged(self.unacknowledged.since());
         queue > 0
     }
 
@@ -699,7 +701,7 @@ impl Port {
             None => Duration::ZERO,
         };
         PortReport {
-            sub: self.door.sub(),
+            sub: self.endpoint.sub(),
             address: self.address().ok(),
             peer: self.peer,
             since,
@@ -712,7 +714,7 @@ impl Port {
     fn serve<R: Wait + Clock, G: Gate>(
         &mut self,
         rt: &R,
-        gate: &mut Watched<G>,
+        gate: &mut MeteredGate<G>,
         changes: &LayoutChanges,
         journal: &Journal,
         ages: &mut Histogram,
@@ -729,7 +731,7 @@ impl Port {
     fn hand_out<R: Wait + Clock, G: Gate>(
         &mut self,
         rt: &R,
-        gate: &mut Watched<G>,
+        gate: &mut MeteredGate<G>,
         changes: &LayoutChanges,
         journal: &Journal,
         ages: &mut Histogram,
@@ -747,7 +749,7 @@ impl Port {
     fn serve_all<R: Wait + Clock, G: Gate>(
         &mut self,
         rt: &R,
-        gate: &mut Watched<G>,
+        gate: &mut MeteredGate<G>,
         changes: &LayoutChanges,
         journal: &Journal,
         ages: &mut Histogram,
@@ -777,7 +779,7 @@ impl Port {
     fn pass<R: Wait + Clock, G: Gate>(
         &mut self,
         rt: &R,
-        gate: &mut Watched<G>,
+        gate: &mut MeteredGate<G>,
         changes: &LayoutChanges,
         journal: &Journal,
         ages: &mut Histogram,
@@ -789,14 +791,15 @@ impl Port {
         ensures own { OwnOnly self.old.sub (G.posts gate.old.gate) (G.posts gate.new.gate) }
     {
         let settled = changes.settled();
-        let Some((stay, is_held, size)) = self.write_once(rt, gate, changes, ages, now, way) else {
+        let Some((outcome, is_held, size)) = self.write_once(rt, gate, changes, ages, now, way)
+        else {
             return Passed::nothing();
         };
         self.written = self.written.saturating_add(size);
         self.has_written = self.has_written || size > 0;
-        let seen = gate.take_seen();
+        let seen = gate.take_stats();
         self.tell_seen(rt, &seen, journal);
-        let is_more = self.leave(rt, stay, journal, now);
+        let is_more = self.leave(rt, outcome, journal, now);
         if self.stream.is_none() {
             return Passed::nothing();
         }
@@ -818,12 +821,12 @@ impl Port {
     fn write_once<R: Wait + Clock, G: Gate>(
         &mut self,
         rt: &R,
-        gate: &mut Watched<G>,
+        gate: &mut MeteredGate<G>,
         changes: &LayoutChanges,
         ages: &mut Histogram,
         now: Instant,
         way: Way,
-    ) -> Option<(Stay, bool, u64)>
+    ) -> Option<(ServeResult, bool, u64)>
         ensures sub { self.new.sub ≡ self.old.sub }
         // It posts of its own subscriber alone.
         ensures own { OwnOnly self.old.sub (G.posts gate.old.gate) (G.posts gate.new.gate) }
@@ -832,26 +835,26 @@ impl Port {
             return None;
         };
         // What is left by now was drained before the streams were asked about last.
-        let pending = self.door.pending();
-        let aged = Aged {
+        let pending = self.endpoint.pending();
+        let aged = LatencyWriter {
             rt,
             inner: stream,
             stamps: &mut self.stamps,
             ages,
         };
-        let mut writer = Counted::new(HeldWriter::new(aged, changes, self.settled, pending));
-        let stay = match way {
+        let mut writer = CountingIo::new(HeldWriter::new(aged, changes, self.settled, pending));
+        let outcome = match way {
             Way::Serve => {
-                let mut reader = Budget::new(Counted::new(stream), READS);
-                self.door.serve(&mut reader, &mut writer, gate, now)
+                let mut reader = Budget::new(CountingIo::new(stream), READS);
+                self.endpoint.serve(&mut reader, &mut writer, gate, now)
             }
-            Way::HandOut => self.door.hand_out(&mut writer, gate, now),
+            Way::HandOut => self.endpoint.hand_out(&mut writer, gate, now),
             Way::GoOn => {
-                let mut reader = Budget::new(Counted::new(Never), READS);
-                self.door.serve(&mut reader, &mut writer, gate, now)
+                let mut reader = Budget::new(CountingIo::new(AlwaysBlocked), READS);
+                self.endpoint.serve(&mut reader, &mut writer, gate, now)
             }
         };
-        Some((stay, writer.inner.is_holding, writer.moved))
+        Some((outcome, writer.inner.is_holding, writer.moved))
     }
 
     /// Compares the layouts of the streams with those that who has connected knows, behind what was served; `settled` is how many changes were
@@ -859,7 +862,7 @@ impl Port {
     #[tactic(auto, using(crate::proofs::Own::own_nil))]
     fn compare<G: Gate>(
         &mut self,
-        gate: &mut Watched<G>,
+        gate: &mut MeteredGate<G>,
         changes: &LayoutChanges,
         settled: Option<usize>,
         served: ServedOnce,
@@ -884,7 +887,7 @@ impl Port {
     /// connected is to be disconnected.
     fn ask<G: Gate>(
         &mut self,
-        gate: &mut Watched<G>,
+        gate: &mut MeteredGate<G>,
         changes: &LayoutChanges,
         settled: Option<usize>,
         served: ServedOnce,
@@ -893,10 +896,12 @@ impl Port {
         ensures own { OwnOnly self.old.sub (G.posts gate.old.gate) (G.posts gate.new.gate) }
     {
         let now_settled = changes.settled();
-        let found = ask_standings(self.door.sub(), gate);
+        let found = ask_standings(self.endpoint.sub(), gate);
         let mut served = served;
         served.is_quiet = changes.holds(settled);
-        let judged = self.known.judge_all(&found, &served, self.door.change());
+        let judged = self
+            .known
+            .judge_all(&found, &served, self.endpoint.change());
         self.settled = if judged.asks_again { None } else { now_settled };
         judged.misread
     }
@@ -906,7 +911,7 @@ impl Port {
     fn disconnect<R: Wait + Clock, G: Gate>(
         &mut self,
         rt: &R,
-        gate: &mut Watched<G>,
+        gate: &mut MeteredGate<G>,
         journal: &Journal,
         now: Instant,
         stream: u16,
@@ -914,9 +919,9 @@ impl Port {
         ensures sub { self.new.sub ≡ self.old.sub }
         ensures own { OwnOnly self.old.sub (G.posts gate.old.gate) (G.posts gate.new.gate) }
     {
-        self.door.hang_up(gate);
+        self.endpoint.hang_up(gate);
         self.part(now);
-        journal.tell(rt, self.entry(Notice::Misread, Detail::OfStream(stream)));
+        journal.tell(rt, self.entry(LogEvent::Misread, Detail::OfStream(stream)));
     }
 
     /// Posts what is due in the subscriber's name, one CFG-2 and one start at most, and tells whether something was posted.
@@ -924,7 +929,7 @@ impl Port {
     fn post_due<R: Wait + Clock, G: Gate>(
         &mut self,
         rt: &R,
-        gate: &mut Watched<G>,
+        gate: &mut MeteredGate<G>,
         journal: &Journal,
         is_emptied: bool,
     ) -> bool
@@ -943,12 +948,12 @@ impl Port {
     fn report_posted<R: Wait + Clock, G: Gate>(
         &self,
         rt: &R,
-        gate: &mut Watched<G>,
+        gate: &mut MeteredGate<G>,
         journal: &Journal,
     )
         ensures gate { gate.new.gate ≡ gate.old.gate }
     {
-        let seen = gate.take_seen();
+        let seen = gate.take_stats();
         self.tell_switched(rt, &seen.switched, journal);
     }
 
@@ -957,7 +962,7 @@ impl Port {
     fn send_and_resume<R: Wait + Clock, G: Gate>(
         &mut self,
         rt: &R,
-        gate: &mut Watched<G>,
+        gate: &mut MeteredGate<G>,
         journal: &Journal,
         is_emptied: bool,
     ) -> bool
@@ -977,7 +982,7 @@ impl Port {
     fn send_config<R: Wait + Clock, G: Gate>(
         &mut self,
         rt: &R,
-        gate: &mut Watched<G>,
+        gate: &mut MeteredGate<G>,
         journal: &Journal,
     ) -> bool
         ensures sub { self.new.sub ≡ self.old.sub }
@@ -986,19 +991,22 @@ impl Port {
         let Some(stream) = self.known.owed() else {
             return false;
         };
-        let posted = post_config(self.door.sub(), stream, gate);
+        let posted = post_config(self.endpoint.sub(), stream, gate);
         if posted != Posted::Later {
             self.known.paid(stream);
         }
         if posted == Posted::Done {
-            journal.tell(rt, self.entry(Notice::ConfigSent, Detail::OfStream(stream)));
+            journal.tell(
+                rt,
+                self.entry(LogEvent::ConfigSent, Detail::OfStream(stream)),
+            );
         }
         posted == Posted::Done
     }
 
     /// Has a stream go on that was defined anew, behind its CFG-2, while nothing waits; tells whether one does.
     #[tactic(auto, using(crate::proofs::Own::own_nil, crate::proofs::Own::own_more))]
-    fn resume_next<G: Gate>(&mut self, gate: &mut Watched<G>) -> bool
+    fn resume_next<G: Gate>(&mut self, gate: &mut MeteredGate<G>) -> bool
         ensures sub { self.new.sub ≡ self.old.sub }
         // It posts of its own subscriber alone.
         ensures own { OwnOnly self.old.sub (G.posts gate.old.gate) (G.posts gate.new.gate) }
@@ -1006,32 +1014,32 @@ impl Port {
         let Some(stream) = self.known.resuming() else {
             return false;
         };
-        let found = ask_standings(self.door.sub(), gate);
+        let found = ask_standings(self.endpoint.sub(), gate);
         let Some(standing) = stopped_in(&found, stream) else {
             // It is there no more, or its subscriber started it meanwhile.
             self.known.give_up(stream);
             return false;
         };
-        match post_resume(self.door.sub(), stream, gate) {
+        match post_resume(self.endpoint.sub(), stream, gate) {
             Posted::Done => self.known.resumed(&standing),
-            Posted::Gone => self.known.give_up(stream),
+            Posted::CloseReason => self.known.give_up(stream),
             Posted::Later => {}
         }
         true
     }
 
     /// What is told of it.
-    fn entry(&self, notice: Notice, detail: Detail) -> Entry {
-        Entry::new(notice, Whom::Subscriber(self.door.sub()), detail)
+    fn entry(&self, event: LogEvent, detail: Detail) -> Entry {
+        Entry::new(event, Subject::Subscriber(self.endpoint.sub()), detail)
     }
 
     /// Tells what was met while who has connected was served.
-    fn tell_seen<R: Wait + Clock>(&mut self, rt: &R, seen: &Seen, journal: &Journal)
+    fn tell_seen<R: Wait + Clock>(&mut self, rt: &R, seen: &GateStats, journal: &Journal)
         ensures same { self.new ≡ self.old }
     {
         if seen.gap > 0 {
             self.gaps = self.gaps.saturating_add(seen.gap);
-            let mut entry = self.entry(Notice::Gap, Detail::Nothing);
+            let mut entry = self.entry(LogEvent::Gap, Detail::Nothing);
             entry.times = seen.gap;
             journal.tell(rt, entry);
         }
@@ -1046,12 +1054,12 @@ impl Port {
             let Some((stream, is_on)) = switched.at(place) else {
                 return;
             };
-            let notice = if is_on {
-                Notice::Started
+            let event = if is_on {
+                LogEvent::Started
             } else {
-                Notice::Stopped
+                LogEvent::Stopped
             };
-            journal.tell(rt, self.entry(notice, Detail::Stream(stream)));
+            journal.tell(rt, self.entry(event, Detail::Stream(stream)));
         }
     }
 
@@ -1059,22 +1067,22 @@ impl Port {
     fn leave<R: Wait + Clock>(
         &mut self,
         rt: &R,
-        stay: Stay,
+        outcome: ServeResult,
         journal: &Journal,
         now: Instant,
     ) -> bool
         ensures same { self.new ≡ self.old }
     {
-        match stay {
-            Stay::Waits => false,
-            Stay::More => true,
-            Stay::Gone(gone) => {
+        match outcome {
+            ServeResult::Waits => false,
+            ServeResult::More => true,
+            ServeResult::CloseReason(reason) => {
                 self.part(now);
-                let detail = match gone {
-                    Gone::Ended(end) => ended(end),
-                    Gone::Overdue(_) => Detail::Nothing,
+                let detail = match reason {
+                    CloseReason::Ended(end) => ended(end),
+                    CloseReason::Timeout(_) => Detail::Nothing,
                 };
-                journal.tell(rt, self.entry(notice_of(gone), detail));
+                journal.tell(rt, self.entry(notice_of(reason), detail));
                 false
             }
         }
@@ -1089,7 +1097,7 @@ impl Port {
             None => Detail::Nothing,
         };
         self.part(now);
-        journal.tell(rt, self.entry(Notice::Replaced, detail));
+        journal.tell(rt, self.entry(LogEvent::Replaced, detail));
     }
 
     /// Accepts who wants to connect, and tells whether more may want to.
@@ -1099,7 +1107,7 @@ impl Port {
         alloc: Global,
         poll: &Poll,
         place: usize,
-        gate: &mut Watched<G>,
+        gate: &mut MeteredGate<G>,
         changes: &LayoutChanges,
         journal: &Journal,
         now: Instant,
@@ -1117,8 +1125,8 @@ impl Port {
                 }
                 Err(error) => {
                     self.retry = now.checked_add(Duration::from_millis(RETRY_MS));
-                    let detail = Detail::System(error.kind());
-                    journal.tell(rt, self.entry(Notice::NotAccepted, detail));
+                    let detail = Detail::of_error(&error);
+                    journal.tell(rt, self.entry(LogEvent::NotAccepted, detail));
                     return false;
                 }
             }
@@ -1133,15 +1141,15 @@ impl Port {
         alloc: Global,
         poll: &Poll,
         place: usize,
-        gate: &mut Watched<G>,
+        gate: &mut MeteredGate<G>,
         changes: &LayoutChanges,
         journal: &Journal,
         now: Instant,
         mut stream: TcpStream,
         address: SocketAddr,
     ) {
-        match self.door.knock(alloc, gate, host_of(address), now) {
-            Knock::Welcome { replaced } => {
+        match self.endpoint.admit(alloc, gate, host_of(address), now) {
+            Admission::Accepted { replaced } => {
                 if replaced {
                     self.give_way(rt, journal, now);
                 }
@@ -1149,22 +1157,22 @@ impl Port {
                 let both = Interest::READABLE | Interest::WRITABLE;
                 let token = connected(place);
                 if poll.registry().register(&mut stream, token, both).is_err() {
-                    self.door.hang_up(gate);
-                    journal.tell(rt, self.entry(Notice::SocketFault, Detail::Nothing));
+                    self.endpoint.hang_up(gate);
+                    journal.tell(rt, self.entry(LogEvent::SocketFault, Detail::Nothing));
                     return;
                 }
                 if stream.set_nodelay(true).is_err() {
-                    journal.tell(rt, self.entry(Notice::SocketFault, Detail::Nothing));
+                    journal.tell(rt, self.entry(LogEvent::SocketFault, Detail::Nothing));
                 }
                 self.stream = Some(stream);
                 self.peer = Some(address);
                 self.ask(gate, changes, None, ServedOnce::nothing());
-                journal.tell(rt, self.entry(Notice::Connected, Detail::At(address)));
+                journal.tell(rt, self.entry(LogEvent::Connected, Detail::At(address)));
             }
-            Knock::Foreign => {
-                journal.tell(rt, self.entry(Notice::Foreign, Detail::At(address)));
+            Admission::Forbidden => {
+                journal.tell(rt, self.entry(LogEvent::Foreign, Detail::At(address)));
             }
-            Knock::Refused { refusal, replaced } => {
+            Admission::Refused { refusal, replaced } => {
                 if replaced {
                     self.give_way(rt, journal, now);
                 }
@@ -1172,7 +1180,7 @@ impl Port {
                     (Refusal::Busy, Some(peer)) => Detail::Between(address, peer),
                     _ => Detail::Because(refusal),
                 };
-                journal.tell(rt, self.entry(Notice::Refused, detail));
+                journal.tell(rt, self.entry(LogEvent::Refused, detail));
             }
         }
     }
@@ -1180,7 +1188,7 @@ impl Port {
 
 impl<R: Wait + Net + Clock, N: Named> Work for PortWorker<'_, R, N> {
     fn turn(&mut self) -> bool {
-        self.agenda.wait(self.rt, &mut self.waiting, self.journal);
+        self.queue.wait(self.rt, &mut self.waiting, self.journal);
         if self.waiting.is_woken() {
             self.pass();
         }
@@ -1189,7 +1197,7 @@ impl<R: Wait + Net + Clock, N: Named> Work for PortWorker<'_, R, N> {
                 self.mark(named / 2, named % 2 == 0);
             }
         }
-        if self.agenda.is_due() {
+        if self.queue.is_due() {
             self.do_due();
         }
         self.serve_ready();

@@ -4,17 +4,15 @@ ghost use Rattle.std.specs.Prelude.{◌≡◌};
 ghost use Rattle.pg_service.specs.Posts.{OwnOnly};
 
 use pg_gateway::{Event, Gate, Reply};
+use pg_limits::{FoundStream, STREAMS};
 use pg_session::StreamStanding;
 use pg_wire::SubId;
 
-/// The streams of a subscriber at most.
-pub const STREAMS: usize = 8;
-
-/// The same, as an event counts them.
+/// The streams of a subscriber at most, as an event counts them.
 const PLACES: u8 = 8;
 
-/// How the streams of a subscriber stand, in the order of their definition.
-pub(crate) type Standings = [Option<StreamStanding>; STREAMS];
+/// What is found of the streams of a subscriber, in the order of their definition.
+pub(crate) type Standings = [Option<FoundStream>; STREAMS];
 
 /// No stream.
 fn no_standings() -> Standings {
@@ -41,17 +39,33 @@ pub(crate) fn ask_standings<G: Gate>(sub: SubId, gate: &mut G) -> Standings
 }
 
 /// Asks how the stream at this place stands, if there is one.
-fn post_standing<G: Gate>(sub: SubId, place: u8, gate: &mut G) -> Option<StreamStanding>
+fn post_standing<G: Gate>(sub: SubId, place: u8, gate: &mut G) -> Option<FoundStream>
     ensures own { OwnOnly sub (G.posts gate.old) (G.posts gate.new) }
 {
     let reply = gate.post(Event::Standing(sub, place));
     standing_in(&reply)
 }
 
-/// How a stream stands by this reply, if it tells of one.
-fn standing_in(reply: &Reply) -> Option<StreamStanding> {
+/// What is found of a stream by this reply, if it tells of one.
+fn standing_in(reply: &Reply) -> Option<FoundStream> {
     match reply {
-        Reply::Standing(standing) => standing.stream,
+        Reply::Standing(standing) => match &standing.stream {
+            Some(standing) => Some(found_stream(standing)),
+            None => None,
+        },
         _ => None,
+    }
+}
+
+/// What is found of a stream that stands so.
+fn found_stream(standing: &StreamStanding) -> FoundStream
+    ensures { result ≡ record { stream = standing.now.stream; definition = standing.now.layouts.definition; layout = standing.now.layouts.number; lengths = standing.now.layouts.lengths; is_on = standing.now.is_on } }
+{
+    FoundStream {
+        stream: standing.stream.get(),
+        definition: standing.layouts.definition,
+        layout: standing.layouts.number,
+        lengths: standing.layouts.lengths,
+        is_on: standing.is_on,
     }
 }

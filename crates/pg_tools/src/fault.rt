@@ -13,6 +13,9 @@ pub enum Fault {
     /// No connection to this address can be had.
     #[error("{0} can't be reached: {1}")]
     Reach(SocketAddr, io::Error),
+    /// No address of this name, with its port, is found.
+    #[error("{0} can't be reached: no address of this name is found ({1}); it has to be in /etc/hosts or known to a name server, else give A.B.C.D:PORT")]
+    Name(String, io::Error),
     /// This file can't be written.
     #[error("the file of --raw can't be written: {0}")]
     File(io::Error),

@@ -6,16 +6,16 @@ ghost use Rattle.pg_tools.specs.Asking.{is_due, waited_after};
 /// After how many seconds without its answer a question is asked again.
 pub const PATIENCE: u32 = 3;
 
-/// A question that waits for its answer (own rule): since how many seconds, fewer than 3.
+/// A question that waits for its answer: since how many seconds, fewer than 3.
 #[derive(Clone, Copy)]
-pub struct Question {
+pub struct Retry {
     /// The seconds since it was asked.
     pub waited: u32,
 }
 
-impl Question {
+impl Retry {
     /// It was asked, or answered, now.
-    pub const NEW: Question = Question { waited: 0 };
+    pub const NEW: Retry = Retry { waited: 0 };
 
     /// A second passes without its answer. Answers whether it is to be asked again, which is so in each third second.
     pub fn pass(&mut self) -> bool

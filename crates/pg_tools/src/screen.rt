@@ -3,12 +3,12 @@
 
 use crate::lines::{Instant, NO_PMU};
 use crate::reading::{Quality, Reading, Status, shown};
+use crate::target::Target;
 use crate::watcher::{Tally, Trouble};
 use pg_config::{PmuConfig, SourceConfig};
 use pg_data::DataFrame;
 use std::alloc::{AllocError, Global};
 use std::fmt;
-use std::net::SocketAddr;
 
 /// The columns of the screen that are used.
 const COLUMNS: usize = 79;
@@ -103,7 +103,7 @@ fn filled_of(above: i64, span: i64, row: i64, rows: i64) -> usize {
 #[derive(Drop)]
 pub struct View<'a> {
     /// Who is watched.
-    pub address: SocketAddr,
+    pub address: Target<'a>,
     /// The stream's IDCODE.
     pub stream: u16,
     /// The frames of the last second.

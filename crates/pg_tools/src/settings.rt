@@ -57,7 +57,7 @@ pub struct Channels {
 }
 
 impl Channels {
-    /// So many channels, if a PMU's configuration block has at most 2,000 bytes with them, the most that a reader takes (own rule).
+    /// So many channels, if a PMU's configuration block has at most 2,000 bytes with them, the most that a reader takes.
     pub fn new(phasors: u8, analogs: u8, digitals: u8) -> Option<Channels> {
         let len = 30
             + 20 * u32::from(phasors)
@@ -150,7 +150,7 @@ pub struct SimulateWords<'a> {
 /// A word that is none of an option's: which option it is, and what would be right.
 #[derive(Clone, Copy, Debug, Error)]
 #[error("{option} takes {takes}")]
-pub struct Misword {
+pub struct BadOption {
     /// The option, or the argument.
     pub option: &'static str,
     /// What it takes.
@@ -174,7 +174,7 @@ pub fn number(word: &str, least: u32, most: u32) -> Option<u32>
 }
 
 /// A number of at most a byte, or what the option takes.
-fn small(word: &str, least: u8, most: u8, wrong: Misword) -> Result<u8, Misword> {
+fn small(word: &str, least: u8, most: u8, wrong: BadOption) -> Result<u8, BadOption> {
     match number(word, u32::from(least), u32::from(most)) {
         Some(value) => Ok(value as u8),
         None => Err(wrong),
@@ -182,10 +182,10 @@ fn small(word: &str, least: u8, most: u8, wrong: Misword) -> Result<u8, Misword>
 }
 
 /// An address as `A.B.C.D:PORT`.
-pub fn address(word: &str, option: &'static str) -> Result<SocketAddr, Misword> {
+pub fn address(word: &str, option: &'static str) -> Result<SocketAddr, BadOption> {
     match word.parse::<SocketAddrV4>() {
         Ok(address) => Ok(SocketAddr::V4(address)),
-        Err(_) => Err(Misword {
+        Err(_) => Err(BadOption {
             option,
             takes: "an address A.B.C.D:PORT, as 127.0.0.1:4712",
         }),
@@ -197,7 +197,7 @@ pub fn address(word: &str, option: &'static str) -> Result<SocketAddr, Misword> 
 /// # Errors
 ///
 /// The first option that can't be taken, with what it takes.
-pub fn read_settings(words: &SimulateWords<'_>) -> Result<(SocketAddr, Settings), Misword> {
+pub fn read_settings(words: &SimulateWords<'_>) -> Result<(SocketAddr, Settings), BadOption> {
     let listen = address(words.listen, "--listen")?;
     let settings = Settings {
         numbers: read_numbers(words.source, words.pmus)?,
@@ -210,8 +210,8 @@ pub fn read_settings(words: &SimulateWords<'_>) -> Result<(SocketAddr, Settings)
     Ok((listen, settings))
 }
 
-fn read_numbers(source: &str, pmus: &str) -> Result<Numbers, Misword> {
-    let wrong = Misword {
+fn read_numbers(source: &str, pmus: &str) -> Result<Numbers, BadOption> {
+    let wrong = BadOption {
         option: "--source",
         takes: "a number of 1 to 65534, from which on each PMU has one",
     };
@@ -219,7 +219,7 @@ fn read_numbers(source: &str, pmus: &str) -> Result<Numbers, Misword> {
         pmus,
         1,
         16,
-        Misword {
+        BadOption {
             option: "--pmus",
             takes: "a number of 1 to 16",
         },
@@ -233,8 +233,8 @@ fn read_numbers(source: &str, pmus: &str) -> Result<Numbers, Misword> {
     }
 }
 
-fn read_rate(word: &str) -> Result<Rate, Misword> {
-    let wrong = Misword {
+fn read_rate(word: &str) -> Result<Rate, BadOption> {
+    let wrong = BadOption {
         option: "--rate",
         takes: "frames a second, 1 to 120",
     };
@@ -244,13 +244,13 @@ fn read_rate(word: &str) -> Result<Rate, Misword> {
     }
 }
 
-fn read_channels(words: &SimulateWords<'_>) -> Result<Channels, Misword> {
+fn read_channels(words: &SimulateWords<'_>) -> Result<Channels, BadOption> {
     let takes = "a number of 0 to 32";
     let phasors = small(
         words.phasors,
         0,
         32,
-        Misword {
+        BadOption {
             option: "--phasors",
             takes,
         },
@@ -259,7 +259,7 @@ fn read_channels(words: &SimulateWords<'_>) -> Result<Channels, Misword> {
         words.analogs,
         0,
         32,
-        Misword {
+        BadOption {
             option: "--analogs",
             takes,
         },
@@ -268,25 +268,25 @@ fn read_channels(words: &SimulateWords<'_>) -> Result<Channels, Misword> {
         words.digitals,
         0,
         32,
-        Misword {
+        BadOption {
             option: "--digitals",
             takes,
         },
     )?;
     match Channels::new(phasors, analogs, digitals) {
         Some(channels) => Ok(channels),
-        None => Err(Misword {
+        None => Err(BadOption {
             option: "--digitals",
             takes: "fewer words here: a PMU's configuration has at most 2000 bytes, 30 and 20 for each phasor and analog value and 260 for each digital word",
         }),
     }
 }
 
-fn read_nominal(word: &str) -> Result<Nominal, Misword> {
+fn read_nominal(word: &str) -> Result<Nominal, BadOption> {
     match number(word, 50, 60) {
         Some(50) => Ok(Nominal::Fifty),
         Some(60) => Ok(Nominal::Sixty),
-        _ => Err(Misword {
+        _ => Err(BadOption {
             option: "--nominal",
             takes: "50 or 60",
         }),
@@ -294,11 +294,11 @@ fn read_nominal(word: &str) -> Result<Nominal, Misword> {
 }
 
 /// The faults of some words. Of two with one name the later stands.
-fn read_faults(words: &[&str]) -> Result<Faults, Misword> {
+fn read_faults(words: &[&str]) -> Result<Faults, BadOption> {
     let mut faults = Faults::NONE;
     for word in words {
         let Some(next) = with_fault(faults, word) else {
-            return Err(Misword {
+            return Err(BadOption {
                 option: "--fault",
                 takes: "silence=SECONDS (1 to 3600), drop=PERCENT, late=MS (0 to 60000), wrong-check=PERCENT, clock=MS (-3600000 to 3600000) or no-config",
             });

@@ -2,7 +2,7 @@
 
 use crate::moment::Moment;
 use crate::settings::Settings;
-use crate::source::{Heard, Source};
+use crate::source::{CommandEvent, Source};
 use mio::net::{TcpListener, TcpStream};
 use mio::{Events, Interest, Poll, Token};
 use pg_wire::Refusal;
@@ -36,7 +36,7 @@ pub enum Happening {
     /// The peer has closed the connection, or it failed.
     Closed,
     /// This was heard from the peer.
-    Heard(Heard),
+    CommandEvent(CommandEvent),
     /// Frames are left out from here on, since the peer does not read.
     Stalled,
 }
@@ -60,6 +60,8 @@ pub struct Simulator {
     listener: TcpListener,
     source: Source,
     connection: Option<Connection>,
+    /// Whether a connection or bytes may be there that no wait reports again: the system reports each once, when it comes.
+    has_more: bool,
 }
 
 impl Simulator {
@@ -89,6 +91,7 @@ impl Simulator {
             listener,
             source,
             connection: None,
+            has_more: false,
         })
     }
 
@@ -119,6 +122,7 @@ impl Simulator {
         happened: &mut Vec<Happening>,
     ) -> io::Result<()> {
         let wait = match self.source.until_due(now(rt)?) {
+            _ if self.has_more => Duration::ZERO,
             // A millisecond is the least wait, and a frame is not sent before its slot.
             Some(micros) => Duration::from_micros(micros).min(longest),
             None => longest,
@@ -136,6 +140,7 @@ impl Simulator {
     ///
     /// `OutOfMemory`, and that of the system, where a connection can't be waited for.
     pub fn attend(&mut self, at: Moment, happened: &mut Vec<Happening>) -> io::Result<()> {
+        self.has_more = false;
         self.accept(happened)?;
         let Some(mut connection) = self.connection.take() else {
             return Ok(());
@@ -179,8 +184,9 @@ impl Simulator {
         self.close(happened)
     }
 
-    /// The connection has ended.
+    /// The connection has ended, and others may wait.
     fn close(&mut self, happened: &mut Vec<Happening>) -> io::Result<()> {
+        self.has_more = true;
         self.source.reset();
         happened.push(Happening::Closed)?;
         Ok(())
@@ -235,8 +241,9 @@ impl Simulator {
         happened: &mut Vec<Happening>,
     ) -> io::Result<bool> {
         for _ in 0..READS {
+            // (once the peer reads, a wait reports that)
             if connection.out.len() > WAITING {
-                break;
+                return Ok(true);
             }
             let mut piece = [0; PIECE];
             match (&connection.stream).read(&mut piece) {
@@ -246,11 +253,12 @@ impl Simulator {
                         return Ok(false);
                     }
                 }
-                Err(error) if error.kind() == ErrorKind::WouldBlock => break,
+                Err(error) if error.kind() == ErrorKind::WouldBlock => return Ok(true),
                 Err(error) if error.kind() == ErrorKind::Interrupted => {}
                 Err(_) => return Ok(false),
             }
         }
+        self.has_more = true;
         Ok(true)
     }
 
@@ -269,13 +277,13 @@ impl Simulator {
             }
             let heard = told(self.source.next(now, out))?;
             match heard {
-                Heard::More if at >= bytes.len() => return Ok(true),
-                Heard::More => {}
-                Heard::Broken(_) => {
-                    happened.push(Happening::Heard(heard))?;
+                CommandEvent::More if at >= bytes.len() => return Ok(true),
+                CommandEvent::More => {}
+                CommandEvent::Broken(_) => {
+                    happened.push(Happening::CommandEvent(heard))?;
                     return Ok(false);
                 }
-                _ => happened.push(Happening::Heard(heard))?,
+                _ => happened.push(Happening::CommandEvent(heard))?,
             }
         }
         Ok(true)

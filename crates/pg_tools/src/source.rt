@@ -47,7 +47,7 @@ impl SourceCounts {
 
 /// What comes next of the bytes that a source was fed.
 #[derive(Clone, Copy, Debug, PartialEq, Eq)]
-pub enum Heard {
+pub enum CommandEvent {
     /// This command was obeyed.
     Obeyed(Word),
     /// This command is known, and not obeyed: the fault `no-config` keeps the answer back, or it is none of 1 to 5.
@@ -61,7 +61,7 @@ pub enum Heard {
     Broken(Refusal),
 }
 
-/// A source that is simulated (own rule). It obeys commands 1 to 5 of whoever is connected, and has data frames on the slots of
+/// A source that is simulated. It obeys commands 1 to 5 of whoever is connected, and has data frames on the slots of
 /// its rate while data is on.
 #[derive(Drop)]
 pub struct Source {
@@ -133,15 +133,15 @@ impl Source {
     /// # Errors
     ///
     /// `NoMemory`, where the answer finds none.
-    pub fn next(&mut self, now: Moment, out: &mut Vec<u8>) -> Result<Heard, Refusal>
+    pub fn next(&mut self, now: Moment, out: &mut Vec<u8>) -> Result<CommandEvent, Refusal>
         // Just the commands 1 and 2 for its IDCODE switch data.
         ensures { IfOk result (λ heard. IsAfter heard self.old.sending self.new.sending) }
     {
         let read = match self.deframer.next() {
             Taken::Frame(frame) => read_command(frame),
             Taken::Skipped(refusal) => Err(refusal),
-            Taken::More => return Ok(Heard::More),
-            Taken::Broken(refusal) => return Ok(Heard::Broken(refusal)),
+            Taken::More => return Ok(CommandEvent::More),
+            Taken::Broken(refusal) => return Ok(CommandEvent::Broken(refusal)),
         };
         let word = match read {
             Ok(command) if command.stream != self.settings.numbers.first => {
@@ -154,13 +154,13 @@ impl Source {
             Ok(word) => self.obey(word, now, out),
             Err(refusal) => {
                 self.counts.ignored = self.counts.ignored.saturating_add(1);
-                Ok(Heard::Ignored(refusal))
+                Ok(CommandEvent::Ignored(refusal))
             }
         }
     }
 
     /// Obeys a command.
-    fn obey(&mut self, word: Word, now: Moment, out: &mut Vec<u8>) -> Result<Heard, Refusal>
+    fn obey(&mut self, word: Word, now: Moment, out: &mut Vec<u8>) -> Result<CommandEvent, Refusal>
         ensures { IfOk result (λ heard. IsAfter heard self.old.sending self.new.sending) }
     {
         let at = self.clock(now);
@@ -177,10 +177,10 @@ impl Source {
         self.sending = after_command(self.sending, word, at.slot(self.settings.rate));
         if !answered {
             self.counts.ignored = self.counts.ignored.saturating_add(1);
-            return Ok(Heard::Kept(word));
+            return Ok(CommandEvent::Kept(word));
         }
         self.counts.obeyed = self.counts.obeyed.saturating_add(1);
-        Ok(Heard::Obeyed(word))
+        Ok(CommandEvent::Obeyed(word))
     }
 
     /// Its own time, at this instant: the fault `clock` puts it off.

@@ -3,7 +3,7 @@
 ghost use Rattle.std.specs.Prelude.{◌≡◌, ◌+◌, ◌≤◌, ◌<◌, length};
 ghost use Rattle.pg_wire.specs.Head.{IsFrame};
 
-use crate::question::Question;
+use crate::question::Retry;
 use pg_command::{Word, write_command};
 use pg_config::{Announced, SourceConfig, read_config};
 use pg_data::{DataFrame, read_data};
@@ -149,7 +149,7 @@ enum Told {
     NoMemory,
 }
 
-/// A subscriber of one stream, or of a source (own rule). It asks for CFG-2 and the header, starts the stream once it knows the
+/// A subscriber of one stream, or of a source. It asks for CFG-2 and the header, starts the stream once it knows the
 /// configuration, asks for the header again, and checks each frame. What is not answered for 3 seconds it asks again; so it does each
 /// second where the configuration has no PMU yet.
 #[derive(Drop)]
@@ -167,8 +167,8 @@ pub struct Watcher {
     is_started: bool,
     has_no_pmu: bool,
     // Command 5 without CFG-2, and command 2 without a data frame.
-    config_question: Question,
-    start_question: Question,
+    config_question: Retry,
+    start_question: Retry,
     headers: u32,
     is_changing: bool,
     is_ended: bool,
@@ -195,8 +195,8 @@ impl Watcher {
             is_asked: false,
             is_started: false,
             has_no_pmu: false,
-            config_question: Question::NEW,
-            start_question: Question::NEW,
+            config_question: Retry::NEW,
+            start_question: Retry::NEW,
             headers: 0,
             is_changing: false,
             is_ended: false,
@@ -275,7 +275,7 @@ impl Watcher {
         let word = if self.owes_config {
             self.owes_config = false;
             self.is_asked = true;
-            self.config_question = Question::NEW;
+            self.config_question = Retry::NEW;
             Word::SendCfgTwo
         } else if self.owes_header {
             self.owes_header = false;
@@ -283,7 +283,7 @@ impl Watcher {
         } else if self.owes_start {
             self.owes_start = false;
             self.is_started = true;
-            self.start_question = Question::NEW;
+            self.start_question = Retry::NEW;
             // A peer obeys in order, so that the answer to this tells that the start was obeyed.
             self.owes_header = true;
             Word::StartData
@@ -388,7 +388,7 @@ impl Watcher {
             self.tally.missing = self.tally.missing.saturating_add(between.saturating_sub(1));
         }
         self.last = Some(stamp);
-        self.start_question = Question::NEW;
+        self.start_question = Retry::NEW;
         let is_changed = frame.is_changed();
         if self.is_changing && !is_changed {
             self.ask_again();

@@ -2,7 +2,7 @@
 
 use crate::asserts::same;
 use crate::wires::{Sends, Takes};
-use pg_status::{Answer, Dialogue, LineAnswer, Turned};
+use pg_status::{Answer, ControlProtocol, LineAnswer, Turned};
 use std::io;
 use std::io::{ErrorKind, Write};
 use std::test::*;
@@ -39,7 +39,7 @@ impl Answer for PutsOff {
 fn silent_since_the_last_bytes(rt: HostRuntime) {
     let alloc = rt.alloc();
     let start = Instant::now(&rt).expect(&rt, "a clock");
-    let mut dialogue = Dialogue::new(alloc, start);
+    let mut dialogue = ControlProtocol::new(alloc, start);
     let mut out = Takes::all(alloc);
     let mut answers = PutsOff {
         is_there: false,
@@ -74,7 +74,7 @@ fn silent_since_the_last_bytes(rt: HostRuntime) {
 fn a_client_that_goes_before_its_answer(rt: HostRuntime) {
     let alloc = rt.alloc();
     let start = Instant::now(&rt).expect(&rt, "a clock");
-    let mut dialogue = Dialogue::new(alloc, start);
+    let mut dialogue = ControlProtocol::new(alloc, start);
     // The socket takes no more at all.
     let mut out = Takes::all(alloc);
     out.most = 0;

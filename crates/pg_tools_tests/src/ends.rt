@@ -13,68 +13,68 @@ const SAID: [(Refusal, &str, &str); 15] = [
     (
         Refusal::NoMemory,
         "pdcgw: 1 NoMemory\n",
-        "memory ran out; the system has to give more, or the setup to ask for less",
+        "out of memory; give this machine more, or let the setup need less",
     ),
     (
         Refusal::PmuExists,
         "pdcgw: 24 PmuExists\n",
-        "two tables [[pmu]] have this source and number; each PMU has one",
+        "two tables [[pmu]] have the same source and id; each PMU has one table",
     ),
     (
         Refusal::PmusFull,
         "pdcgw: 25 PmusFull\n",
-        "more than 256 PMUs are registered; 256 at most may be",
+        "more than 256 PMUs; at most 256 are allowed",
     ),
     (
         Refusal::NoSuchPmu,
         "pdcgw: 23 NoSuchPmu\n",
-        "a grant names a PMU that no table [[pmu]] has; one has to",
+        "a grant names a PMU that no table [[pmu]] has; add the table, or remove the grant",
     ),
     (
         Refusal::SubExists,
         "pdcgw: 27 SubExists\n",
-        "two tables [[subscriber]] have the same id; each has its own",
+        "two tables [[subscriber]] have the same id; each subscriber has its own",
     ),
     (
         Refusal::SubsFull,
         "pdcgw: 28 SubsFull\n",
-        "there are more than 64 subscribers; 64 at most may be",
+        "more than 64 subscribers; at most 64 are allowed",
     ),
     (
         Refusal::NoSuchSub,
         "pdcgw: 26 NoSuchSub\n",
-        "a table belongs to a subscriber that was refused; it has to be one that stands",
+        "a table belongs to a subscriber that was refused; correct the table of that subscriber",
     ),
     (
         Refusal::GrantsFull,
         "pdcgw: 29 GrantsFull\n",
-        "a subscriber has more than 32 grants; 32 at most may be",
+        "a subscriber has more than 32 grants; at most 32 are allowed",
     ),
     (
         Refusal::StreamExists,
         "pdcgw: 30 StreamExists\n",
-        "two streams of a subscriber have the same id; each has its own",
+        "two streams of a subscriber have the same id; each stream has its own",
     ),
     (
         Refusal::StreamsFull,
         "pdcgw: 31 StreamsFull\n",
-        "a subscriber has more than 8 streams; 8 at most may be",
+        "a subscriber has more than 8 streams; at most 8 are allowed",
     ),
     (
         Refusal::BadDefinition,
         "pdcgw: 32 BadDefinition\n",
-        "a stream is not within its ranges: rate 1 to 120, base from its rate to 16777215, wait 0 to 60000, window 1 to 64, a header \
+        "a value of a stream is outside its range: rate 1 to 120, base from its rate to 16777215, wait 0 to 60000, window 1 to 64, a header \
          of ASCII up to 1024 bytes, and no member twice",
     ),
     (
         Refusal::Busy,
         "pdcgw: 34 Busy\n",
-        "8 clients are connected to the control socket; it takes one more when one of them has gone",
+        "8 clients are connected to the control socket, the most possible; try again when one has left",
     ),
     (
         Refusal::BadSetup,
         "pdcgw: 37 BadSetup\n",
-        "the setup file is no setup; `pdcgw check --setup FILE` tells its faults",
+        "the setup file has mistakes; `pdcgw check --setup FILE` lists them",
     ),
     (
         Refusal::ReadFault,
@@ -96,7 +96,7 @@ fn refusals_in_words(rt: HostRuntime) {
         let told = format!(in alloc; "{}\n", Signed(refusal)).expect(&rt, "memory");
         same(&rt, told.as_str(), line);
     }
-    let other = "the gateway refuses what is asked for; `pdcgw help` tells what can be";
+    let other = "the gateway refuses this; `pdcgw help` lists what it does";
     same(&rt, say(Refusal::BadCheck), other);
 }
 
@@ -165,19 +165,19 @@ fn a_control_socket_that_fails(rt: HostRuntime) {
     for (kind, wanted) in [
         (
             ErrorKind::NotFound,
-            "/run/c: there is no such file; it is where the key `control` of the setup of a gateway that runs says\n",
+            "/run/c: there is no such file; the path has to be `control` of the running gateway's setup\n",
         ),
         (
             ErrorKind::ConnectionRefused,
-            "/run/c: nobody listens there; the gateway does not run\n",
+            "/run/c: no gateway listens there; start it\n",
         ),
         (
             ErrorKind::PermissionDenied,
-            "/run/c: not permitted; it is for the user that the gateway runs as\n",
+            "/run/c: not permitted; only the gateway's user and root may connect\n",
         ),
         (
             ErrorKind::BrokenPipe,
-            "/run/c: the answers can't be written; standard output has to take them\n",
+            "/run/c: the answers can't be written to standard output\n",
         ),
         (ErrorKind::TimedOut, "/run/c: timed out\n"),
     ] {
@@ -189,11 +189,11 @@ fn a_control_socket_that_fails(rt: HostRuntime) {
         (Answered::All, ""),
         (
             Answered::Refused,
-            "/run/c: a line was refused; its answer tells the reason, and docs/OPERATING.md what it means\n",
+            "/run/c: a command was refused; its answer has the reason, and docs/OPERATING.md says what that means\n",
         ),
         (
             Answered::Busy,
-            "/run/c: 8 clients are connected already; it takes one more when one of them has gone\n",
+            "/run/c: 8 clients are connected already, the most possible; try again when one has left\n",
         ),
         (
             Answered::Ended(1),

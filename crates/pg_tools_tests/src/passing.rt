@@ -3,7 +3,7 @@
 use crate::asserts::same;
 use crate::signals::settings;
 use pg_command::write_command;
-use pg_tools::{Faults, Heard, Moment, Source};
+use pg_tools::{CommandEvent, Faults, Moment, Source};
 use pg_wire::PmuId;
 use std::test::*;
 
@@ -24,7 +24,7 @@ fn passed_frames(rt: HostRuntime) {
     let heard = source
         .next(Moment::new(SOC, 0), &mut out)
         .expect(&rt, "memory");
-    assert!(rt; matches!(heard, Heard::Obeyed(_)));
+    assert!(rt; matches!(heard, CommandEvent::Obeyed(_)));
     // At which second slots are passed over, at which they are sent, and how many were sent then. Of the slots 1 to 60 behind the start those up to 30
     // were due in second 2. Where its clock is set back nothing is sent twice.
     for (passed, sent, wanted) in [(2, 2, 0), (2, 3, 30), (1, 3, 30)] {

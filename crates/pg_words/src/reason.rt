@@ -12,31 +12,33 @@ pub fn say(refusal: Refusal) -> &'static str
     ensures { result.now ≡ said_of refusal }
 {
     match refusal {
-        Refusal::NoMemory =>
-            "memory ran out; the system has to give more, or the setup to ask for less",
-        Refusal::PmuExists => "two tables [[pmu]] have this source and number; each PMU has one",
-        Refusal::PmusFull => "more than 256 PMUs are registered; 256 at most may be",
-        Refusal::NoSuchPmu => "a grant names a PMU that no table [[pmu]] has; one has to",
-        Refusal::SubExists => "two tables [[subscriber]] have the same id; each has its own",
-        Refusal::SubsFull => "there are more than 64 subscribers; 64 at most may be",
+        Refusal::NoMemory => "out of memory; give this machine more, or let the setup need less",
+        Refusal::PmuExists =>
+            "two tables [[pmu]] have the same source and id; each PMU has one table",
+        Refusal::PmusFull => "more than 256 PMUs; at most 256 are allowed",
+        Refusal::NoSuchPmu =>
+            "a grant names a PMU that no table [[pmu]] has; add the table, or remove the grant",
+        Refusal::SubExists =>
+            "two tables [[subscriber]] have the same id; each subscriber has its own",
+        Refusal::SubsFull => "more than 64 subscribers; at most 64 are allowed",
         Refusal::NoSuchSub =>
-            "a table belongs to a subscriber that was refused; it has to be one that stands",
-        Refusal::GrantsFull => "a subscriber has more than 32 grants; 32 at most may be",
-        Refusal::StreamExists => "two streams of a subscriber have the same id; each has its own",
-        Refusal::StreamsFull => "a subscriber has more than 8 streams; 8 at most may be",
+            "a table belongs to a subscriber that was refused; correct the table of that subscriber",
+        Refusal::GrantsFull => "a subscriber has more than 32 grants; at most 32 are allowed",
+        Refusal::StreamExists =>
+            "two streams of a subscriber have the same id; each stream has its own",
+        Refusal::StreamsFull => "a subscriber has more than 8 streams; at most 8 are allowed",
         Refusal::BadDefinition => {
-            "a stream is not within its ranges: rate 1 to 120, base from its rate to 16777215, wait 0 to 60000, window 1 to 64, a header \
+            "a value of a stream is outside its range: rate 1 to 120, base from its rate to 16777215, wait 0 to 60000, window 1 to 64, a header \
              of ASCII up to 1024 bytes, and no member twice"
         }
         Refusal::Busy =>
-            "8 clients are connected to the control socket; it takes one more when one of them has gone",
-        Refusal::BadSetup =>
-            "the setup file is no setup; `pdcgw check --setup FILE` tells its faults",
+            "8 clients are connected to the control socket, the most possible; try again when one has left",
+        Refusal::BadSetup => "the setup file has mistakes; `pdcgw check --setup FILE` lists them",
         Refusal::ReadFault =>
             "input can't be read; it has to be a file, a pipe or a terminal that is open",
         Refusal::WriteFault =>
             "output can't be written; it has to be a file, a pipe or a terminal that takes it",
-        _ => "the gateway refuses what is asked for; `pdcgw help` tells what can be",
+        _ => "the gateway refuses this; `pdcgw help` lists what it does",
     }
 }
 

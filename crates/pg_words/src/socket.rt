@@ -4,7 +4,7 @@ use pg_status::Answered;
 use std::alloc::{AllocError, Global};
 use std::io::ErrorKind;
 
-/// A control socket that can't be asked, a line: `PATH: WHY`, where `system` is what the system says of it.
+/// A control socket that can't be reached, a line: `PATH: WHY`, where `system` is what the system says of it.
 ///
 /// # Errors
 ///
@@ -17,11 +17,12 @@ pub fn not_reached(
 ) -> Result<String, AllocError> {
     let why = match kind {
         ErrorKind::NotFound => {
-            "there is no such file; it is where the key `control` of the setup of a gateway that runs says"
+            "there is no such file; the path has to be `control` of the running gateway's setup"
         }
-        ErrorKind::ConnectionRefused => "nobody listens there; the gateway does not run",
-        ErrorKind::PermissionDenied => "not permitted; it is for the user that the gateway runs as",
-        ErrorKind::BrokenPipe => "the answers can't be written; standard output has to take them",
+        ErrorKind::ConnectionRefused => "no gateway listens there; start it",
+        ErrorKind::PermissionDenied =>
+            "not permitted; only the gateway's user and root may connect",
+        ErrorKind::BrokenPipe => "the answers can't be written to standard output",
         _ => system,
     };
     format!(in alloc; "{path}: {why}\n")
@@ -42,12 +43,12 @@ pub fn not_answered(
         Answered::All => Ok(String::new(alloc)),
         Answered::Refused => {
             format!(in alloc;
-                "{path}: a line was refused; its answer tells the reason, and docs/OPERATING.md what it means\n"
+                "{path}: a command was refused; its answer has the reason, and docs/OPERATING.md says what that means\n"
             )
         }
         Answered::Busy => {
             format!(in alloc;
-                "{path}: 8 clients are connected already; it takes one more when one of them has gone\n"
+                "{path}: 8 clients are connected already, the most possible; try again when one has left\n"
             )
         }
         Answered::Ended(place) => {

@@ -2,7 +2,7 @@ use Rattle.std.proofs.Common.{◌≡◌, ◌∙◌, inl, refl, sym, subst, [], �
 use Rattle.std.proofs.lemmas.List.{append_cancel_left}
 use Rattle.pg_session.specs.Events.{connect}
 use Rattle.pg_gateway.specs.declared.event.Event.TheVariants as event
-use Rattle.pg_gateway.specs.Occurrences.{asks, told}
+use Rattle.pg_gateway.specs.GatewayEvents.{asks, told}
 use Rattle.pg_gateway.specs.Posting.{Posted}
 use Rattle.pg_shared.specs.Gates.{said_at}
 use Rattle.pg_shared.specs.Onward.{own_in}

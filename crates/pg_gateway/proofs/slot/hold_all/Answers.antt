@@ -1,7 +1,7 @@
 use Rattle.std.proofs.Common.{rules, arith, length, ap, ◌∙◌, ◌++◌, w64}
 use Rattle.std.specs.Int.{trailing_zeros}
 use Rattle.pg_gateway.specs.Routes.{places_at}
-use Rattle.pg_gateway.proofs.RouteLaws.{turn, without}
+use Rattle.pg_gateway.proofs.RouteLaws.{note_granted, without}
 use Rattle.pg_gateway.proofs.MaskLaws.{first_at, bits_left, room_at, next_at, end_at}
 use Rattle.pg_gateway.proofs.slot.hold_all.Goals as goal
 
@@ -15,7 +15,7 @@ push_reserved-requires c =
     omega (arith, room, inv.room, c.requires.few, c.held.held.ok)
 
 pub held-smaller : goal.held-smaller
-held-smaller c = (turn c.held.left (omega arith) (search rules)).3
+held-smaller c = (note_granted c.held.left (omega arith) (search rules)).3
 
 pub held-preserved : goal.held-preserved
 held-preserved c =

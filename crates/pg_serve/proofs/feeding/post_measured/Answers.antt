@@ -1,6 +1,6 @@
 use Rattle.std.specs.Arc.{arc_value}
 use Rattle.pg_session.specs.Private.{done, refused}
-use Rattle.pg_gateway.specs.Occurrences.{measure, tells}
+use Rattle.pg_gateway.specs.GatewayEvents.{measure, tells}
 use Rattle.pg_serve.proofs.Doing.{Did-event}
 use Rattle.pg_serve.proofs.feeding.post_measured.Goals as goal
 

@@ -1,5 +1,5 @@
 use Rattle.std.proofs.Common.{subst}
-use Rattle.pg_gateway.specs.Occurrences.{told}
+use Rattle.pg_gateway.specs.GatewayEvents.{told}
 use Rattle.pg_gateway.specs.Posting.{Notes, posted_if}
 use Rattle.pg_service.proofs.Taken.{posts_edit}
 use Rattle.pg_service.proofs.edits.post_edit.Goals as goal

@@ -1,7 +1,7 @@
 use Rattle.std.proofs.Common.{◌+◌, drop, sym}
 use Rattle.pg_session.specs.Events.{samples_at}
 use Rattle.pg_session.specs.Wanted.{wanted_of, all_wanted}
-use Rattle.pg_session.proofs.Laying.{wanted_split}
+use Rattle.pg_session.proofs.Preparing.{wanted_split}
 use Rattle.pg_session.proofs.Going.{passed_one, passed_not}
 use Rattle.pg_session.proofs.accepting.after_wanted.Goals as goal
 

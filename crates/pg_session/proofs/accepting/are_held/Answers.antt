@@ -5,7 +5,7 @@ use Rattle.pg_data.specs.Measurements.{Measurement, IsMeasurement}
 use Rattle.pg_session.specs.Events.{Sample}
 use Rattle.pg_session.specs.Ready.{AreHeld}
 use Rattle.pg_session.proofs.Changing.{part_there}
-use Rattle.pg_session.proofs.Laying.{sampled_next}
+use Rattle.pg_session.proofs.Preparing.{sampled_next}
 use Rattle.pg_session.proofs.accepting.are_held.Goals as goal
 
 pub returns-then-not-is_held : goal.returns-then-not-is_held

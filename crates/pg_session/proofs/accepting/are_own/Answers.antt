@@ -1,7 +1,7 @@
 use Rattle.std.proofs.Common.{◌≡◌, true, sym, ◌∙◌, subst}
 use Rattle.pg_entitle.specs.Grants.{has_key}
 use Rattle.pg_session.specs.Ready.{AreOwn}
-use Rattle.pg_session.proofs.Laying.{announced_next}
+use Rattle.pg_session.proofs.Preparing.{announced_next}
 use Rattle.pg_session.proofs.accepting.are_own.Goals as goal
 
 pub returns-then-not-holds : goal.returns-then-not-holds

@@ -21,15 +21,15 @@ on-preserved c =
       at + 1,
       rest_left c.on.left at rest inv.0 xs inv.1 low,
       record {
-        laid = spread_next items c.lay_one.new.blocks.items piece (if may_keep x then 1 else 0) (count_keeping (drop (at + 1) xs))
-            (replicate (count_keeping xs) piece) c.in_ok-lay_one.ensures.laid (ap (λ n. items ++ replicate n piece) (sym next) ∙ here.laid);
-        few = omega (arith, c.in_ok-lay_one.ensures.few, here.few);
+        prepared = spread_next items c.prepare_one.new.blocks.items piece (if may_keep x then 1 else 0) (count_keeping (drop (at + 1) xs))
+            (replicate (count_keeping xs) piece) c.in_ok-prepare_one.ensures.prepared (ap (λ n. items ++ replicate n piece) (sym next) ∙ here.prepared);
+        few = omega (arith, c.in_ok-prepare_one.ensures.few, here.few);
       },
-      c.lay_one.ensures.capacity ∙ inv.3,
+      c.prepare_one.ensures.capacity ∙ inv.3,
     )
 
-pub returns-clause-laid : goal.returns-clause-laid
-returns-clause-laid c =
+pub returns-clause-prepared : goal.returns-clause-prepared
+returns-clause-prepared c =
     let xs = c.args.streams.now in
     let piece = piece_of (arc_value c.args.frame.now) c.args.place in
     let inv = c.on.invariant in

@@ -1,6 +1,6 @@
 use Rattle.std.proofs.Common.{subst, [], ◌∷◌}
 use Rattle.pg_session.specs.Events.{hangup}
-use Rattle.pg_gateway.specs.Occurrences.{asks, told}
+use Rattle.pg_gateway.specs.GatewayEvents.{asks, told}
 use Rattle.pg_gateway.specs.Posting.{Notes}
 use Rattle.pg_gateway.proofs.Taken.{posts_asked}
 use Rattle.pg_shared.proofs.serve.hang_up.Goals as goal

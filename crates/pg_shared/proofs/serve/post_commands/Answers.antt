@@ -1,7 +1,7 @@
 use Rattle.std.proofs.Common.{refl, subst, ap, ◌∙◌, [], ◌∷◌}
 use Rattle.pg_session.specs.Commands.{Hearing, ShowsHearing}
 use Rattle.pg_session.specs.Events.{command}
-use Rattle.pg_gateway.specs.Occurrences.{asks, told}
+use Rattle.pg_gateway.specs.GatewayEvents.{asks, told}
 use Rattle.pg_gateway.specs.Posting.{Notes}
 use Rattle.pg_gateway.proofs.Taken.{posts_asked}
 use Rattle.pg_shared.proofs.Sessions.{turned_nothing, turned_more, turned_passed, turned_ignored, turned_broken, broken_out}

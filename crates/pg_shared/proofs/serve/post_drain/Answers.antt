@@ -2,7 +2,7 @@ use Rattle.std.proofs.Common.{rules, subst, ap, ◌∙◌, ◌≡◌, [], ◌∷
 use Rattle.pg_session.specs.Commands.{Hearing}
 use Rattle.pg_session.specs.Events.{drain}
 use Rattle.pg_session.specs.Private.{drain_told}
-use Rattle.pg_gateway.specs.Occurrences.{asks, tells}
+use Rattle.pg_gateway.specs.GatewayEvents.{asks, tells}
 use Rattle.pg_gateway.specs.Posting.{Notes}
 use Rattle.pg_gateway.proofs.Taken.{posts_asked}
 use Rattle.pg_shared.proofs.Sessions.{turned_drained, bytes_drained}

@@ -7,7 +7,7 @@ use Rattle.pg_sources.proofs.source.run_guarded.Goals as goal
 pub returns : goal.returns
 returns g c = record {
   call = subst (λ w. IsCall c.run_link.result 10000 c.args.link.now c.run_link.new.link
-      (wires (g.R.Read.remaining c.args.reader.now.reader) (g.W.Write.contents c.args.writer.now) (g.G.Gate.posts w.gate) (passes w.guarding (g.G.Gate.takes w.gate)))
+      (wires (g.R.Read.remaining c.args.reader.now.reader) (g.W.Write.contents c.args.writer.now) (g.G.Gate.posts w.gate) (passes w.check (g.G.Gate.takes w.gate)))
       (wires (g.R.Read.remaining c.run_link.new.reader.reader) (g.W.Write.contents c.run_link.new.writer) (g.G.Gate.posts c.run_link.new.gate.gate)
-      (passes c.run_link.new.gate.guarding (g.G.Gate.takes c.run_link.new.gate.gate)))) c.guard.ensures.state c.run_link.ensures.call;
+      (passes c.run_link.new.gate.check (g.G.Gate.takes c.run_link.new.gate.gate)))) c.guard.ensures.state c.run_link.ensures.call;
 }

@@ -1,5 +1,5 @@
 use Rattle.std.proofs.Common.{refl, inr}
-use Rattle.pg_gateway.specs.Occurrences.{standing}
+use Rattle.pg_gateway.specs.GatewayEvents.{standing}
 use Rattle.pg_service.proofs.Taken.{posts_other}
 use Rattle.pg_subscribers.proofs.Own.{own_one}
 use Rattle.pg_subscribers.proofs.standings.post_standing.Goals as goal

@@ -1,7 +1,7 @@
 use Rattle.std.proofs.Common.{length}
 use Rattle.pg_session.specs.Events.{drain}
-use Rattle.pg_gateway.specs.Occurrences.{asks, told}
-use Rattle.pg_gateway.proofs.ReachLaws.{reached_then}
+use Rattle.pg_gateway.specs.GatewayEvents.{asks, told}
+use Rattle.pg_gateway.proofs.TargetLaws.{reached_then}
 use Rattle.pg_gateway.proofs.RouteKept.{routes_stay}
 use Rattle.pg_gateway.proofs.FrugalLaws.{frugally}
 use Rattle.pg_gateway.proofs.AlikeLaws.{leaves_alike, own_blocks}

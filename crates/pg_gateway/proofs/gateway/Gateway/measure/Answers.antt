@@ -1,7 +1,7 @@
 use Rattle.std.specs.Arc.{arc_value}
-use Rattle.pg_gateway.specs.Occurrences.{measure}
+use Rattle.pg_gateway.specs.GatewayEvents.{measure}
 use Rattle.pg_gateway.specs.Taking.{told_to_all}
-use Rattle.pg_gateway.proofs.ReachLaws.{reached_then}
+use Rattle.pg_gateway.proofs.TargetLaws.{reached_then}
 use Rattle.pg_gateway.proofs.RouteKept.{routes_stay}
 use Rattle.pg_gateway.proofs.FrugalLaws.{frugally}
 use Rattle.pg_gateway.proofs.AlikeLaws.{leaves_alike, own_blocks}

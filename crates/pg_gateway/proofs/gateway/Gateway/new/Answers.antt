@@ -1,6 +1,6 @@
 use Rattle.std.proofs.Common.{sym, subst, true≢false, ◌∙◌}
 use Rattle.pg_gateway.specs.Consistent.{IsReached}
-use Rattle.pg_gateway.proofs.ReachLaws.{reached_first}
+use Rattle.pg_gateway.proofs.TargetLaws.{reached_first}
 use Rattle.pg_gateway.proofs.gateway.Gateway.new.Goals as goal
 
 pub invariant_of-result : goal.invariant_of-result

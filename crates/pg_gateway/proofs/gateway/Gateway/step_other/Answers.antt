@@ -1,5 +1,5 @@
-use Rattle.pg_gateway.specs.Occurrences.{occurrence, told}
-use Rattle.pg_gateway.proofs.ReachLaws.{reached_then}
+use Rattle.pg_gateway.specs.GatewayEvents.{gateway_event, told}
+use Rattle.pg_gateway.proofs.TargetLaws.{reached_then}
 use Rattle.pg_gateway.proofs.RouteKept.{routes_stay}
 use Rattle.pg_gateway.proofs.FrugalLaws.{frugally}
 use Rattle.pg_gateway.proofs.AlikeLaws.{leaves_alike, own_blocks}
@@ -9,7 +9,7 @@ pub invariant_of-self : goal.invariant_of-self
 invariant_of-self c =
     let old = c.self.inside.kernel in
     let new = c.step-reply.new.self in
-    let e = occurrence c.args.event in
+    let e = gateway_event c.args.event in
     let a = told c.step-reply.result in (
       reached_then old new e a c.self.invariant.0 c.posted.ensures c.step-reply.ensures.goes,
       λ fresh.
@@ -21,12 +21,12 @@ invariant_of-self c =
 
 pub returns-clause-frugal : goal.returns-clause-frugal
 returns-clause-frugal c =
-    rw (← c.self.view_is) (frugally c.self.inside.kernel c.step-reply.new.self (occurrence c.args.event) (told c.step-reply.result) c.step-reply.ensures.goes c.step-reply.ensures.copies)
+    rw (← c.self.view_is) (frugally c.self.inside.kernel c.step-reply.new.self (gateway_event c.args.event) (told c.step-reply.result) c.step-reply.ensures.goes c.step-reply.ensures.copies)
 
 pub returns-clause-alike : goal.returns-clause-alike
 returns-clause-alike c =
-    rw (← c.self.view_is) (leaves_alike c.self.inside.kernel c.step-reply.new.self (occurrence c.args.event) (told c.step-reply.result) c.step-reply.ensures.goes)
+    rw (← c.self.view_is) (leaves_alike c.self.inside.kernel c.step-reply.new.self (gateway_event c.args.event) (told c.step-reply.result) c.step-reply.ensures.goes)
 
 pub returns-clause-own_blocks : goal.returns-clause-own_blocks
 returns-clause-own_blocks c =
-    rw (← c.self.view_is) (own_blocks c.self.inside.kernel c.step-reply.new.self (occurrence c.args.event) (told c.step-reply.result) c.step-reply.ensures.goes)
+    rw (← c.self.view_is) (own_blocks c.self.inside.kernel c.step-reply.new.self (gateway_event c.args.event) (told c.step-reply.result) c.step-reply.ensures.goes)

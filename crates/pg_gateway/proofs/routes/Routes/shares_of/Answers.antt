@@ -5,11 +5,11 @@ use Rattle.pg_gateway.proofs.RouteLaws.{one_zero}
 use Rattle.pg_gateway.proofs.MaskLaws.{between}
 use Rattle.pg_gateway.proofs.routes.Routes.shares_of.Goals as goal
 
-pub returns-then-some-ne0-clause-turned : goal.returns-then-some-ne0-clause-turned
-returns-then-some-ne0-clause-turned c = λ j marked part.
-    c.turn.ensures j (between c.marks_of-marks.result.0 c.marks_of-marks.result.1 j (search rules) (search rules) marked part)
+pub returns-then-some-ne0-clause-granted_blocks : goal.returns-then-some-ne0-clause-granted_blocks
+returns-then-some-ne0-clause-granted_blocks c = λ j granted part.
+    c.note_granted.ensures j (between c.granted_to-granted_some.result.0 c.granted_to-granted_some.result.1 j (search rules) (search rules) granted part)
 
-pub returns-else-some-ne0-clause-turned : goal.returns-else-some-ne0-clause-turned
-returns-else-some-ne0-clause-turned c = λ j marked part.
-    let one = between c.marks_of-marks.result.0 c.marks_of-marks.result.1 j (search rules) (search rules) marked part in
+pub returns-else-some-ne0-clause-granted_blocks : goal.returns-else-some-ne0-clause-granted_blocks
+returns-else-some-ne0-clause-granted_blocks c = λ j granted part.
+    let one = between c.granted_to-granted_some.result.0 c.granted_to-granted_some.result.1 j (search rules) (search rules) granted part in
     absurd (one_zero _ one (ap (λ m. bit_at m j) (omega (arith, c.if-some-ne0.false)) ∙ bit_at-zero j))

@@ -1,5 +1,5 @@
 use Rattle.std.proofs.Common.{sym, ◌∙◌, refl}
-use Rattle.pg_gateway.specs.Occurrences.{add_pmu, told}
+use Rattle.pg_gateway.specs.GatewayEvents.{add_pmu, told}
 use Rattle.pg_serve.proofs.Taking.{no_memory, line_added, line_not_added, entries_after}
 use Rattle.pg_serve.proofs.world_core.Core.add_line.Goals as goal
 

@@ -1,5 +1,5 @@
 use Rattle.std.proofs.Common.{sym, ◌∙◌, refl}
-use Rattle.pg_gateway.specs.Occurrences.{add_pmu, told}
+use Rattle.pg_gateway.specs.GatewayEvents.{add_pmu, told}
 use Rattle.pg_serve.proofs.Taking.{no_memory, line_stays, full_refuses, may_add}
 use Rattle.pg_serve.proofs.world_core.Core.add_pmu.Goals as goal
 

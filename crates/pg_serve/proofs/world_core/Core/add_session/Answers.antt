@@ -1,6 +1,6 @@
 use Rattle.std.proofs.Common.{sym, ◌∙◌, refl}
 use Rattle.pg_session.specs.Events.{connect}
-use Rattle.pg_gateway.specs.Occurrences.{asks, told}
+use Rattle.pg_gateway.specs.GatewayEvents.{asks, told}
 use Rattle.pg_serve.proofs.Taking.{no_memory, session_added, not_connected, entries_after}
 use Rattle.pg_serve.proofs.world_core.Core.add_session.Goals as goal
 

@@ -1,6 +1,6 @@
 use Rattle.std.proofs.Common.{sym, ◌∙◌, refl}
 use Rattle.pg_session.specs.Events.{connect}
-use Rattle.pg_gateway.specs.Occurrences.{asks, told}
+use Rattle.pg_gateway.specs.GatewayEvents.{asks, told}
 use Rattle.pg_serve.proofs.Taking.{no_memory, not_connected, absent_connects, busy_connects, may_connect}
 use Rattle.pg_serve.proofs.Lines.{session_new}
 use Rattle.pg_serve.proofs.world_core.Core.connect.Goals as goal

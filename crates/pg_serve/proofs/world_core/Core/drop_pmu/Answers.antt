@@ -1,5 +1,5 @@
 use Rattle.std.proofs.Common.{sym, ◌∙◌}
-use Rattle.pg_gateway.specs.Occurrences.{drop_pmu, told}
+use Rattle.pg_gateway.specs.GatewayEvents.{drop_pmu, told}
 use Rattle.pg_gateway.specs.State.{next}
 use Rattle.pg_serve.proofs.Taking.{line_dropped, line_kept}
 use Rattle.pg_serve.proofs.world_core.Core.drop_pmu.Goals as goal

@@ -1,7 +1,7 @@
 use Rattle.std.proofs.Common.{length, ap, sym, ◌∙◌, subst}
 use Rattle.pg_data.specs.Measurements.{Measurement}
 use Rattle.pg_session.specs.Ready.{ArePlaces}
-use Rattle.pg_session.proofs.Laying.{places_within}
+use Rattle.pg_session.proofs.Preparing.{places_within}
 use Rattle.pg_session.proofs.subscriber.Subscriber.accepts.Goals as goal
 
 pub are_own-requires : goal.are_own-requires

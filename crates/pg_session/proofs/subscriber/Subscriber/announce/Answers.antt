@@ -12,7 +12,7 @@ use Rattle.pg_session.specs.Steps.{Steps}
 use Rattle.pg_session.specs.Taking.{Taken}
 use Rattle.pg_session.proofs.Turning.{all-turned, may-done, own_changed, same_changed}
 use Rattle.pg_session.proofs.Fitting.{fitted_map, reshape-fits, whole_slice}
-use Rattle.pg_session.proofs.Laying.{places_within}
+use Rattle.pg_session.proofs.Preparing.{places_within}
 use Rattle.pg_session.proofs.Granting.{granted_put_all, granted_few, rising_put_all, announces}
 use Rattle.pg_session.proofs.Switching.{on_turned, reshape-on}
 use Rattle.pg_session.proofs.subscriber.Subscriber.announce.Goals as goal

@@ -8,7 +8,7 @@ use Rattle.pg_session.specs.Streams.{measure_turn}
 use Rattle.pg_session.specs.Kept.{by_slots, by_gaps}
 use Rattle.pg_session.specs.Fields.{AreFitted, stream_after}
 use Rattle.pg_session.specs.Ready.{AreHeld}
-use Rattle.pg_session.proofs.Laying.{places_few, places_within, held_listed}
+use Rattle.pg_session.proofs.Preparing.{places_few, places_within, held_listed}
 use Rattle.pg_session.specs.Shown.{Own, SubscriberValue}
 use Rattle.pg_session.specs.Steps.{Steps}
 use Rattle.pg_session.specs.Taking.{Taken}

@@ -1,0 +1,251 @@
+//! What the service shows of itself.
+
+ghost use Rattle.std.specs.Prelude.{◌≡◌, IfSome};
+
+use crate::service_handle::ServiceHandle;
+use pg_audit::{PmuStats, Stats};
+use pg_gateway::{Event, Gate, Reply};
+use pg_service::{LinkState, MeteredGate, PortReport, REASONS, Reports, SourceReport};
+use pg_status::{
+    Call, Histogram, Ignored, Presence, Queue, Snapshot, SourceState, StreamState, SubscriberState,
+};
+use pg_wire::{PmuId, Refusal, SubId};
+use std::alloc::{AllocError, Global};
+use std::rt::Clock;
+use std::sync::Wait;
+use std::time::Duration;
+
+/// What the service shows of itself now, and how old the data frames were that it handed out: its workers are asked for their sources
+/// and ports, and the gateway for its subscribers. Each list stands in the order of the numbers.
+pub(crate) fn seen_by<R: Wait + Clock, G: Gate>(
+    rt: &R,
+    alloc: Global,
+    service: &ServiceHandle<'_>,
+    gate: &mut MeteredGate<G>,
+) -> Result<(Snapshot, Histogram), AllocError> {
+    let reports = service.ask(rt, alloc);
+    let mut snapshot = Snapshot {
+        name: String::from_str(alloc, service.name)?,
+        sources: Vec::new(alloc),
+        subscribers: Vec::new(alloc),
+        streams: Vec::new(alloc),
+    };
+    let (sources, subs) = registered_at(rt, alloc, service)?;
+    let Reports {
+        sources: reported,
+        ports,
+        ages,
+        ..
+    } = reports;
+    for source in sources {
+        if !reported.iter().any(|it| it.source == source) {
+            snapshot.sources.push(uncalled(alloc, source))?;
+        }
+    }
+    for report in reported {
+        snapshot.sources.push(source_state(alloc, report)?)?;
+    }
+    snapshot.sources.sort_unstable_by_key(|it| it.source.get());
+    for sub in subs {
+        let port = port_of(&ports, sub);
+        subscriber_into(alloc, gate, sub, port, &mut snapshot)?;
+    }
+    Ok((snapshot, ages))
+}
+
+/// What is told of this subscriber's port, if it has one.
+fn port_of(ports: &[PortReport], sub: SubId) -> Option<&PortReport>
+    ensures own { IfSome result (λ port. port.now.sub ≡ sub) }
+{
+    ports.iter().find(|it| it.sub == sub)
+}
+
+/// The sources of registered PMUs, each once, and the subscribers in the order of their numbers.
+fn registered_at<R: Wait>(
+    rt: &R,
+    alloc: Global,
+    service: &ServiceHandle<'_>,
+) -> Result<(Vec<PmuId>, Vec<SubId>), AllocError> {
+    let mut sources = Vec::new(alloc);
+    let mut subs = Vec::new(alloc);
+    let registered = service.registered.lock(rt);
+    for key in registered.pmus() {
+        if !sources.contains(&key.source) {
+            sources.push(key.source)?;
+        }
+    }
+    subs.extend_from_slice(registered.subscribers())?;
+    drop(registered);
+    subs.sort_unstable_by_key(|it| it.get());
+    Ok((sources, subs))
+}
+
+/// A source that is called by nobody.
+fn uncalled(alloc: Global, source: PmuId) -> SourceState {
+    SourceState {
+        source,
+        address: None,
+        call: Call::Rests,
+        frames: 0,
+        events: 0,
+        ignored: Vec::new(alloc),
+        last: None,
+    }
+}
+
+/// A source, as its worker tells of it.
+fn source_state(alloc: Global, report: SourceReport) -> Result<SourceState, AllocError> {
+    let SourceReport {
+        source,
+        address,
+        reach,
+        counts,
+        far,
+        last,
+    } = report;
+    let ignored = ignored_in(alloc, &counts, far)?;
+    let mut frames = counts.taken;
+    for it in &ignored {
+        if it.reason != Refusal::FarClock {
+            frames = frames.saturating_add(it.count);
+        }
+    }
+    Ok(SourceState {
+        source,
+        address,
+        call: call_of(reach),
+        frames,
+        events: counts.taken.saturating_sub(far),
+        ignored,
+        last: match last {
+            Some(last) => Some(last.as_secs()),
+            None => None,
+        },
+    })
+}
+
+/// What of a source was ignored, by its reasons, and of its measurements because they were too far from the clock.
+fn ignored_in(alloc: Global, counts: &PmuStats, far: u64) -> Result<Vec<Ignored>, AllocError> {
+    let mut ignored = Vec::new(alloc);
+    for reason in REASONS {
+        let mut count = match counts.by_reason.get(usize::from(reason.number())) {
+            Some(count) => *count,
+            None => 0,
+        };
+        if reason == Refusal::FarClock {
+            count = count.saturating_add(far);
+        }
+        if count > 0 {
+            ignored.push(Ignored { reason, count })?;
+        }
+    }
+    Ok(ignored)
+}
+
+/// How a source's connection stands.
+fn call_of(reach: LinkState) -> Call {
+    match reach {
+        LinkState::Up => Call::Up,
+        LinkState::Calling => Call::Calling,
+        LinkState::Pause(left) => Call::Pause(u32::try_from(whole_seconds(left)).unwrap_or(
+            u32::MAX,
+        )),
+        LinkState::Rests => Call::Rests,
+    }
+}
+
+/// So many seconds, the last one begun.
+fn whole_seconds(left: Duration) -> u64 {
+    let rest = u64::from(left.subsec_nanos() > 0);
+    left.as_secs().saturating_add(rest)
+}
+
+/// A subscriber and its streams, behind those that are there. One that has left meanwhile is passed over.
+fn subscriber_into<G: Gate>(
+    alloc: Global,
+    gate: &mut MeteredGate<G>,
+    sub: SubId,
+    port: Option<&PortReport>,
+    snapshot: &mut Snapshot,
+) -> Result<(), AllocError> {
+    let Reply::Stats(stats) = gate.post(Event::Stats(sub)) else {
+        return Ok(());
+    };
+    let queue = streams_into(gate, sub, &mut snapshot.streams)?;
+    let state = subscriber_state(alloc, sub, &stats, port, queue)?;
+    snapshot.subscribers.push(state)?;
+    Ok(())
+}
+
+/// A subscriber, as the gateway counts for it and its port's worker tells of it.
+fn subscriber_state(
+    alloc: Global,
+    sub: SubId,
+    stats: &Stats,
+    port: Option<&PortReport>,
+    queue: Queue,
+) -> Result<SubscriberState, AllocError> {
+    let (number, presence, frames, gaps) = match port {
+        Some(report) => {
+            let number = match report.address {
+                Some(address) => Some(address.port()),
+                None => None,
+            };
+            let presence = match report.peer {
+                Some(peer) => Presence::Connected(format!(in alloc; "{peer}")?),
+                None => Presence::Waiting(report.since.as_secs()),
+            };
+            (number, presence, report.frames, report.gaps)
+        }
+        None => (None, Presence::Waiting(0), 0, 0),
+    };
+    Ok(SubscriberState {
+        sub,
+        port: number,
+        presence,
+        made: stats.made,
+        dropped: stats.dropped,
+        lost: stats.lost,
+        late: stats.late,
+        twice: stats.twice,
+        handed: stats.handed,
+        frames,
+        gaps,
+        queue,
+    })
+}
+
+/// The streams that one subscriber may have.
+const STREAMS: u8 = 8;
+
+/// The subscriber's streams in the order in which they were defined, behind those that are there, and what waits for it.
+fn streams_into<G: Gate>(
+    gate: &mut MeteredGate<G>,
+    sub: SubId,
+    streams: &mut Vec<StreamState>,
+) -> Result<Queue, AllocError> {
+    let mut queue = Queue {
+        frames: 0,
+        bytes: 0,
+    };
+    for place in 0..STREAMS {
+        let Reply::Standing(standing) = gate.post(Event::Standing(sub, place)) else {
+            break;
+        };
+        queue = Queue {
+            frames: standing.frames,
+            bytes: standing.bytes,
+        };
+        let Some(stream) = standing.stream else {
+            break;
+        };
+        streams.push(StreamState {
+            sub,
+            stream: stream.stream,
+            on: stream.is_on,
+            effective: u32::from(stream.effective),
+            members: u32::from(stream.members),
+        })?;
+    }
+    Ok(queue)
+}

@@ -1,4 +1,0 @@
-use Rattle.pg_demo.proofs.showing.demo.Given as goal
-
-abbrev pub ghosts-play : goal.ghosts-play
-ghosts-play g a = record { table = a.shared.now }

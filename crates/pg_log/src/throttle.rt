@@ -1,0 +1,129 @@
+//! How often the log repeats what is alike.
+
+use crate::journal::{Detail, Entry, LogEvent, Subject};
+use std::alloc::Global;
+
+/// How long an entry that is like one that was logged is held back, in milliseconds.
+const WINDOW_MS: u64 = 1_000;
+
+/// How long where frames of a source were ignored, or too far from the clock.
+const LONG_WINDOW_MS: u64 = 60_000;
+
+/// The most kinds that are told apart: more than a reload that changes everything has edits.
+const KINDS: usize = 4_096;
+
+/// A kind of which something was logged.
+#[derive(Drop)]
+struct Recent {
+    // What of it was logged or held back last.
+    last: Entry,
+    // When it was logged, in milliseconds.
+    told: u64,
+    // How often it happened since, or how many frames.
+    held: u64,
+}
+
+impl Recent {
+    /// Whether it may be logged again.
+    fn is_over(&self, now: u64) -> bool {
+        now.saturating_sub(self.told) >= window(self.last.event)
+    }
+}
+
+/// What is logged at once, and what is held back. Of what is alike, of one kind, source or subscriber and reason, the first
+/// is logged at once and then at most a line a second, which counts those that were held back; of ignored frames a line a minute.
+/// So a flood of one fills no log, and hides no other. Times are milliseconds of any clock that rises.
+#[derive(Drop)]
+pub struct LogThrottle {
+    recent: Vec<Recent>,
+    untold: u64,
+}
+
+impl LogThrottle {
+    /// Nothing was logged.
+    pub fn new(alloc: Global) -> LogThrottle {
+        LogThrottle {
+            recent: Vec::new(alloc),
+            untold: 0,
+        }
+    }
+
+    /// What is logged at once of an entry of now.
+    pub fn met(&mut self, entry: Entry, now: u64) -> Option<Entry> {
+        for recent in self.recent.iter_mut() {
+            if recent.last.is_like(&entry) {
+                recent.last = entry;
+                if recent.held == 0 && recent.is_over(now) {
+                    recent.told = now;
+                    return Some(entry);
+                }
+                recent.held = recent.held.saturating_add(entry.times);
+                return None;
+            }
+        }
+        if self.remember(entry, now) {
+            return Some(entry);
+        }
+        self.untold = self.untold.saturating_add(entry.times);
+        None
+    }
+
+    /// What was held back and is due now, if there is any left.
+    pub fn due(&mut self, now: u64) -> Option<Entry> {
+        for recent in self.recent.iter_mut() {
+            if recent.held > 0 && recent.is_over(now) {
+                let entry = Entry {
+                    times: recent.held,
+                    ..recent.last
+                };
+                recent.held = 0;
+                recent.told = now;
+                return Some(entry);
+            }
+        }
+        if self.untold == 0 {
+            return None;
+        }
+        let times = self.untold;
+        self.untold = 0;
+        Some(Entry {
+            event: LogEvent::Untold,
+            subject: Subject::Nobody,
+            detail: Detail::Nothing,
+            times,
+            time: None,
+        })
+    }
+
+    /// So many entries could not be logged.
+    pub fn missed(&mut self, times: u64) {
+        self.untold = self.untold.saturating_add(times);
+    }
+
+    /// Keeps that this was logged now; if there are too many kinds, in the place of one of which nothing is held back.
+    fn remember(&mut self, entry: Entry, now: u64) -> bool {
+        let new = Recent {
+            last: entry,
+            told: now,
+            held: 0,
+        };
+        if self.recent.len() < KINDS {
+            return self.recent.push(new).is_ok();
+        }
+        for recent in self.recent.iter_mut() {
+            if recent.held == 0 && recent.is_over(now) {
+                *recent = new;
+                return true;
+            }
+        }
+        false
+    }
+}
+
+/// How long what is like this is held back.
+fn window(event: LogEvent) -> u64 {
+    match event {
+        LogEvent::Ignored | LogEvent::FarMeasurement | LogEvent::WrongClock => LONG_WINDOW_MS,
+        _ => WINDOW_MS,
+    }
+}

@@ -1,0 +1,10 @@
+use Rattle.pg_subscribers.proofs.Own.{own_more, own_as}
+use Rattle.pg_shared.proofs.Sessions.{runs_join}
+use Rattle.pg_subscribers.proofs.Running.{nothing_read}
+use Rattle.pg_subscribers.proofs.connection.drain_once_and_on.Goals as goal
+
+pub returns-clause-own : goal.returns-clause-own
+returns-clause-own g c = own_more _ _ _ _ c.serve_once-end.ensures.own (own_as _ _ _ _ c.serve_once-end.ensures.sub c.drain_on.ensures.own)
+
+pub returns-clause-ran : goal.returns-clause-ran
+returns-clause-ran g c = λ r. runs_join _ _ _ _ _ _ _ _ _ _ _ _ (nothing_read _ _ _ _ _ _ c.serve_once-end.ensures.ran r) (c.drain_on.ensures.ran r)

@@ -1,0 +1,117 @@
+//! `pdcgw simulate`: a source that is played until the program is ended.
+
+use crate::fault::Fault;
+use crate::settings::Settings;
+use crate::simulator::{Happening, Simulator};
+use crate::source::CommandEvent;
+use pg_command::Word;
+use std::alloc::Global;
+use std::net::{Net, SocketAddr};
+use std::rt::Clock;
+use std::time::Duration;
+use std::{fmt, io};
+
+/// The longest wait for something to happen, in milliseconds.
+const LONGEST: u64 = 1_000;
+
+/// Plays a source at this address, and tells what happens, a line for each thing. It goes on until the program is ended.
+///
+/// # Errors
+///
+/// `Bind`, where the address can't be bound; `Output`, where standard output can't be written; `System`.
+pub fn simulate<R: Net + Clock + Print + Alloc<A = Global>>(
+    rt: &R,
+    address: SocketAddr,
+    settings: Settings,
+) -> Result<(), Fault> {
+    let alloc = rt.alloc();
+    let mut simulator = match Simulator::bind(rt, alloc, address, settings) {
+        Ok(simulator) => simulator,
+        Err(error) => return Err(Fault::Bind(address, error)),
+    };
+    begin(rt, &simulator)?;
+    let longest = Duration::from_millis(LONGEST);
+    let mut happened = Vec::new(alloc);
+    for _ in 0..u64::MAX {
+        happened.clear();
+        simulator.turn(rt, longest, &mut happened)?;
+        for what in happened.iter() {
+            tell(rt, what, &simulator)?;
+        }
+    }
+    Ok(())
+}
+
+/// Tells where a source listens, and what it is.
+fn begin<R: Print>(rt: &R, simulator: &Simulator) -> Result<(), Fault> {
+    let address = simulator.address()?;
+    let settings = simulator.source().settings();
+    let first = settings.numbers.first;
+    let pmus = settings.numbers.pmus;
+    let rate = settings.rate.frames;
+    let s = if pmus == 1 { "" } else { "s" };
+    written(println!(rt;
+        "source {first} listens at {address}: {pmus} PMU{s} from {first} on, {rate} frames a second"
+    ))
+}
+
+/// Tells what happened.
+fn tell<R: Print>(rt: &R, what: &Happening, simulator: &Simulator) -> Result<(), Fault> {
+    let sent = simulator.source().counts().sent;
+    written(match what {
+        Happening::Connected(peer) => println!(rt; "{peer} has connected"),
+        Happening::Closed => println!(rt; "the connection is closed; {sent} data frames so far"),
+        Happening::CommandEvent(heard) => println!(rt; "{}", Telling(*heard)),
+        Happening::Stalled => println!(rt; "the peer does not read: frames are left out"),
+    })
+}
+
+/// What was heard, for people.
+#[derive(Clone, Copy)]
+struct Telling(CommandEvent);
+
+impl fmt::Display for Telling {
+    fn fmt<W: fmt::Write>(&self, f: &mut fmt::Formatter<W>) -> fmt::Result {
+        match &self.0 {
+            CommandEvent::Obeyed(word) => {
+                let number = word.number();
+                let does = meaning(*word);
+                write!(f, "command {number}: {does}")
+            }
+            CommandEvent::Kept(word) => {
+                let number = word.number();
+                write!(f, "command {number} is not answered")
+            }
+            CommandEvent::Ignored(refusal) => {
+                let name = refusal.name();
+                write!(f, "a frame of the peer is ignored: {name}")
+            }
+            CommandEvent::More => write!(f, "nothing"),
+            CommandEvent::Broken(refusal) => {
+                let name = refusal.name();
+                write!(f, "the bytes of the peer are no frames: {name}")
+            }
+        }
+    }
+}
+
+/// What a command asks for.
+fn meaning(word: Word) -> &'static str {
+    match word {
+        Word::StopData => "data is off",
+        Word::StartData => "data is on",
+        Word::SendHeader => "the header is sent",
+        Word::SendCfgOne => "CFG-1 is sent",
+        Word::SendCfgTwo => "CFG-2 is sent",
+        Word::SendCfgThree => "CFG-3",
+        Word::Extended => "an extended frame",
+    }
+}
+
+/// Standard output was written, or can't be.
+pub fn written(done: io::Result<()>) -> Result<(), Fault> {
+    match done {
+        Ok(()) => Ok(()),
+        Err(_) => Err(Fault::Output),
+    }
+}

@@ -1,0 +1,748 @@
+//! `pdcgw watch`: a subscriber that shows what comes.
+
+use crate::fault::Fault;
+use crate::lines::{Instant, NO_PMU, write_heading, write_second, write_values};
+use crate::moment::Moment;
+use crate::screen::{Before, History, View, draw};
+use crate::settings::{BadOption, number};
+use crate::simulate_source::written;
+use crate::target::{Target, read_target};
+use crate::watcher::{Seen, Trouble, Watcher};
+use mio::net::TcpStream;
+use mio::{Events, Interest, Poll, Token};
+use pg_config::SourceConfig;
+use pg_data::DataFrame;
+use pg_wire::PmuId;
+use std::alloc::{AllocError, Global};
+use std::io::{ErrorKind, Read, Write};
+use std::net::{Net, Shutdown, SocketAddr, ToSocketAddrs};
+use std::rt::{Clock, Files};
+use std::sync::Arc;
+use std::time::Duration;
+use std::{fs, io};
+
+/// How long one wait for bytes is at most, in milliseconds.
+const TURN: u64 = 100;
+
+/// A tenth of a second, in microseconds. A screen is drawn once in each.
+const TENTH: u64 = 100_000;
+
+/// How many turns a connection is waited for.
+const CONNECTING: u32 = 50;
+
+/// How many turns an end of the stream is waited for.
+const ENDING: u32 = 5;
+
+/// How long a configuration may take, in seconds, before its want is told.
+const PATIENCE: u64 = 5;
+
+/// How many bytes one read takes at most.
+const PIECE: usize = 16_384;
+
+/// The reads of a turn at most.
+const READS: u32 = 256;
+
+/// The longest delay that is told, in milliseconds.
+const MOST_DELAY: u64 = 4_000_000_000;
+
+/// A second, in microseconds.
+const SECOND: u64 = 1_000_000;
+
+/// The most lines a second that name what is wrong with frames. The others are counted.
+const LINES: u32 = 50;
+
+/// How what comes is shown.
+#[derive(Clone, Copy, Debug, PartialEq, Eq)]
+pub enum Style {
+    /// A screen, which is drawn again and again.
+    Screen,
+    /// A line a second.
+    Plain,
+    /// A line for each data frame, of values with commas between.
+    Csv,
+    /// Nothing, but for what is wrong.
+    Quiet,
+}
+
+/// Who looks on while a stream is watched.
+pub trait Observer {
+    /// A data frame was taken.
+    fn frame(&mut self, frame: &DataFrame);
+
+    /// A turn begins, of which there are ten a second or more, with what has come so far. Answers whether to go on.
+    fn turn(&mut self, watcher: &Watcher) -> bool;
+
+    /// The lines that stand below the screen.
+    fn notes(&self) -> &str;
+
+    /// How many lines were typed below the screen since the last call. None where no lines are read.
+    fn take_typed(&mut self) -> Option<usize>;
+}
+
+/// Nobody looks on.
+#[derive(Clone, Copy)]
+struct Nobody;
+
+impl Observer for Nobody {
+    fn frame(&mut self, frame: &DataFrame) {}
+
+    fn turn(&mut self, watcher: &Watcher) -> bool {
+        true
+    }
+
+    fn notes(&self) -> &str {
+        ""
+    }
+
+    fn take_typed(&mut self) -> Option<usize> {
+        None
+    }
+}
+
+/// What is watched, and how.
+#[derive(Clone, Copy)]
+pub struct WatchOptions<'a> {
+    /// Where the gateway listens, or a source.
+    pub address: Target<'a>,
+    /// The IDCODE of the stream.
+    pub stream: PmuId,
+    /// How it is shown.
+    pub style: Style,
+    /// The file that keeps the bytes as they come.
+    pub raw: Option<&'a str>,
+    /// After how many data frames it ends.
+    pub frames: Option<u32>,
+    /// After how many seconds it ends.
+    pub seconds: Option<u32>,
+}
+
+/// The values of the words of `watch`, as they were typed.
+#[derive(Clone, Copy)]
+pub struct WatchWords<'a> {
+    /// The address.
+    pub address: &'a str,
+    /// `--stream`
+    pub stream: &'a str,
+    /// `--csv`
+    pub is_csv: bool,
+    /// `--plain`
+    pub is_plain: bool,
+    /// Whether standard output is a terminal.
+    pub is_terminal: bool,
+    /// `--raw`
+    pub raw: Option<&'a str>,
+    /// `--frames`
+    pub frames: Option<&'a str>,
+    /// `--seconds`
+    pub seconds: Option<&'a str>,
+}
+
+/// What `watch` is asked for.
+///
+/// # Errors
+///
+/// The first option that can't be taken, with what it takes.
+pub fn read_watched<'a>(words: &WatchWords<'a>) -> Result<WatchOptions<'a>, BadOption> {
+    let address = read_target(words.address, "ADDRESS")?;
+    let wrong = BadOption {
+        option: "--stream",
+        takes: "a number of 1 to 65534",
+    };
+    let Some(number) = number(words.stream, 1, 65_534) else {
+        return Err(wrong);
+    };
+    let Some(stream) = PmuId::new(number as u16) else {
+        return Err(wrong);
+    };
+    let style = if words.is_csv {
+        Style::Csv
+    } else if words.is_plain || !words.is_terminal {
+        Style::Plain
+    } else {
+        Style::Screen
+    };
+    Ok(WatchOptions {
+        address,
+        stream,
+        style,
+        raw: words.raw,
+        frames: limit(words.frames, "--frames")?,
+        seconds: limit(words.seconds, "--seconds")?,
+    })
+}
+
+/// A limit, where there is one.
+fn limit(word: Option<&str>, option: &'static str) -> Result<Option<u32>, BadOption> {
+    let Some(word) = word else {
+        return Ok(None);
+    };
+    match number(word, 1, u32::MAX) {
+        Some(limit) => Ok(Some(limit)),
+        None => Err(BadOption {
+            option,
+            takes: "a number of 1 to 4294967295",
+        }),
+    }
+}
+
+/// What `watch` shows, apart from the socket.
+#[derive(Drop)]
+struct Show {
+    alloc: Global,
+    watcher: Watcher,
+    latest: Option<Arc<DataFrame>>,
+    histories: Vec<History>,
+    frames_before: u64,
+    measured: u64,
+    delay: Option<i64>,
+    trouble: Option<Trouble>,
+    /// Of this second, how many troubles of frames have a line of their own, and how many have none.
+    printed: u32,
+    more: u64,
+    lines: usize,
+    /// The tenth of a second, counted from 1970, in which the screen was drawn last.
+    drawn: u64,
+    /// The configuration by whose channels values are shown.
+    begun: Option<Arc<SourceConfig>>,
+    /// Whether the last configuration had no PMU, which was told.
+    is_waiting: bool,
+    is_over: bool,
+}
+
+/// Watches a stream until it ends, or as many frames or seconds as are asked for have come, and stops it. It answers whether
+/// nothing was wrong with what came.
+///
+/// # Errors
+///
+/// `Name`, where the name has no address; `Reach`, where no connection can be had; `File`, where the file for the bytes can't be written; `Output`; `System`.
+pub fn watch<R>(rt: &R, watched: &WatchOptions<'_>) -> Result<bool, Fault>
+where
+    R: Net + Clock + Files + Print + Eprint + Alloc<A = Global>,
+{
+    let mut raw = match watched.raw {
+        None => None,
+        Some(path) => match fs::create(rt, path) {
+            Ok(file) => Some(file),
+            Err(error) => return Err(Fault::File(error)),
+        },
+    };
+    watch_before(rt, rt.alloc(), watched, &mut raw, &mut Nobody)
+}
+
+/// As `watch`, before an audience, which ends it too. The bytes that come are kept by `raw`; no file is opened.
+///
+/// # Errors
+///
+/// As `watch`; `File`, where `raw` can't be written.
+pub fn watch_before<R, W: Write, A: Observer>(
+    rt: &R,
+    alloc: Global,
+    watched: &WatchOptions<'_>,
+    raw: &mut Option<W>,
+    audience: &mut A,
+) -> Result<bool, Fault>
+where
+    R: Net + Clock + Print + Eprint,
+{
+    let mut poll = Poll::new(rt)?;
+    let mut events = Events::with_capacity(alloc, 4).map_err(io::Error::from)?;
+    let stream = reach(rt, alloc, watched.address, &mut poll, &mut events)?;
+    let mut show = Show::new(alloc, watched.stream)?;
+    let start = now(rt)?;
+    let mut second = start;
+    // Whether the audience would go on.
+    let mut goes_on = true;
+    for _ in 0..u64::MAX {
+        send_owed(rt, &stream, &mut show)?;
+        poll.poll(&mut events, Some(Duration::from_millis(TURN)))?;
+        read_all(rt, &stream, &mut show, watched, raw, audience)?;
+        let at = now(rt)?;
+        if at.micros.saturating_sub(second.micros) >= SECOND {
+            second = Moment {
+                micros: second.micros.saturating_add(SECOND),
+            };
+            show.end_second(rt, watched, at.micros.saturating_sub(start.micros))?;
+        }
+        goes_on = audience.turn(&show.watcher);
+        let micros = at.micros.saturating_sub(start.micros);
+        let is_last = show.is_over || !goes_on || has_all(&show, watched, micros);
+        if watched.style == Style::Screen {
+            show.draw(rt, watched, audience, at, is_last)?;
+        }
+        if is_last {
+            break;
+        }
+    }
+    stop_stream(rt, &stream, &show, &mut poll, &mut events)?;
+    if goes_on {
+        show.close(rt, watched);
+    }
+    show.end(rt, watched)?;
+    Ok(show.watcher.tally().troubles == 0)
+}
+
+/// Whether as much has come as was asked for.
+fn has_all(show: &Show, watched: &WatchOptions<'_>, micros: u64) -> bool {
+    let frames = show.watcher.tally().frames;
+    let by_frames = matches!(watched.frames, Some(most) if frames >= u64::from(most));
+    let by_time = matches!(watched.seconds, Some(most) if micros / SECOND >= u64::from(most));
+    by_frames || by_time
+}
+
+/// Connects. Of the addresses of a name it is the first one that can be had.
+fn reach<R: Net>(
+    rt: &R,
+    alloc: Global,
+    target: Target<'_>,
+    poll: &mut Poll,
+    events: &mut Events<Global>,
+) -> Result<TcpStream, Fault> {
+    let (name, port) = match target {
+        Target::Address(address) => return connect(rt, address, poll, events),
+        Target::Name(name, port) => (name, port),
+    };
+    let mut fault = None;
+    match (name, port).to_socket_addrs(rt) {
+        Ok(addresses) => {
+            for address in addresses {
+                match connect(rt, address, poll, events) {
+                    Ok(stream) => return Ok(stream),
+                    Err(error) => fault = Some(error),
+                }
+            }
+        }
+        Err(error) => fault = Some(nameless(alloc, target, error)),
+    }
+    match fault {
+        Some(fault) => Err(fault),
+        None => Err(nameless(alloc, target, io::Error::from(ErrorKind::NotFound))),
+    }
+}
+
+/// A name has no address.
+fn nameless(alloc: Global, target: Target<'_>, error: io::Error) -> Fault {
+    match format!(in alloc; "{target}") {
+        Ok(name) => Fault::Name(name, error),
+        Err(_) => no_memory(),
+    }
+}
+
+/// Connects to an address.
+fn connect<R: Net>(
+    rt: &R,
+    address: SocketAddr,
+    poll: &mut Poll,
+    events: &mut Events<Global>,
+) -> Result<TcpStream, Fault> {
+    let mut stream = match TcpStream::connect(rt, address) {
+        Ok(stream) => stream,
+        Err(error) => return Err(Fault::Reach(address, error)),
+    };
+    let both = Interest::READABLE | Interest::WRITABLE;
+    poll.registry().register(&mut stream, Token(0), both)?;
+    for _ in 0..CONNECTING {
+        poll.poll(events, Some(Duration::from_millis(TURN)))?;
+        match stream.take_error() {
+            Ok(None) => {}
+            Ok(Some(error)) | Err(error) => return Err(Fault::Reach(address, error)),
+        }
+        if stream.peer_addr().is_ok() {
+            let _ = stream.set_nodelay(true);
+            return Ok(stream);
+        }
+    }
+    Err(Fault::Reach(address, io::Error::from(ErrorKind::TimedOut)))
+}
+
+/// Sends the commands that are owed. They are so few that the system takes them at once; a connection that does not is over.
+fn send_owed<R: Clock>(rt: &R, stream: &TcpStream, show: &mut Show) -> Result<(), Fault> {
+    let soc = now(rt)?.soc();
+    for _ in 0..3 {
+        let Some(command) = show.watcher.next_out(soc) else {
+            return Ok(());
+        };
+        match (&*stream).write(&command) {
+            Ok(18) => {}
+            _ => show.note(Trouble::Closed),
+        }
+    }
+    Ok(())
+}
+
+/// Reads what is there, keeps it and shows it.
+fn read_all<R: Clock + Print + Eprint, W: Write, A: Observer>(
+    rt: &R,
+    stream: &TcpStream,
+    show: &mut Show,
+    watched: &WatchOptions<'_>,
+    raw: &mut Option<W>,
+    audience: &mut A,
+) -> Result<(), Fault> {
+    let mut piece = [0; PIECE];
+    for _ in 0..READS {
+        match (&*stream).read(&mut piece) {
+            Ok(0) => {
+                show.trouble_told(rt, watched, Trouble::Closed);
+                show.is_over = true;
+                return Ok(());
+            }
+            Ok(read) => {
+                let bytes = &piece[..read];
+                if let Some(file) = raw {
+                    if let Err(error) = file.write_all(bytes) {
+                        return Err(Fault::File(error));
+                    }
+                }
+                show.take(rt, watched, bytes, audience)?;
+                show.delay = delay_of(show.latest.as_ref(), now(rt)?);
+            }
+            Err(error) if error.kind() == ErrorKind::WouldBlock => return Ok(()),
+            Err(error) if error.kind() == ErrorKind::Interrupted => {}
+            Err(_) => {
+                show.trouble_told(rt, watched, Trouble::Closed);
+                show.is_over = true;
+                return Ok(());
+            }
+        }
+        if show.is_over || has_all(show, watched, 0) {
+            return Ok(());
+        }
+    }
+    Ok(())
+}
+
+/// Stops the stream, and waits a little until the peer has closed, so that it reads the command.
+fn stop_stream<R: Clock>(
+    rt: &R,
+    stream: &TcpStream,
+    show: &Show,
+    poll: &mut Poll,
+    events: &mut Events<Global>,
+) -> Result<(), Fault> {
+    let _ = (&*stream).write(&show.watcher.stop(now(rt)?.soc()));
+    let _ = stream.shutdown(Shutdown::Write);
+    let mut piece = [0; PIECE];
+    for _ in 0..ENDING {
+        poll.poll(events, Some(Duration::from_millis(TURN)))?;
+        for _ in 0..READS {
+            match (&*stream).read(&mut piece) {
+                Ok(0) => return Ok(()),
+                Ok(_) => {}
+                Err(error) if error.kind() == ErrorKind::WouldBlock => break,
+                Err(_) => return Ok(()),
+            }
+        }
+    }
+    Ok(())
+}
+
+impl Show {
+    fn new(alloc: Global, stream: PmuId) -> Result<Show, Fault> {
+        let watcher = match Watcher::new(alloc, stream) {
+            Ok(watcher) => watcher,
+            Err(_) => return Err(no_memory()),
+        };
+        Ok(Show {
+            alloc,
+            watcher,
+            latest: None,
+            histories: Vec::new(alloc),
+            frames_before: 0,
+            measured: 0,
+            delay: None,
+            trouble: None,
+            printed: 0,
+            more: 0,
+            lines: 0,
+            drawn: 0,
+            begun: None,
+            is_waiting: false,
+            is_over: false,
+        })
+    }
+
+    /// Takes the bytes that came.
+    fn take<R: Print + Eprint, A: Observer>(
+        &mut self,
+        rt: &R,
+        watched: &WatchOptions<'_>,
+        bytes: &[u8],
+        audience: &mut A,
+    ) -> Result<(), Fault> {
+        let mut at = 0;
+        for _ in 0..=bytes.len() {
+            if at < bytes.len() {
+                at += self.watcher.feed(&bytes[at..]);
+            }
+            match self.watcher.next() {
+                Seen::More if at >= bytes.len() => return Ok(()),
+                Seen::More | Seen::Header => {}
+                Seen::Config(config) => self.begin(rt, watched, config)?,
+                Seen::NoPmu => self.tell_no_pmu(rt, watched),
+                Seen::Frame(frame) => {
+                    audience.frame(&frame);
+                    self.show_frame(rt, watched, frame)?;
+                }
+                Seen::Trouble(trouble) => self.report_frame(rt, watched, trouble),
+                Seen::Ended => {
+                    self.is_over = true;
+                    return Ok(());
+                }
+                Seen::NoMemory => return Err(no_memory()),
+            }
+            if has_all(self, watched, 0) {
+                return Ok(());
+            }
+        }
+        Ok(())
+    }
+
+    /// Begins with a configuration. One that is as the last one changes nothing.
+    fn begin<R: Print>(
+        &mut self,
+        rt: &R,
+        watched: &WatchOptions<'_>,
+        config: Arc<SourceConfig>,
+    ) -> Result<(), Fault> {
+        self.is_waiting = false;
+        if let Some(begun) = &self.begun {
+            if is_same(&**begun, &*config) {
+                return Ok(());
+            }
+        }
+        self.histories.clear();
+        for _ in 0..config.count() {
+            let history = History::new(self.alloc);
+            if self.histories.push(history).is_err() {
+                return Err(no_memory());
+            }
+        }
+        if watched.style == Style::Csv {
+            let mut line = String::new(self.alloc);
+            made(write_heading(&mut line, &*config))?;
+            written(print!(rt; "{line}"))?;
+        }
+        self.begun = Some(config);
+        Ok(())
+    }
+
+    /// Shows a data frame.
+    fn show_frame<R: Print>(
+        &mut self,
+        rt: &R,
+        watched: &WatchOptions<'_>,
+        frame: Arc<DataFrame>,
+    ) -> Result<(), Fault> {
+        if watched.style == Style::Csv {
+            let mut line = String::new(self.alloc);
+            made(write_values(&mut line, &frame))?;
+            written(print!(rt; "{line}"))?;
+        }
+        self.latest = Some(frame);
+        Ok(())
+    }
+
+    /// Notes what is wrong apart from the bytes.
+    fn note(&mut self, trouble: Trouble) {
+        self.watcher.note(trouble);
+        self.trouble = Some(trouble);
+    }
+
+    /// Notes it, and tells it.
+    fn trouble_told<R: Eprint>(&mut self, rt: &R, watched: &WatchOptions<'_>, trouble: Trouble) {
+        self.watcher.note(trouble);
+        self.tell(rt, watched, trouble);
+    }
+
+    /// Tells what is wrong: on the screen, or else on standard error.
+    fn tell<R: Eprint>(&mut self, rt: &R, watched: &WatchOptions<'_>, trouble: Trouble) {
+        self.report_more(rt);
+        self.trouble = Some(trouble);
+        if watched.style != Style::Screen {
+            // Where standard error can't be written either, the status still tells.
+            let _ = eprintln!(rt; "pdcgw: {trouble}");
+        }
+    }
+
+    /// The same of a frame. A peer may send any number of them: 50 a second have a line, and the others are counted.
+    fn report_frame<R: Eprint>(&mut self, rt: &R, watched: &WatchOptions<'_>, trouble: Trouble) {
+        if self.printed < LINES || watched.style == Style::Screen {
+            self.printed = self.printed.saturating_add(1);
+            self.tell(rt, watched, trouble);
+        } else {
+            self.trouble = Some(trouble);
+            self.more = self.more.saturating_add(1);
+        }
+    }
+
+    /// Prints how many troubles of frames have no line of their own, and the last of them.
+    fn report_more<R: Eprint>(&mut self, rt: &R) {
+        let more = self.more;
+        self.more = 0;
+        if let Some(trouble) = self.trouble {
+            if more > 0 {
+                let s = if more == 1 { "" } else { "s" };
+                let _ = eprintln!(rt; "pdcgw: {more} trouble{s} more; the last: {trouble}");
+            }
+        }
+    }
+
+    /// Tells once that no PMU of the stream is announced yet, where no screen or line of a second tells it.
+    fn tell_no_pmu<R: Eprint>(&mut self, rt: &R, watched: &WatchOptions<'_>) {
+        if watched.style == Style::Csv && !self.is_waiting {
+            let _ = eprintln!(rt; "pdcgw: {NO_PMU}; it is asked again");
+        }
+        self.is_waiting = true;
+    }
+
+    /// Tells that no data frame came, where that is so.
+    fn close<R: Eprint>(&mut self, rt: &R, watched: &WatchOptions<'_>) {
+        if let Some(trouble) = self.watcher.close() {
+            self.tell(rt, watched, trouble);
+        }
+    }
+
+    /// Ends a second: its rate, its frequencies, its line.
+    fn end_second<R: Print + Eprint>(
+        &mut self,
+        rt: &R,
+        watched: &WatchOptions<'_>,
+        micros: u64,
+    ) -> Result<(), Fault> {
+        self.report_more(rt);
+        self.printed = 0;
+        let tally = self.watcher.tally();
+        self.measured = tally.frames.saturating_sub(self.frames_before);
+        self.frames_before = tally.frames;
+        if tally.configs == 0 && !self.watcher.has_no_pmu() && micros / SECOND == PATIENCE {
+            self.trouble_told(rt, watched, Trouble::Silent);
+        }
+        self.watcher.second();
+        made(self.keep_frequencies())?;
+        if watched.style == Style::Plain {
+            let mut line = String::new(self.alloc);
+            let latest = self.latest.as_ref().map(|frame| &**frame);
+            made(write_second(&mut line, latest, self.measured, self.delay, &self.watcher))?;
+            written(print!(rt; "{line}"))?;
+        }
+        Ok(())
+    }
+
+    /// Adds the last frequency of each PMU to its history.
+    fn keep_frequencies(&mut self) -> Result<(), AllocError> {
+        let Some(frame) = &self.latest else {
+            return Ok(());
+        };
+        for (i, history) in self.histories.iter_mut().enumerate() {
+            let value = match frame.config.parts.get(i) {
+                Some(part) if i < frame.count() && self.measured > 0 => {
+                    crate::reading::Reading::new(part, frame.block(i)).millihertz()
+                }
+                _ => None,
+            };
+            history.push(value)?;
+        }
+        Ok(())
+    }
+
+    /// Draws the screen, unless that was done in this tenth of a second. The last screen is drawn in any case.
+    fn draw<R: Print, A: Observer>(
+        &mut self,
+        rt: &R,
+        watched: &WatchOptions<'_>,
+        audience: &mut A,
+        at: Moment,
+        is_last: bool,
+    ) -> Result<(), Fault> {
+        let tenth = at.micros / TENTH;
+        if tenth == self.drawn && !is_last {
+            return Ok(());
+        }
+        self.drawn = tenth;
+        let before = Before {
+            lines: self.lines,
+            typed: audience.take_typed(),
+        };
+        let view = View {
+            address: watched.address,
+            stream: self.watcher.stream().get(),
+            measured: self.measured,
+            tally: self.watcher.tally(),
+            header: self.watcher.header(),
+            config: self.watcher.config().map(|config| &**config),
+            has_no_pmu: self.watcher.has_no_pmu(),
+            frame: self.latest.as_ref().map(|frame| &**frame),
+            histories: &self.histories,
+            delay: self.delay,
+            trouble: self.trouble,
+            notes: audience.notes(),
+        };
+        let (text, lines) = made(draw(self.alloc, &view, before))?;
+        self.lines = lines;
+        written(print!(rt; "{text}"))
+    }
+
+    /// Tells at the end what was counted: on standard error, where values stand on standard output.
+    fn end<R: Print + Eprint>(&mut self, rt: &R, watched: &WatchOptions<'_>) -> Result<(), Fault> {
+        self.report_more(rt);
+        let tally = self.watcher.tally();
+        let frames = tally.frames;
+        let missing = tally.missing;
+        let fillers = tally.fillers;
+        let troubles = tally.troubles;
+        let wrong = tally.wrong_checks;
+        let order = tally.not_rising;
+        let misfits = tally.misfits;
+        let counted = made(format!(in self.alloc;
+            "{frames} frames, {missing} missing, {fillers} fillers, {troubles} troubles ({wrong} CHK, {order} order, {misfits} misfit)"
+        ))?;
+        match watched.style {
+            Style::Quiet => Ok(()),
+            Style::Csv => {
+                // Where standard error can't be written either, the status still tells.
+                let _ = eprintln!(rt; "pdcgw: {counted}");
+                Ok(())
+            }
+            Style::Screen | Style::Plain => written(println!(rt; "{counted}")),
+        }
+    }
+}
+
+/// Whether two configurations have the same PMUs, with the same blocks, resolution and rate.
+fn is_same(one: &SourceConfig, other: &SourceConfig) -> bool {
+    one.parts.len() == other.parts.len()
+        && one
+            .parts
+            .iter()
+            .zip(other.parts.iter())
+            .all(|(part, same)| part.is_same(same))
+}
+
+/// How many milliseconds behind its stamp the latest frame came, below 0 where it came before.
+fn delay_of(frame: Option<&Arc<DataFrame>>, at: Moment) -> Option<i64> {
+    let stamp = Instant::of(&**frame?).moment();
+    let behind = (at.micros.saturating_sub(stamp.micros) / 1_000).min(MOST_DELAY);
+    let ahead = (stamp.micros.saturating_sub(at.micros) / 1_000).min(MOST_DELAY);
+    Some(i64::from(behind as u32).saturating_sub(i64::from(ahead as u32)))
+}
+
+/// What memory was there for.
+fn made<T: Drop>(made: Result<T, AllocError>) -> Result<T, Fault> {
+    match made {
+        Ok(value) => Ok(value),
+        Err(_) => Err(no_memory()),
+    }
+}
+
+/// There is no memory.
+fn no_memory() -> Fault {
+    Fault::System(io::Error::from(ErrorKind::OutOfMemory))
+}
+
+/// The time.
+fn now<R: Clock>(rt: &R) -> Result<Moment, Fault> {
+    match Moment::now(rt) {
+        Some(now) => Ok(now),
+        None => Err(Fault::System(io::Error::from(ErrorKind::Unsupported))),
+    }
+}
