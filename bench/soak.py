@@ -294,7 +294,21 @@ def backlog(world):
     world.sources[21].is_held = True
     time.sleep(2)
     world.sources[21].is_held = False
-    world.readers[2].reads(201, [21], 60, SOON)
+    all_came(world, 60)
+
+
+def stalled(world):
+    """The link of a source stands still for 5 s, so that it is asked again, and then delivers what it held: each frame comes to both subscribers."""
+    # (it can neither send nor answer)
+    with world.sources[21].lock:
+        time.sleep(5)
+    world.logs("WARN source 21: sends no data; asking again")
+    all_came(world, 150)
+
+
+def all_came(world, count):
+    """Frames of stream 201 came, so many at least, of each slot behind the first one."""
+    world.readers[2].reads(201, [21], count, SOON)
     slots = [slot_of(it.bytes, RATE) for it in list(world.readers[2].came) if it.what == "right"]
     same(slots, list(range(slots[0], slots[0] + len(slots))), "slots of stream 201")
 
@@ -362,8 +376,8 @@ def dead_host(world):
         world.readers[1].moves(Subscriber)
 
 
-FAULTS = [swap_by_lines, swap_by_reload, another_length, started_meanwhile, ahead, behind, redial, another_fnom, mute, garbage, backlog, new_pmu,
-          new_ring, new_port, new_wait, new_address, broken_file, dead_host]
+FAULTS = [swap_by_lines, swap_by_reload, another_length, started_meanwhile, ahead, behind, redial, another_fnom, mute, garbage, backlog, stalled,
+          new_pmu, new_ring, new_port, new_wait, new_address, broken_file, dead_host]
 
 
 def now():

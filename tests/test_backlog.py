@@ -1,7 +1,7 @@
 """Backlogs: a source whose link recovers sends seconds of frames at once, and each subscriber that reads gets all of them."""
 import time
 
-from c37118 import DATA, frame, stamp
+from c37118 import DATA, SEND_CONFIG_2, START, frame, stamp
 from peers import RATE, expect, now_soc, pmu, same, stream, stream_frame, subscriber, takes
 
 
@@ -62,6 +62,35 @@ def test_a_backlog_of_fifty_seconds_reaches_a_reader(bench):
     crowd.all_come(crowd.backlog(1_500), 1_500, [1])
     expect(time.monotonic() - begun < 6, f"it took {time.monotonic() - begun:.1f} s")
     crowd.none_is_dropped([1])
+    crowd.gateway.quit()
+
+
+@takes(16)
+def test_a_stalled_link_loses_no_backlog(bench):
+    """A source whose link stands still for 4 and for 8 seconds, once between two frames and once amid a frame, is asked again where it is. What it
+    sends then, the rest of the frame first, comes whole to its reader, before and behind the CFG-2 that it answers; it is not called anew, and the
+    other source is left alone."""
+    crowd = Crowd(bench)
+    for seconds, sent, asked in ((4, 0, 1), (8, 25, 2)):
+        begun = max(crowd.slot, (now_soc() - 10) * RATE)
+        crowd.slot = begun + 120
+        whole = b"".join(crowd.seven.data(slot, slot - begun) for slot in range(begun, begun + 120))
+        crowd.seven.link.send(whole[:sent])
+        for at in range(seconds * 4):
+            crowd.nine.measure(begun + at, 500)
+            time.sleep(0.25)
+        crowd.seven.link.send(whole[sent:])
+        crowd.all_come(begun, 120, [1])
+        for _ in range(asked):
+            crowd.seven.is_asked(SEND_CONFIG_2)
+            crowd.seven.is_asked(START)
+        expect(crowd.seven.link.is_quiet(0.1), "source 7 was asked more often")
+        crowd.seven.link.send(crowd.seven.configuration())
+        crowd.all_come(crowd.backlog(60), 60, [1])
+    same(crowd.gateway.logged("source 7: connecting to .*"), 1, "calls of source 7")
+    same(crowd.gateway.logged("source 9: sends no data; .*"), 0, "source 9 was asked again")
+    expect(" ignored - " in crowd.gateway.status()["source 7"], "frames of source 7 are ignored")
+    crowd.none_is_dropped([1, 90])
     crowd.gateway.quit()
 
 

@@ -4,7 +4,7 @@ import subprocess
 import threading
 import time
 
-from c37118 import SEND_CONFIG_2
+from c37118 import SEND_CONFIG_2, START
 from peers import RATE, Closed, Pair, expect, frame_like, now_soc, pmu, same, stream, stream_frame, subscriber, takes, until, with_wrong_check
 
 
@@ -80,16 +80,18 @@ def test_a_source_deaf_at_first_comes_up(bench):
 
 @takes(7)
 def test_a_lost_start_is_sent_again(bench):
-    """A source whose first command 2 is lost, and which sends CFG-2 by itself and half a data frame, is asked again after 3 seconds; the half is forgotten,
-    and its data come."""
+    """A source whose first command 2 is lost, and which sends CFG-2 by itself, is asked again after 3 seconds: for its configuration and for its data,
+    without a call."""
     pair = Pair(bench)
     gateway = bench.gateway(pair.text).serves(1, 20)
     pair.nine.come()
     pair.seven.accept()
     pair.seven.announce()
     time.sleep(1.5)
-    pair.seven.link.send(pair.seven.configuration() + pair.seven.data(now_soc() * RATE, 1)[:10])
-    pair.seven.announce()
+    pair.seven.link.send(pair.seven.configuration())
+    pair.seven.is_asked(SEND_CONFIG_2)
+    pair.seven.is_asked(START)
+    pair.seven.link.send(pair.seven.configuration())
     pair.gateway = gateway
     pair.first = bench.subscriber(pair.ports[0])
     pair.first.start(101)

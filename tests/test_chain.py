@@ -50,7 +50,7 @@ def test_chain_whose_second_is_started_first(bench):
     """The second calls until the first is there."""
     chain = Chain(bench)
     second = chain.start("second")
-    second.logs("source 101: can't connect: connection refused; retrying")
+    second.logs("source 101: can't connect to .*: connection refused; retrying")
     first = chain.start("first")
     chain.seven.come()
     chain.comes_through(first, second)

@@ -2,6 +2,7 @@
 import calendar
 import pathlib
 import re
+import socket
 import statistics
 import subprocess
 import time
@@ -91,4 +92,35 @@ def test_no_line_of_a_large_reload_is_lost(bench):
     done = re.compile(r"INFO (source \d+: PMU \d+ is registered|subscriber 1\d\d: (added|PMU \S+ is granted|stream \d is defined))$")
     same(sum(bool(done.search(it)) for it in gateway.log.lines), edits, "edits in the log")
     expect(not gateway.logged(r"\d+ log entr.* lost: too many at once"), "the log lost lines")
+    gateway.quit()
+
+
+@takes(9)
+def test_a_client_that_connects_and_closes_without_end(bench):
+    """The first line of each kind comes at once. While it repeats, the next one comes after 1, 2, 4 seconds and so on, and counts the others; the
+    other subscriber's lines come at once."""
+    pair = Pair(bench)
+    gateway = pair.run()
+    made, end = 0, time.monotonic() + 7.6
+    while time.monotonic() < end:
+        with socket.create_connection(("127.0.0.1", pair.ports[1])):
+            made += 1
+        time.sleep(0.002)
+    begun = time.monotonic()
+    pair.first = bench.subscriber(pair.ports[0])
+    pair.first.start(101)
+    gateway.line("subscriber 1: connected from ", 1)
+    gateway.line("subscriber 1: started stream 101", 1)
+    expect(time.monotonic() - begun < 1.5, "lines of subscriber 1 are late")
+    kinds = {}
+    for it in list(gateway.log.lines):
+        text = parts(it)[3]
+        if text.startswith("subscriber 20: ") and "may connect" not in text:
+            kinds.setdefault(re.sub(r"\S+:\d+| \(\d+ times\)$", "", text).strip(), []).append(it)
+    connected = kinds["subscriber 20: connected from"]
+    # At 0, 1, 3 and 7 seconds; one kind may begin later.
+    for kind, lines in kinds.items():
+        expect(len(lines) <= 4, f"{made} connections in 7.6 s made {len(lines)} lines of {kind!r}: {lines}")
+    same(len(connected), 4, "lines of connections")
+    expect(gateway.logged("subscriber 20: connected from \\S+") > 50, f"the lines count too few of {made} connections: {connected}")
     gateway.quit()

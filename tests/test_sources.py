@@ -227,7 +227,7 @@ def test_the_pause_after_a_call_that_failed_is_doubled(bench):
     pair = Pair(bench)
     pair.nine.listener.close()
     gateway = bench.gateway(pair.text).serves(1, 20)
-    gateway.logs("WARN source 9: can't connect: connection refused; retrying")
+    gateway.logs(f"WARN source 9: can't connect to {pair.nine.address}: connection refused; retrying")
     expect(f"source 9 {pair.nine.address} pause 1 " in gateway.status()["source 9"], "the pause is in `status`")
     gateway.logs("source 9: connecting to .*", 4)
     times = [time.strptime(it.split(".")[0], "%Y-%m-%dT%H:%M:%S") for it in gateway.log.lines if "source 9: connecting to" in it]

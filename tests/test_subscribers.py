@@ -328,10 +328,13 @@ def test_stall_of_each_subscriber(bench):
 
 @takes(4)
 def test_idle_of_each_subscriber(bench):
-    """A subscriber that neither sends nor gets a byte is hung up after its own `idle` seconds, and the other one is not."""
+    """A subscriber that neither sends nor gets a byte is hung up after its own `idle` seconds, and the other one is not. A byte of half a
+    command begins them anew."""
     pair = Pair(bench, first={"idle": 30}, second={"idle": 1})
     gateway = pair.run()
     pair.start()
+    time.sleep(0.6)
+    pair.second.send(b"\xaa")
     begun = time.monotonic()
     expect(pair.second.is_closed(4), "subscriber 20 is idle, and was not hung up")
     expect(0.8 <= time.monotonic() - begun <= 3, f"`idle` is 1, and it was hung up after {time.monotonic() - begun:.1f} s")

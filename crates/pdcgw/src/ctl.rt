@@ -63,7 +63,7 @@ pub fn run<R: Print + Alloc<A = Global>>(
     }
 }
 
-/// What the answers come to. A line that was refused has told its number by its answer.
+/// What the answers come to. A line that was refused has its number in its answer.
 fn outcome_of(alloc: Global, path: &str, lines: &[&str], answered: Answered) -> Outcome {
     let told = not_answered(alloc, path, lines, answered);
     match answered {

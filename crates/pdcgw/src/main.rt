@@ -80,7 +80,7 @@ enum Outcome {
     Failed(Refusal),
     /// A setup was checked: what would run, and what is seldom meant.
     Checked(Checked),
-    /// By this setup nothing runs, for what is told of it.
+    /// Nothing runs by this setup, for these mistakes.
     Unfit(Trouble),
     /// `clap` was asked for help or for the version.
     Asked(clap::Error),
@@ -88,7 +88,7 @@ enum Outcome {
     Misused(clap::Error),
     /// The value of an option is none that it takes.
     Misworded(BadOption),
-    /// Something was wrong with what `watch` saw, which has been told, or a line of `ctl` was refused, of which this is told.
+    /// Something was wrong with what `watch` read, which was printed, or a line of `ctl` was refused, with this text.
     Troubled(String),
     /// A tool has ended by this.
     Fallen(pg_tools::Fault),
@@ -195,19 +195,19 @@ where
 }
 
 /// The status where something was printed, or could not be.
-fn told(printed: io::Result<()>) -> ExitCode {
+fn status_of(printed: io::Result<()>) -> ExitCode {
     match printed {
         Ok(()) => ExitCode::SUCCESS,
         Err(_) => ExitCode::from(1),
     }
 }
 
-/// Tells by which refusal the program ends: what is known of it, or else what it means, and then its number and name.
-fn ended_by<R: Eprint>(rt: &R, told: &str, refusal: Refusal) -> ExitCode {
-    if told.is_empty() {
+/// Prints the refusal by which the program ends: what is known of it, or else what it means, and then its number and name.
+fn ended_by<R: Eprint>(rt: &R, text: &str, refusal: Refusal) -> ExitCode {
+    if text.is_empty() {
         let _ = eprintln!(rt; "pdcgw: {}", say(refusal));
     } else {
-        let _ = eprint!(rt; "{told}");
+        let _ = eprint!(rt; "{text}");
     }
     let _ = eprintln!(rt; "{}", Signed(refusal));
     ExitCode::from(1)
@@ -219,9 +219,9 @@ fn main(rt: HostRuntime) -> ExitCode {
         Outcome::Done => ExitCode::SUCCESS,
         Outcome::Checked(checked) => {
             let _ = eprint!(rt; "{}", checked.warnings.as_str());
-            told(print!(rt; "{}", checked.report.as_str()))
+            status_of(print!(rt; "{}", checked.report.as_str()))
         }
-        Outcome::Asked(text) => told(print!(rt; "{text}")),
+        Outcome::Asked(text) => status_of(print!(rt; "{text}")),
         Outcome::Failed(refusal) => ended_by(&rt, "", refusal),
         Outcome::Unfit(trouble) => ended_by(&rt, trouble.told.as_str(), trouble.refusal),
         Outcome::Misused(error) => {
@@ -232,8 +232,8 @@ fn main(rt: HostRuntime) -> ExitCode {
             let _ = eprintln!(rt; "pdcgw: {misword}; `pdcgw help` lists the options");
             ExitCode::from(2)
         }
-        Outcome::Troubled(told) => {
-            let _ = eprint!(rt; "{told}");
+        Outcome::Troubled(text) => {
+            let _ = eprint!(rt; "{text}");
             ExitCode::from(1)
         }
         Outcome::Fallen(fault) => {

@@ -30,7 +30,7 @@ pub fn check<R: Files + Alloc<A = Global>>(rt: &R, file: &str) -> Result<Checked
     }
 }
 
-/// By this refusal nothing runs, for what is told of it.
+/// By this refusal nothing runs, for the reason that is printed.
 pub fn unfit(alloc: Global, refusal: Refusal, told: Result<String, AllocError>) -> Trouble {
     match told {
         Ok(told) => Trouble { refusal, told },

@@ -2,9 +2,11 @@
 
 use crate::{Outcome, help};
 use clap::{Arg, ArgAction, ArgMatches, Command};
-use pg_demo::Asked;
+use pg_demo::DemoOptions;
 use pg_demo_core::Verdict;
-use pg_tools::{BadOption, SimulateWords, Style, WatchWords, number, read_settings, read_watched};
+use pg_tools::{
+    BadOption, SimulateArgs, Style, WatchArgs, number, read_settings, read_watch_options,
+};
 use std::alloc::{AllocError, Global};
 use std::io::StdinLock;
 use std::net::{Net, TcpListener, TcpStream};
@@ -103,7 +105,7 @@ pub fn simulate<R>(rt: &R, words: &ArgMatches<'_>) -> Outcome
 where
     R: Net + Clock + Print + Alloc<A = Global>,
 {
-    let read = read_settings(&SimulateWords {
+    let read = read_settings(&SimulateArgs {
         listen: words.get_str("listen").unwrap_or(""),
         source: words.get_str("source").unwrap_or(""),
         pmus: words.get_str("pmus").unwrap_or(""),
@@ -164,7 +166,7 @@ pub fn watch<R>(rt: &R, words: &ArgMatches<'_>, is_terminal: bool) -> Outcome
 where
     R: Net + Clock + Files + Print + Eprint + Alloc<A = Global>,
 {
-    let read = read_watched(&WatchWords {
+    let read = read_watch_options(&WatchArgs {
         address: words.get_str("address").unwrap_or(""),
         stream: words.get_str("stream").unwrap_or(""),
         is_csv: words.get_flag("csv"),
@@ -175,7 +177,7 @@ where
         seconds: words.get_str("seconds"),
     });
     match read {
-        Ok(watched) => match pg_tools::watch(rt, &watched) {
+        Ok(options) => match pg_tools::watch(rt, &options) {
             Ok(true) => Outcome::Done,
             Ok(false) => Outcome::Troubled(String::new(rt.alloc())),
             Err(fault) => Outcome::Fallen(fault),
@@ -229,14 +231,14 @@ where
     } else {
         Style::Screen
     };
-    match pg_demo::demo(rt, Asked { style, seconds }) {
-        Ok(verdict) => told(rt, verdict),
+    match pg_demo::demo(rt, DemoOptions { style, seconds }) {
+        Ok(verdict) => print_verdict(rt, verdict),
         Err(fault) => Outcome::Broken(fault),
     }
 }
 
-/// Tells what a demo came to: on standard output where it is good, else on standard error.
-fn told<R: Print + Eprint + Alloc<A = Global>>(rt: &R, verdict: Verdict) -> Outcome {
+/// Prints the verdict of a demo: on standard output where it is good, else on standard error.
+fn print_verdict<R: Print + Eprint + Alloc<A = Global>>(rt: &R, verdict: Verdict) -> Outcome {
     if !verdict.is_good() {
         let _ = eprintln!(rt; "pdcgw: {verdict}");
         return Outcome::Troubled(String::new(rt.alloc()));

@@ -1,4 +1,4 @@
-//! When a listener is asked who wants to connect.
+//! When a listener is asked for a client that wants to connect.
 
 use pg_log::{Detail, Entry, Journal, LogEvent, Subject};
 use std::rt::Clock;
@@ -8,7 +8,7 @@ use std::time::{Duration, Instant};
 /// The connections that one turn accepts at most. The others wait for the next turn.
 pub(crate) const ACCEPTED: u32 = 16;
 
-/// When it is tried again to accept, where the system could not, in milliseconds: it does not name a listener twice for one who waits.
+/// When it is tried again to accept, where the system could not, in milliseconds: it does not name a listener twice for one that waits.
 const RETRY_MS: u64 = 1_000;
 
 /// Leaves for the log what was met with a connection.
@@ -41,7 +41,7 @@ impl<L> Acceptor<L> {
         self.is_asked = true;
     }
 
-    /// Whether it is to be asked who waits.
+    /// Whether it is to be asked for one that waits.
     pub(crate) fn is_due(&self, now: Instant) -> bool {
         match self.retry {
             Some(retry) => retry <= now,

@@ -10,7 +10,7 @@ use std::time::Duration;
 /// How long an answer may take, in seconds.
 const SECONDS: u64 = 60;
 
-/// Sends lines to the control socket at this path, writes their answers, and tells how they were answered: as `converse`.
+/// Sends lines to the control socket at this path, writes their answers, and returns how they were answered: as `converse`.
 ///
 /// # Errors
 ///

@@ -1,9 +1,9 @@
-//! Who answers at the window.
+//! The answers of the admin worker.
 
 use pg_status::{Answer, Histogram, Snapshot};
 use std::alloc::AllocError;
 
-/// Who answers lines, and tells what the service shows of itself.
+/// Answers lines, and says what the service shows of itself.
 pub trait AdminBackend: Answer {
     /// What the service shows of itself now.
     ///
@@ -12,6 +12,6 @@ pub trait AdminBackend: Answer {
     /// There is no memory.
     fn snapshot(&mut self) -> Result<Snapshot, AllocError>;
 
-    /// How old the data frames were that were handed out, from the start on, as far as the last `snapshot` was told.
+    /// How old the data frames were that were handed out, from the start on, as far as the last `snapshot` was given.
     fn ages(&mut self) -> Histogram;
 }

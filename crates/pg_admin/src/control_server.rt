@@ -1,4 +1,4 @@
-//! Who writes lines at the control socket.
+//! The clients that write lines at the control socket.
 
 use crate::acceptor::{ACCEPTED, Acceptor, tell};
 use crate::backend::AdminBackend;
@@ -19,7 +19,7 @@ pub(crate) const SPEAKERS: usize = 8;
 /// How long a client has to have sent nothing before it is closed for one that connects, in seconds.
 const SILENT_SECONDS: u64 = 60;
 
-/// Who writes lines.
+/// A client that writes lines.
 #[derive(Drop)]
 struct ControlClient {
     stream: UnixStream,
@@ -28,7 +28,7 @@ struct ControlClient {
 }
 
 impl ControlClient {
-    /// Has its lines answered, and tells whether it stays.
+    /// Has its lines answered, and returns whether it stays.
     fn serve<C: AdminBackend>(&mut self, backend: &mut C, now: Instant) -> bool {
         let mut reader = &self.stream;
         let mut writer = &self.stream;
@@ -43,7 +43,7 @@ impl ControlClient {
     }
 }
 
-/// The control socket, and who writes lines there.
+/// The control socket, and its clients.
 #[derive(Drop)]
 pub(crate) struct ControlServer {
     alloc: Global,

@@ -1,4 +1,4 @@
-//! Who looks at the page or reads the metrics.
+//! The connections that look at the page or read the metrics.
 
 use crate::acceptor::{ACCEPTED, Acceptor, tell};
 use crate::snapshot_cache::SnapshotCache;
@@ -27,7 +27,7 @@ const IDLE_MS: u64 = 1_000;
 /// The steps of one connection in one turn: what it asks for, and the answer.
 const STEPS: u32 = 2;
 
-/// Who looks.
+/// A connection that looks.
 #[derive(Drop)]
 struct HttpConnection {
     stream: TcpStream,
@@ -36,7 +36,7 @@ struct HttpConnection {
 }
 
 impl HttpConnection {
-    /// Serves it, and tells whether it stays.
+    /// Serves it, and returns whether it stays.
     fn serve(&mut self, cache: &SnapshotCache, now: Instant) -> bool {
         for _ in 0..STEPS {
             let mut reader = &self.stream;
@@ -73,7 +73,7 @@ impl HttpConnection {
     }
 }
 
-/// The page's listener, and who looks there.
+/// The page's listener, and its connections.
 #[derive(Drop)]
 pub(crate) struct HttpServer {
     alloc: Global,

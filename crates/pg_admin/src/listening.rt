@@ -8,10 +8,10 @@ use std::os::unix::fs::{DirBuilderExt, FileTypeExt, PermissionsExt};
 use std::os::unix::net::UnixStream;
 use std::{fs, io};
 
-/// Who may connect: the user that the gateway runs as, and no other.
+/// The mode of the socket: only the user that the gateway runs as may connect.
 const OWNER_ALONE: u32 = 0o600;
 
-/// Who may enter the folder in which the socket is made: the same user.
+/// The mode of the folder in which the socket is made: only the same user may enter it.
 const ENTERED_BY_OWNER: u32 = 0o700;
 
 /// The names that are tried for that folder. Another gateway that starts now may have one of them for a moment.

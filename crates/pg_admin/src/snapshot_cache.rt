@@ -8,8 +8,8 @@ use std::time::{Duration, Instant};
 /// How often it is looked, in milliseconds.
 const LOOK_MS: u64 = 1_000;
 
-/// What was seen of the service last. It is looked once a second, however many ask, so that those who ask make no work
-/// for those who serve.
+/// What was seen of the service last. It is looked once a second, however many ask, so that those that ask make no work
+/// for those that serve.
 #[derive(Drop)]
 pub(crate) struct SnapshotCache {
     alloc: Global,

@@ -20,7 +20,7 @@ use pg_wire::Refusal;
 use std::alloc::Global;
 use std::marker::Model;
 
-/// A stream's open slots, by rising number, in places that were reserved: one slot more than the window (own rule). Only
+/// A stream's open slots, by rising number, in places that were reserved: one slot more than the window. Only
 /// `new` takes memory. A block that came is kept until its slot has left, and is given up at the next call that changes
 /// anything.
 #[derive(Drop)]

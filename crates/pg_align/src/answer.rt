@@ -1,6 +1,6 @@
 //! What becomes of an arrival.
 
-/// What became of an arrival (own rule).
+/// What became of an arrival.
 #[derive(Clone, Copy, Debug, PartialEq, Eq)]
 pub enum Arrived {
     /// Its block stands in its slot.

@@ -1,4 +1,5 @@
-//! Time alignment: the open slots of a stream, and which of them leave when (own rules).
+//! Time alignment: the open slots of a stream, and which of them leave when.
+//! What no clause of IEEE C37.118.2 is named for is a rule of this project.
 //!
 //! A slot opens with its first arrival. The least open slot leaves when all effective members have come, when it has
 //! waited long enough, or when more than the window are open; a flush lets all of them leave.

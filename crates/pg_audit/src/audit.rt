@@ -7,7 +7,7 @@ use pg_wire::Refusal;
 use std::alloc::{AllocError, Global};
 use std::marker::Model;
 
-/// The kind of event that an entry notes, with the number by which it is printed (own rule).
+/// The kind of event that an entry notes, with the number by which it is printed.
 #[derive(Clone, Copy, Debug, PartialEq, Eq)]
 pub enum What {
     /// The subscriber was added, or it was there already.
@@ -64,7 +64,7 @@ impl Entry {
     }
 }
 
-/// The audit of a subscriber: the newest 64 entries of all that was noted (own rule). Only `new` takes memory.
+/// The audit of a subscriber: the newest 64 entries of all that was noted. Only `new` takes memory.
 #[derive(Drop)]
 pub struct Audit {
     turn: u64,

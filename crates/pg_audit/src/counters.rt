@@ -5,7 +5,7 @@ ghost use Rattle.pg_wire.specs.Number.{number_of};
 
 use pg_wire::Refusal;
 
-/// What happened to a subscriber's data frames, replies and commands (own rule). Only the `count_*` calls change it.
+/// What happened to a subscriber's data frames, replies and commands. Only the `count_*` calls change it.
 #[derive(Clone, Copy, Debug, PartialEq, Eq)]
 pub struct Stats {
     /// Data frames made: the numbers given, kept or not.
@@ -28,7 +28,7 @@ pub struct Stats {
     pub by_reason: [u64; 41],
 }
 
-/// What happened to a PMU's blocks, a link's events or a session's commands (own rule). Only the `count_*` calls change
+/// What happened to a PMU's blocks, a link's events or a session's commands. Only the `count_*` calls change
 /// it.
 #[derive(Clone, Copy, Debug, PartialEq, Eq)]
 pub struct PmuStats {
@@ -63,7 +63,7 @@ impl Stats {
         self.made = self.made.saturating_add(frames);
     }
 
-    /// Counts data frames that a push dropped, as the push tells their number.
+    /// Counts data frames that a push dropped, as the push says their number.
     pub fn count_dropped(&mut self, frames: u64)
         ensures { self.new ≡ record self.old { dropped = more self.old.dropped frames } }
     {
@@ -91,7 +91,7 @@ impl Stats {
         self.twice = self.twice.saturating_add(1);
     }
 
-    /// Counts data frames that a hang-up cleared, as `clear` of the queue tells their number.
+    /// Counts data frames that a hang-up cleared, as `clear` of the queue says their number.
     pub fn count_cleared(&mut self, frames: u64)
         ensures { self.new ≡ record self.old { cleared = more self.old.cleared frames } }
     {

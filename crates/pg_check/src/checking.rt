@@ -18,7 +18,7 @@ use thiserror::Error;
 pub struct Trouble {
     /// The refusal that the program ends with.
     pub refusal: Refusal,
-    /// What a person is told, a line for each fault or refused edit; empty where memory ran out.
+    /// What is printed, a line for each fault or refused edit; empty where memory ran out.
     pub told: String,
 }
 
@@ -99,7 +99,7 @@ fn has_clash(faults: &[Fault]) -> bool {
     faults.iter().any(|fault| matches!(fault.wrong, Wrong::Twice(_) | Wrong::Differs(_)))
 }
 
-/// Posts the edits, in their order, and tells those that are refused.
+/// Posts the edits, in their order, and returns those that are refused.
 fn try_edits(
     alloc: Global,
     file: &str,
@@ -138,7 +138,7 @@ struct Trial<'a> {
 }
 
 impl Trial<'_> {
-    /// Posts an edit, and tells why it is refused, if it is: of a stream each value that is.
+    /// Posts an edit, and returns why it is refused, if it is: of a stream each value that is.
     fn post(&mut self, edit: Edit) -> Result<(), AllocError> {
         let (table, key) = self.places.next(&edit);
         let name = edit_name(self.alloc, &edit)?;
@@ -165,7 +165,7 @@ impl Trial<'_> {
         Ok(())
     }
 
-    /// Tells that an edit of this name is refused, for what is at a key of this table.
+    /// Reports that an edit of this name is refused, for what is at a key of this table.
     fn tell(
         &mut self,
         table: SetupTable,

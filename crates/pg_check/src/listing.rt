@@ -1,25 +1,25 @@
-//! Lines of a file, with what is told of each.
+//! Lines of a file, with what is said of each.
 
 use std::alloc::{AllocError, Global};
 
 /// So many lines are listed; the others are counted.
 pub(crate) const LISTED: usize = 100;
 
-/// What is told of lines of a file.
+/// What is said of lines of a file.
 #[derive(Drop)]
 pub(crate) struct Listing {
     lines: Vec<(usize, String)>,
 }
 
 impl Listing {
-    /// Nothing is told.
+    /// Nothing is said.
     pub(crate) fn new(alloc: Global) -> Listing {
         Listing {
             lines: Vec::new(alloc),
         }
     }
 
-    /// This is told of this line.
+    /// This is said of this line.
     pub(crate) fn add(&mut self, line: usize, told: String) -> Result<(), AllocError> {
         self.lines.push((line, told))?;
         Ok(())

@@ -24,7 +24,7 @@ pub(crate) fn key_text(alloc: Global, key: &PmuKey) -> Result<String, AllocError
     format!(in alloc; "{}/{}", key.source.get(), key.pmu.get())
 }
 
-/// Which edit it is, for a person: whom it concerns, and what of it.
+/// Which edit it is, for a person: which one it concerns, and what of it.
 ///
 /// # Errors
 ///
@@ -156,24 +156,24 @@ fn source_line(alloc: Global, setup: &Setup, rules: &SourceRules) -> Result<Stri
 
 /// A subscriber: where it connects, and from where.
 fn subscriber_line(alloc: Global, setup: &Setup, sub: SubId) -> Result<String, AllocError> {
-    let door = setup.doors.iter().find(|door| door.sub == sub);
+    let rules = setup.port_rules.iter().find(|rules| rules.sub == sub);
     let port = setup.ports.iter().find(|port| port.0 == sub);
-    match (door, port) {
-        (Some(door), Some((_, port))) => {
-            let hosts = hosts_text(door);
+    match (rules, port) {
+        (Some(rules), Some((_, port))) => {
+            let hosts = hosts_text(rules);
             format!(in alloc;
                 "subscriber {}: port {port} on {}, {hosts}",
                 sub.get(),
-                door.address
+                rules.address
             )
         }
         _ => format!(in alloc; "subscriber {}: no port", sub.get()),
     }
 }
 
-/// Who may connect.
-fn hosts_text(door: &PortRules) -> &'static str {
-    match &door.allow.networks {
+/// The hosts that may connect.
+fn hosts_text(rules: &PortRules) -> &'static str {
+    match &rules.allow.networks {
         None => "from any host",
         Some(networks) if networks.is_empty() => "from no host",
         Some(_) => "from the hosts in allow",

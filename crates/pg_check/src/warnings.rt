@@ -69,10 +69,10 @@ impl Search<'_> {
     fn look_at_ports(&mut self) -> Result<(), AllocError> {
         let setup = self.setup;
         for (number, (_, port)) in setup.ports.iter().enumerate() {
-            if let Some(door) = setup.doors.get(number) {
+            if let Some(rules) = setup.port_rules.get(number) {
                 let own = Listener {
-                    sub: door.sub,
-                    address: door.address,
+                    sub: rules.sub,
+                    address: rules.address,
                     port: *port,
                 };
                 self.look_at_port(number, own)?;
@@ -329,8 +329,8 @@ struct Hold {
 /// The subscriber of the first port, before the one with this number, that can't be bound beside this one.
 fn shared_before(setup: &Setup, number: usize, own: Listener) -> Option<SubId> {
     for (place, (sub, port)) in setup.ports.iter().enumerate().take(number) {
-        if let Some(door) = setup.doors.get(place) {
-            if *port == own.port && meet(door.address, own.address) {
+        if let Some(rules) = setup.port_rules.get(place) {
+            if *port == own.port && meet(rules.address, own.address) {
                 return Some(*sub);
             }
         }

@@ -26,7 +26,7 @@ const EXTENDED: u16 = 8;
 /// What a frame commands. It asks for bytes of which `is_frame` holds (C37.118.2, 6.6).
 ///
 /// It answers `WrongType` for a frame that is no command, and else `BadLength` for one under 18 bytes, or over 18 with
-/// a word other than 8 (own rule). The bytes behind the word 8 are forgotten, as are version, time and quality.
+/// a word other than 8. The bytes behind the word 8 are forgotten, as are version, time and quality.
 pub fn read_command(frame: &[u8]) -> Result<Command, Refusal>
     requires { IsFrame frame.now }
     // What is read is spelled so, and what is spelled so is read.
@@ -61,7 +61,7 @@ fn command_in(frame: &[u8]) -> Result<Command, Refusal>
     Ok(Command { stream, word })
 }
 
-/// The frame that commands this word to a source: version 2, and a FRACSEC of 0x0F000000, which tells of no reliable clock.
+/// The frame that commands this word to a source: version 2, and a FRACSEC of 0x0F000000, which says that the clock is not reliable.
 pub fn write_command(id: PmuId, soc: u32, word: u16) -> [u8; 18]
     ensures { result ≡ written id soc word }
 {

@@ -1,4 +1,5 @@
 //! Command frames: what a subscriber commands, and what a link commands its source.
+//! What no clause of IEEE C37.118.2 is named for is a rule of this project.
 #![tactic(auto)]
 
 mod command;

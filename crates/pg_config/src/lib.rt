@@ -1,4 +1,5 @@
-//! Configuration frames and header frames: what a source and its PMUs announce of themselves, and what a stream's subscriber is told.
+//! Configuration frames and header frames: what a source and its PMUs announce of themselves, and what a stream's subscriber is sent.
+//! What no clause of IEEE C37.118.2 is named for is a rule of this project.
 #![tactic(auto)]
 
 mod laws;

@@ -49,7 +49,7 @@ fn rate_of(frame: &[u8]) -> i16
     i16::from_be_bytes([frame[end], frame[end + 1]])
 }
 
-/// How many blocks a frame tells of.
+/// How many blocks a frame says that it has.
 #[tactic(auto, unfolding(crate::specs::Reading::count_at))]
 fn count_of(frame: &[u8]) -> Result<u16, Refusal>
     requires { 16 ≤ length frame.now }
@@ -249,7 +249,7 @@ fn config_in(alloc: Global, frame: &[u8]) -> Result<Announced, Refusal>
 /// `BadTimeBase` for a resolution of 0; `BadCounts` for a NUM_PMU of 0 or above 16; per block `BadLength` where fewer than 34 bytes
 /// of the frame are left, `FloatFormat` where FORMAT has bit 1, 2 or 3 set, `ConfigTooLarge` for a block above 2,000 bytes, `BadLength` where
 /// fewer bytes are left than the block and 4 more; then `BadLength` where bytes are left over, `DuplicatePmu` for two blocks of one
-/// IDCODE, `WrongId` for an IDCODE of 0 or 65535, the frame's or a block's, and `NoMemory` last. The limits and this order are own rules.
+/// IDCODE, `WrongId` for an IDCODE of 0 or 65535, the frame's or a block's, and `NoMemory` last.
 pub fn read_config(alloc: Global, frame: &[u8]) -> Result<Announced, Refusal>
     requires { IsFrame frame.now }
     // Which value or refusal it is, the first that applies. Want of memory comes last.

@@ -6,7 +6,7 @@ ghost use Rattle.std.specs.Arc.{arc_value};
 ghost use Rattle.pg_config.specs.Parts.{IsPart, IsSource, block_id, data_len, data_lens, ends_from};
 ghost use Rattle.pg_config.specs.Writing.{uncounted, block_with_count};
 
-use pg_wire::{Ahead, Kind, PmuId, PmuKey};
+use pg_wire::{CrcShift, Kind, PmuId, PmuKey};
 use std::alloc::{AllocError, Global};
 use std::marker::Model;
 use std::sync::Arc;
@@ -84,7 +84,7 @@ impl PmuConfig {
     }
 
     /// Adds the configuration block with this CFGCNT in place of its own to a frame, in the room that is there. All other
-    /// bytes are copied (own rule). It takes no memory.
+    /// bytes are copied. It takes no memory.
     pub fn add_to(&self, frame: &mut Vec<u8>, count: u16)
         requires { vec_len frame.old + length (block_with_count count self.now) ≤ vec_capacity frame.old }
         ensures bytes { frame.new.items ≡ frame.old.items ++ block_with_count count self.now }
@@ -97,7 +97,7 @@ impl PmuConfig {
         let _ = frame.extend_from_slice(&count.to_be_bytes());
     }
 
-    /// Whether the blocks are the same but for CFGCNT. By this the gateway tells a change of configuration (own rule).
+    /// Whether the blocks are the same but for CFGCNT. By this the gateway finds a change of configuration.
     pub fn is_same_but_count(&self, other: &PmuConfig) -> bool
         ensures { Decides result (uncounted self.now ≡ uncounted other.now) }
     {
@@ -124,7 +124,7 @@ pub struct SourceConfig {
     // Where each PMU's data block begins among a frame's data blocks, and then where the last one ends.
     places: Vec<usize>,
     // And what CHK of a frame becomes past each PMU's data block.
-    aheads: Vec<Ahead>,
+    shifts: Vec<CrcShift>,
 }
 
 impl Model for SourceConfig {
@@ -137,7 +137,7 @@ impl Model for SourceConfig {
     ghost view = { λ s. record { source = s.source; parts = map arc_value s.parts.items } };
 
     ghost invariant = { λ s. IsSource (record { source = s.source; parts = map arc_value s.parts.items }) × (s.places.items ≡ 0 ∷ ends_from 0 (map arc_value s.parts.items))
-        × (s.aheads.items ≡ map data_len (map arc_value s.parts.items)) };
+        × (s.shifts.items ≡ map data_len (map arc_value s.parts.items)) };
 }
 
 /// The places of the data blocks of these PMUs.
@@ -156,14 +156,14 @@ fn places_of(alloc: Global, parts: &[Arc<PmuConfig>]) -> Result<Vec<usize>, Allo
 }
 
 /// What a frame's CHK becomes past the data blocks of these PMUs.
-fn aheads_of(alloc: Global, parts: &[Arc<PmuConfig>]) -> Result<Vec<Ahead>, AllocError>
+fn shifts_of(alloc: Global, parts: &[Arc<PmuConfig>]) -> Result<Vec<CrcShift>, AllocError>
     ensures { IfOk result (λ v. v.items ≡ map data_len (map arc_value parts.now)) }
 {
-    let mut aheads = Vec::with_capacity(alloc, parts.len())?;
+    let mut shifts = Vec::with_capacity(alloc, parts.len())?;
     for part in parts {
-        aheads.push(Ahead::new(part.block_len()))?;
+        shifts.push(CrcShift::new(part.block_len()))?;
     }
-    Ok(aheads)
+    Ok(shifts)
 }
 
 impl SourceConfig {
@@ -177,12 +177,12 @@ impl SourceConfig {
         ensures { IfOk result (λ s. s ≡ record { source = source; parts = map arc_value parts.items }) }
     {
         let places = places_of(alloc, &parts)?;
-        let aheads = aheads_of(alloc, &parts)?;
+        let shifts = shifts_of(alloc, &parts)?;
         Ok(SourceConfig {
             source,
             parts,
             places,
-            aheads,
+            shifts,
         })
     }
 
@@ -203,11 +203,11 @@ impl SourceConfig {
     }
 
     /// What CHK of a frame becomes past the data block of PMU i.
-    pub fn ahead(&self, i: usize) -> &Ahead
+    pub fn shift(&self, i: usize) -> &CrcShift
         requires { i < length self.now.parts }
         ensures { IfSome (slice_get self.now.parts i) (λ part. result.now ≡ data_len part) }
     {
-        &self.aheads[i]
+        &self.shifts[i]
     }
 
     /// The key of PMU i.

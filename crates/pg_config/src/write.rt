@@ -20,10 +20,10 @@ const AROUND_BODY: u16 = 16;
 /// How many bytes a configuration frame has beside its blocks.
 const AROUND_BLOCKS: u16 = 24;
 
-/// The time quality of frames that tell of no measurement: an unlocked clock.
+/// The time quality of frames that carry no measurement: an unlocked clock.
 const UNLOCKED: u8 = 0x0F;
 
-/// The head of an output frame that tells of no measurement.
+/// The head of an output frame that carries no measurement.
 fn reply_head(kind: Kind, id: StreamId, soc: u32, size: u16) -> Head
     ensures heading { heading_of result ≡ reply_heading kind id soc }
     ensures size { result.size ≡ size }

@@ -1,4 +1,4 @@
-//! Who answers at the control socket and for the page.
+//! The answers at the control socket and for the page.
 
 use crate::console::{Console, ServiceCommands, answer_lines, is_reload};
 use crate::reloads::Reloads;
@@ -15,7 +15,7 @@ use std::io::Write;
 use std::rt::Clock;
 use std::sync::Wait;
 
-/// Answers the lines of a control socket as those of an operator, and tells what the service shows of itself. The line `reload` is put
+/// Answers the lines of a control socket as those of an operator, and says what the service shows of itself. The line `reload` is put
 /// off, where a worker of its own does it.
 #[derive(Drop)]
 pub struct ControlBackend<'a, R: Wait + Clock, N: Named, S: ServiceCommands + Drop> {

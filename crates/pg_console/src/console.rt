@@ -1,17 +1,11 @@
 //! The console, where an operator's lines are answered.
 
-ghost use Rattle.std.specs.Prelude.{◌≡◌, IfOk, IfSome, IfNone, Some};
-ghost use Rattle.pg_shared.specs.Edits.{edited};
-ghost use Rattle.pg_serve.specs.Inputs.{names};
-ghost use Rattle.pg_replay.specs.Lines.{asked_in, hands, nothing};
-
 use crate::service_handle::ServiceHandle;
 use crate::snapshot::seen_by;
+use pg_answers::{NotPrinted, print_refusal, print_reply, read_edit, without_end};
 use pg_gateway::{Edit, Gate, Reply};
 use pg_lines::{Steer, parse_steer};
 use pg_log::{Asked, Detail, Entry, LogEvent, Subject};
-use pg_replay::{Fault, Line, NotPrinted, print_refusal, print_reply, read_line, without_end};
-use pg_serve::Input as Handed;
 use pg_service::{Change, MeteredGate};
 use pg_shared::event_of;
 use pg_status::print_status;
@@ -27,26 +21,26 @@ pub trait ServiceCommands {
     ///
     /// # Errors
     ///
-    /// `Fault::Write` where an answer can't be written.
+    /// Those of `print_refusal` where an answer can't be printed.
     fn reload<W: Write, R: Wait + Clock, G: Gate>(
         &mut self,
         rt: &R,
         console: &mut Console<'_, W>,
         gate: &mut MeteredGate<G>,
-    ) -> Result<(), Fault>;
+    ) -> Result<(), NotPrinted>;
 
     /// Has workers do what is asked about a source or a port, and answers it.
     ///
     /// # Errors
     ///
-    /// `Fault::Write` where an answer can't be written.
+    /// Those of `print_refusal` where an answer can't be printed.
     fn steer<W: Write, R: Wait + Clock, G: Gate>(
         &mut self,
         rt: &R,
         console: &mut Console<'_, W>,
         gate: &mut MeteredGate<G>,
         steer: Steer,
-    ) -> Result<(), Fault>;
+    ) -> Result<(), NotPrinted>;
 }
 
 /// Nothing but edits can be asked for: other lines are `BadLine`.
@@ -59,7 +53,7 @@ impl ServiceCommands for NoServiceCommands {
         _rt: &R,
         console: &mut Console<'_, W>,
         _gate: &mut MeteredGate<G>,
-    ) -> Result<(), Fault> {
+    ) -> Result<(), NotPrinted> {
         print_refusal(console.out_mut(), "refused", Refusal::BadLine)?;
         Ok(())
     }
@@ -70,7 +64,7 @@ impl ServiceCommands for NoServiceCommands {
         console: &mut Console<'_, W>,
         _gate: &mut MeteredGate<G>,
         _steer: Steer,
-    ) -> Result<(), Fault> {
+    ) -> Result<(), NotPrinted> {
         print_refusal(console.out_mut(), "refused", Refusal::BadLine)?;
         Ok(())
     }
@@ -89,6 +83,17 @@ enum Request {
     Reload,
     /// All workers are to end.
     Quit,
+}
+
+/// What came of reading a line.
+#[derive(Clone, Copy)]
+enum LineOutcome {
+    /// It was answered.
+    Answered,
+    /// There are no more: it was `quit`, or the lines ended.
+    Last,
+    /// No line could be read.
+    NotRead,
 }
 
 /// Where an operator's lines are answered.
@@ -124,14 +129,14 @@ impl<'a, W: Write> Console<'a, W> {
         self.service
     }
 
-    /// Answers a line, and tells whether it is `quit`.
+    /// Answers a line, and returns whether it is `quit`.
     fn answer<R: Wait + Clock, G: Gate, S: ServiceCommands>(
         &mut self,
         rt: &R,
         gate: &mut MeteredGate<G>,
         line: &[u8],
         steering: &mut S,
-    ) -> Result<bool, Fault> {
+    ) -> Result<bool, NotPrinted> {
         match asked_by(self.alloc, line) {
             Ok(Request::Edit) => self.edit(rt, gate, line)?,
             Ok(Request::Steer(steer)) => steering.steer(rt, self, gate, steer)?,
@@ -149,14 +154,11 @@ impl<'a, W: Write> Console<'a, W> {
         rt: &R,
         gate: &mut MeteredGate<G>,
         line: &[u8],
-    ) -> Result<(), Fault> {
-        match edit_in(self.alloc, line) {
+    ) -> Result<(), NotPrinted> {
+        match read_edit(self.alloc, line) {
             Ok(Some(edit)) => {
                 let reply = self.post_edit(rt, gate, edit);
-                match print_reply(self.alloc, &mut self.out, &reply) {
-                    Ok(()) | Err(NotPrinted::NoMemory) => {}
-                    Err(NotPrinted::Write) => return Err(Fault::Write),
-                }
+                print_reply(self.alloc, &mut self.out, &reply)?;
             }
             Ok(None) => {}
             Err(refusal) => print_refusal(&mut self.out, "refused", refusal)?,
@@ -169,17 +171,12 @@ impl<'a, W: Write> Console<'a, W> {
         &mut self,
         rt: &R,
         gate: &mut MeteredGate<G>,
-    ) -> Result<(), Fault> {
+    ) -> Result<(), NotPrinted> {
         match seen_by(rt, self.alloc, &self.service, gate) {
-            Ok((snapshot, _)) => match print_status(&mut self.out, &snapshot) {
-                Ok(()) => Ok(()),
-                Err(_) => Err(Fault::Write),
-            },
-            Err(_) => {
-                print_refusal(&mut self.out, "refused", Refusal::NoMemory)?;
-                Ok(())
-            }
+            Ok((snapshot, _)) => print_status(&mut self.out, &snapshot)?,
+            Err(_) => print_refusal(&mut self.out, "refused", Refusal::NoMemory)?,
         }
+        Ok(())
     }
 
     /// Whether a PMU of this source is registered.
@@ -188,7 +185,7 @@ impl<'a, W: Write> Console<'a, W> {
         registered.has(source)
     }
 
-    /// Posts an edit, tells workers what it asks of them, and leaves what came of it for the log.
+    /// Posts an edit, gives workers what it asks of them, and leaves what came of it for the log.
     pub fn post_edit<R: Wait + Clock, G: Gate>(
         &mut self,
         rt: &R,
@@ -216,7 +213,7 @@ impl<'a, W: Write> Console<'a, W> {
         }
     }
 
-    /// Tells workers what an edit that was answered so asks of them, and wakes those that have frames to hand out by it.
+    /// Gives workers what an edit that was answered so asks of them, and wakes those that have frames to hand out by it.
     fn follow<R: Wait, G: Gate>(
         &mut self,
         rt: &R,
@@ -241,15 +238,16 @@ impl<'a, W: Write> Console<'a, W> {
     }
 
     /// Passes over the rest of a line that finds no memory.
-    fn pass_over<B: BufRead>(&mut self, reader: &mut B) -> Result<(), Fault> {
+    fn pass_over<B: BufRead>(&mut self, reader: &mut B) -> Result<LineOutcome, NotPrinted> {
         if reader.skip_until(b'\n').is_err() {
-            return Err(Fault::Read);
+            return Ok(LineOutcome::NotRead);
         }
         print_refusal(&mut self.out, "refused", Refusal::NoMemory)?;
-        Ok(())
+        self.out.flush()?;
+        Ok(LineOutcome::Answered)
     }
 
-    /// Reads a line and answers it, and tells whether it was the last: `quit`, or the end of the lines.
+    /// Reads a line and answers it.
     fn take_line<B: BufRead, R: Wait + Clock, G: Gate, S: ServiceCommands>(
         &mut self,
         rt: &R,
@@ -257,23 +255,20 @@ impl<'a, W: Write> Console<'a, W> {
         reader: &mut B,
         line: &mut Vec<u8>,
         steering: &mut S,
-    ) -> Result<bool, Fault> {
+    ) -> Result<LineOutcome, NotPrinted> {
         line.clear();
         match reader.read_until(b'\n', line) {
-            Ok(0) => return Ok(true),
-            Ok(_) => {
-                if self.answer(rt, gate, without_end(line.as_slice()), steering)? {
-                    self.service.end(rt);
-                    return Ok(true);
-                }
-            }
-            Err(e) if e.kind() == ErrorKind::OutOfMemory => self.pass_over(reader)?,
-            Err(_) => return Err(Fault::Read),
+            Ok(0) => return Ok(LineOutcome::Last),
+            Ok(_) => {}
+            Err(e) if e.kind() == ErrorKind::OutOfMemory => return self.pass_over(reader),
+            Err(_) => return Ok(LineOutcome::NotRead),
         }
-        if self.out.flush().is_err() {
-            return Err(Fault::Write);
+        if self.answer(rt, gate, without_end(line.as_slice()), steering)? {
+            self.service.end(rt);
+            return Ok(LineOutcome::Last);
         }
-        Ok(false)
+        self.out.flush()?;
+        Ok(LineOutcome::Answered)
     }
 }
 
@@ -294,7 +289,7 @@ fn entry_of(subject: Subject, asked: Asked, refusal: Option<Refusal>) -> Entry {
 }
 
 /// Answers an operator's lines until `quit` comes, which ends all workers, or they end, which ends nothing. Each
-/// edit is posted and its reply printed; lines that ask for more are left to who does it; a line that asks for nothing of these is
+/// edit is posted and its reply printed; lines that ask for more are left to others; a line that asks for nothing of these is
 /// `BadLine`. Where no answer can be written any more it goes on without; where lines can't be read it ends. Both are noted.
 pub fn answer_lines<B: BufRead, W: Write, R: Wait + Clock, G: Gate, S: ServiceCommands>(
     rt: &R,
@@ -306,30 +301,14 @@ pub fn answer_lines<B: BufRead, W: Write, R: Wait + Clock, G: Gate, S: ServiceCo
     let mut line = Vec::new(console.alloc);
     for _ in 0..u64::MAX {
         match console.take_line(rt, gate, reader, &mut line, steering) {
-            Ok(true) => return,
-            Ok(false) => {}
-            Err(fault) => {
+            Ok(LineOutcome::Answered) => {}
+            Ok(LineOutcome::Last) => return,
+            Ok(LineOutcome::NotRead) => {
                 console.service.note(LogEvent::ConsoleFault);
-                if let Fault::Read = fault {
-                    return;
-                }
+                return;
             }
+            Err(_) => console.service.note(LogEvent::ConsoleFault),
         }
-    }
-}
-
-/// The edit that a line asks for, if it asks for one. A line of a script that is no edit is `BadLine` here.
-fn edit_in(alloc: Global, line: &[u8]) -> Result<Option<Edit>, Refusal>
-    ensures edit { IfOk result (λ found. IfSome found (λ edit. asked_in line.now ≡ Some (hands (names (edited edit))))) }
-    ensures nothing { IfOk result (λ found. IfNone found (asked_in line.now ≡ Some nothing)) }
-{
-    match read_line(alloc, line)? {
-        Line::Nothing => Ok(None),
-        Line::Handed(input) => match input {
-            Handed::Edit(edit) => Ok(Some(edit)),
-            _other => Err(Refusal::BadLine),
-        },
-        _other => Err(Refusal::BadLine),
     }
 }
 

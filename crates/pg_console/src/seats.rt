@@ -67,7 +67,7 @@ fn post_all<'a, R: Wait, N: Named>(
     Ok(gate.into_seat())
 }
 
-/// Who may hold a seat of one shared gateway, and gives it back at the end.
+/// What may hold a seat of one shared gateway, and gives it back at the end.
 pub trait HoldsSeat {
     // The shared gateway.
     ghost table: { TableId };

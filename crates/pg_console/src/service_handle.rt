@@ -70,7 +70,7 @@ impl ServiceHandle<'_> {
         }
     }
 
-    /// Tells the workers that call sources how many of their events may make frames before those that were made are handed out: a
+    /// Says to the workers that call sources how many of their events may make frames before those that were made are handed out: a
     /// quarter less than what fills a ring, which is left for ticks, and one at least.
     pub fn tell_room<R: Wait>(&self, rt: &R) {
         let registered = self.registered.lock(rt);
@@ -83,7 +83,7 @@ impl ServiceHandle<'_> {
         }
     }
 
-    /// Tells workers what an edit asks of them.
+    /// Gives workers what an edit asks of them.
     pub(crate) fn tell<R: Wait>(&self, rt: &R, after: FollowUp) {
         match after {
             FollowUp::Nothing => {}
@@ -101,7 +101,7 @@ impl ServiceHandle<'_> {
         }
     }
 
-    /// What the workers tell of their sources and ports. Once all are to end nobody is asked, as none need answer then: each line that
+    /// What the workers report of their sources and ports. Once all are to end nobody is asked, as none need answer then: each line that
     /// lies there yet would wait a second for it.
     pub(crate) fn ask<R: Wait + Clock>(&self, rt: &R, alloc: Global) -> Reports {
         let WorkerHandles {
@@ -138,7 +138,7 @@ impl ServiceHandle<'_> {
         }
     }
 
-    /// The subscriber's port is closed, and who has connected hung up.
+    /// The subscriber's port is closed, and the subscriber that connected is hung up.
     pub fn close<R: Wait>(&self, rt: &R, sub: SubId) {
         for mailbox in self.handles.ports {
             mailbox.send(rt, self.handles.journal, PortOrder::Close(sub));
@@ -203,7 +203,7 @@ impl ServiceHandle<'_> {
         }
     }
 
-    /// Who has connected is hung up.
+    /// The subscriber that connected is hung up.
     pub fn hang_up<R: Wait>(&self, rt: &R, sub: SubId) {
         for mailbox in self.handles.ports {
             mailbox.send(rt, self.handles.journal, PortOrder::HangUp(sub));

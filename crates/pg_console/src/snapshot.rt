@@ -53,7 +53,7 @@ pub(crate) fn seen_by<R: Wait + Clock, G: Gate>(
     Ok((snapshot, ages))
 }
 
-/// What is told of this subscriber's port, if it has one.
+/// What is reported of this subscriber's port, if it has one.
 fn port_of(ports: &[PortReport], sub: SubId) -> Option<&PortReport>
     ensures own { IfSome result (λ port. port.now.sub ≡ sub) }
 {
@@ -93,7 +93,7 @@ fn uncalled(alloc: Global, source: PmuId) -> SourceState {
     }
 }
 
-/// A source, as its worker tells of it.
+/// A source, as its worker reports it.
 fn source_state(alloc: Global, report: SourceReport) -> Result<SourceState, AllocError> {
     let SourceReport {
         source,
@@ -177,7 +177,7 @@ fn subscriber_into<G: Gate>(
     Ok(())
 }
 
-/// A subscriber, as the gateway counts for it and its port's worker tells of it.
+/// A subscriber, as the gateway counts for it and its port's worker reports it.
 fn subscriber_state(
     alloc: Global,
     sub: SubId,

@@ -9,7 +9,7 @@ use pg_config::PmuConfig;
 /// STAT of a missing block: bits 15 and 14 are 10, the values are not to be used (C37.118.2, 6.3).
 const MISSING: u16 = 0x8000;
 
-/// A value that is missing (own rule).
+/// A value that is missing.
 const ABSENT: u16 = 0x8000;
 
 /// Appends that many words of one value.
@@ -26,7 +26,7 @@ fn push_words(out: &mut Vec<u8>, count: usize, word: u16)
     }
 }
 
-/// Appends what stands for the PMU's missing data block (own rule): STAT 0x8000, every phasor word, FREQ, DFREQ and
+/// Appends what stands for the PMU's missing data block: STAT 0x8000, every phasor word, FREQ, DFREQ and
 /// analog value 0x8000, every digital word 0. It takes no memory.
 pub fn filler_into(config: &PmuConfig, out: &mut Vec<u8>)
     requires { vec_len out.old + data_len config.now ≤ vec_capacity out.old }

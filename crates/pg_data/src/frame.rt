@@ -92,7 +92,7 @@ impl DataFrame {
             → IsRemainder (dividend_from start (before ++ block_of self.now i)) result }
     {
         self.config
-            .ahead(i)
+            .shift(i)
             .check_past(crc, self.block(i), self.alone[i])
     }
 
@@ -128,7 +128,7 @@ impl DataFrame {
         u16::from_be_bytes([block[0], block[1]])
     }
 
-    /// Whether a PMU tells that its configuration changes: STAT bit 10 is set in one of the data blocks.
+    /// Whether a PMU says that its configuration changes: STAT bit 10 is set in one of the data blocks.
     pub fn is_changed(&self) -> bool
         ensures means { IsTrue result ↔ HasChange self.now }
         ensures value { result ≡ has_change self.now }
@@ -149,7 +149,7 @@ impl DataFrame {
     }
 }
 
-/// What each data block of a frame adds to CHK of a frame that ends with it. A frame of one block tells it by its own CHK.
+/// What each data block of a frame adds to CHK of a frame that ends with it. A frame of one block has it in its own CHK.
 pub(crate) fn alone_in(config: &SourceConfig, frame: &[u8], body: &[u8]) -> [u16; MOST_PMUS]
     requires frame { IsFrame frame.now }
     requires body { body.now ≡ body_of frame.now }
@@ -158,7 +158,7 @@ pub(crate) fn alone_in(config: &SourceConfig, frame: &[u8], body: &[u8]) -> [u16
 {
     if config.count() == 1 {
         let mut alone = [0; MOST_PMUS];
-        alone[0] = body_alone(frame, config.ahead(0));
+        alone[0] = body_alone(frame, config.shift(0));
         return alone;
     }
     alone_of(config, body)

@@ -1,4 +1,5 @@
 //! Data frames: what the PMUs of a source measured at one instant, one data block for each.
+//! What no clause of IEEE C37.118.2 is named for is a rule of this project.
 #![tactic(auto)]
 
 mod filler;

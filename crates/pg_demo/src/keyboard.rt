@@ -19,7 +19,7 @@ const STANDARD_INPUT: i32 = 0;
 /// The longest line, in bytes. What is longer is cut there.
 const LONGEST: usize = 4_096;
 
-/// Standard input, which is read without waiting, and the operator who answers its lines. The line `q` ends all.
+/// Standard input, which is read without waiting, and the console that answers its lines. The line `q` ends all.
 #[derive(Drop)]
 pub struct Keyboard<'a, R: Wait + Clock + Input<Reader = StdinLock<'static>>, N: Named> {
     rt: &'a R,

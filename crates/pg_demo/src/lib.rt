@@ -5,6 +5,7 @@
 mod fault;
 mod keyboard;
 mod run_demo;
+mod runtime;
 mod setup;
 mod simulators;
 mod state;
@@ -12,4 +13,4 @@ mod subscribers;
 mod workers;
 
 pub use fault::Fault;
-pub use run_demo::{Asked, demo};
+pub use run_demo::{DemoOptions, demo};

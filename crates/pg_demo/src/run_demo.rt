@@ -3,11 +3,12 @@
 ghost use Rattle.std.specs.Prelude.{◌≡◌};
 
 use crate::fault::Fault;
+use crate::runtime::Runtime;
 use crate::setup::edits;
-use crate::state::{Boxes, Stage};
+use crate::state::{DemoState, Mailboxes};
 use crate::workers::{Waits, make_workers};
 use pg_console::{SetUp, set_up};
-use pg_demo_core::{Accounts, Verdict};
+use pg_demo_core::{ExpectedStreams, Verdict};
 use pg_log::Journal;
 use pg_service::{Directory, Mailbox, Poller, Resolver, StatusCollector};
 use pg_shared::{Named, Seat, Shared, run_workers};
@@ -22,9 +23,9 @@ use std::sync::atomic::AtomicBool;
 use std::sync::{Mutex, Wait};
 use std::thread::Threads;
 
-/// What is asked of a demo.
-#[derive(Clone, Copy, Debug, PartialEq, Eq)]
-pub struct Asked {
+/// The options of a demo.
+#[derive(Clone, Copy)]
+pub struct DemoOptions {
     /// How the first subscriber's stream is shown.
     pub style: Style,
     /// For how many seconds data frames are sent. `None`: until it is ended by hand, and lines are read.
@@ -38,7 +39,7 @@ pub struct Asked {
 /// # Errors
 ///
 /// That of the gateway, of a source or of a subscriber which ends it before.
-pub fn demo<R>(rt: &R, asked: Asked) -> Result<Verdict, Fault>
+pub fn demo<R>(rt: &R, options: DemoOptions) -> Result<Verdict, Fault>
 where
     R: Input<Reader = StdinLock<'static>>
         + Print
@@ -56,27 +57,18 @@ where
         seat,
         registered,
     } = set_up(rt, alloc, edits(alloc)?)?;
-    play::<R, Brand>(rt, alloc, &shared, seat, asked, registered)
+    run_all::<R, Brand>(rt, alloc, &shared, seat, options, registered)
 }
 
-/// Plays it all, and answers what it came to.
-fn play<R, N: Named + Send>(
+/// Runs all workers, and answers the verdict.
+fn run_all<R: Runtime, N: Named + Send>(
     rt: &R,
     alloc: Global,
     shared: &Shared,
     seat: Seat,
-    asked: Asked,
+    options: DemoOptions,
     registered: Directory,
 ) -> Result<Verdict, Fault>
-where
-    R: Input<Reader = StdinLock<'static>>
-        + Print
-        + Eprint
-        + Clock
-        + Net<Listener = TcpListener, Stream = TcpStream>
-        + Threads
-        + Wait
-        + Sync,
     requires shared { shared.now ≡ N.table }
     requires seat { seat.table ≡ N.table }
 {
@@ -85,13 +77,13 @@ where
         ports: Poller::new(rt, alloc)?,
         page: Poller::new(rt, alloc)?,
     };
-    let boxes = boxes(alloc, &waits, registered)?;
+    let mailboxes = mailboxes(alloc, &waits, registered)?;
     let stop = AtomicBool::new(false);
-    let stage = Stage::new(&stop, &boxes, Accounts::new(alloc));
-    let workers = make_workers::<R, N>(rt, alloc, shared, seat, asked, waits, &stage)?;
+    let state = DemoState::new(&stop, &mailboxes, ExpectedStreams::new(alloc));
+    let workers = make_workers::<R, N>(rt, alloc, shared, seat, options, waits, &state)?;
     let back = run_workers(rt, alloc, workers, u64::MAX, &stop)?;
     drop(back);
-    let mut outcome = stage.outcome.lock(rt);
+    let mut outcome = state.outcome.lock(rt);
     match mem::replace(&mut *outcome, None) {
         Some(outcome) => outcome,
         None => Ok(Verdict::Ended),
@@ -99,12 +91,12 @@ where
 }
 
 /// The mailboxes of the workers that wait with these.
-fn boxes(alloc: Global, waits: &Waits, registered: Directory) -> Result<Boxes, Fault> {
+fn mailboxes(alloc: Global, waits: &Waits, registered: Directory) -> Result<Mailboxes, Fault> {
     let mut sources = Vec::new(alloc);
     sources.push(Mailbox::new(alloc, waits.sources.poll())?)?;
     let mut ports = Vec::new(alloc);
     ports.push(Mailbox::new(alloc, waits.ports.poll())?)?;
-    Ok(Boxes {
+    Ok(Mailboxes {
         sources,
         ports,
         resolver: Resolver::new(alloc, None)?,

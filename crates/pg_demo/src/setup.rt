@@ -85,7 +85,7 @@ fn stream(
     Ok(Definition {
         stream: StreamId::new(number).ok_or(Refusal::WrongId)?,
         rate: RATE,
-        base: pg_tools::MICROS,
+        base: pg_tools::TIME_BASE,
         wait: WAIT,
         window: WINDOW,
         header: HeaderText::new(Vec::from_slice(alloc, header)?),

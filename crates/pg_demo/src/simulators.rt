@@ -2,17 +2,16 @@
 
 use crate::fault::Fault;
 use crate::setup::{FIRST_STREAM, SECOND_STREAM};
-use crate::state::Stage;
-use pg_demo_core::{Course, Facts, Phase, frame_len};
+use crate::state::DemoState;
+use pg_demo_core::{Facts, Phase, PhaseMachine, frame_len};
 use pg_shared::Work;
-use pg_tools::{Happening, Moment, Simulator};
+use pg_tools::{Simulator, SimulatorEvent, UnixTime};
 use std::alloc::Global;
-use std::io::ErrorKind;
 use std::rt::Clock;
 use std::sync::Wait;
 use std::sync::atomic::Ordering;
+use std::thread;
 use std::time::Duration;
-use std::{io, thread};
 
 /// How long a turn waits at most, in microseconds.
 const LONGEST: u64 = 5_000;
@@ -24,91 +23,91 @@ const SHORTEST: u64 = 200;
 /// out by both sources, so that none is lost.
 const ON_THEIR_WAY: usize = 32;
 
-/// A worker that plays both sources. Both send the same slots: none before both streams are on, and none while too
+/// A worker that simulates both sources. Both send the same slots: none before both streams are on, and none while too
 /// many frames are on their way.
 #[derive(Drop)]
 pub struct Simulators<'a, R: Wait + Clock> {
     rt: &'a R,
     alloc: Global,
-    stage: &'a Stage<'a>,
-    course: Course,
+    state: &'a DemoState<'a>,
+    phases: PhaseMachine,
     one: Simulator,
     other: Simulator,
-    happened: Vec<Happening>,
+    events: Vec<SimulatorEvent>,
 }
 
 impl<'a, R: Wait + Clock> Simulators<'a, R> {
-    /// These sources, by this course.
+    /// These sources, from this phase on.
     pub fn new(
         rt: &'a R,
         alloc: Global,
-        stage: &'a Stage<'a>,
-        course: Course,
+        state: &'a DemoState<'a>,
+        phases: PhaseMachine,
         one: Simulator,
         other: Simulator,
     ) -> Simulators<'a, R> {
         Simulators {
             rt,
             alloc,
-            stage,
-            course,
+            state,
+            phases,
             one,
             other,
-            happened: Vec::new(alloc),
+            events: Vec::new(alloc),
         }
     }
 
     /// What is known of the demo.
     fn facts(&self) -> Facts {
-        let [first, second] = &self.stage.are_on;
+        let [first, second] = &self.state.are_on;
         Facts {
-            are_called: self.one.source().is_sending() && self.other.source().is_sending(),
+            are_connected: self.one.source().is_sending() && self.other.source().is_sending(),
             are_on: first.load(Ordering::SeqCst) && second.load(Ordering::SeqCst),
-            is_drained: self.stage.accounts.lock(self.rt).waiting() == 0,
+            is_drained: self.state.expected.lock(self.rt).waiting() == 0,
         }
     }
 
     /// A turn of both. Whether more is to be done.
-    fn play(&mut self) -> Result<bool, Fault> {
+    fn step(&mut self) -> Result<bool, Fault> {
         let wait = self
             .one
             .source()
-            .until_due(now(self.rt)?)
+            .until_due(UnixTime::now(self.rt)?)
             .unwrap_or(LONGEST);
         thread::sleep(
             self.rt,
             Duration::from_micros(wait.clamp(SHORTEST, LONGEST)),
         );
-        let at = now(self.rt)?;
-        self.happened.clear();
-        self.one.attend(at, &mut self.happened)?;
-        self.other.attend(at, &mut self.happened)?;
+        let at = UnixTime::now(self.rt)?;
+        self.events.clear();
+        self.one.serve_peer(at, &mut self.events)?;
+        self.other.serve_peer(at, &mut self.events)?;
         let facts = self.facts();
-        let phase = self.course.step(facts, at.micros / 1_000);
-        if phase != Phase::Calling {
-            self.stage.is_open.store(true, Ordering::SeqCst);
+        let phase = self.phases.step(facts, at.micros / 1_000);
+        if phase != Phase::Connecting {
+            self.state.is_open.store(true, Ordering::SeqCst);
         }
-        self.send_due(at, phase == Phase::Playing)?;
+        self.send_due(at, phase == Phase::Sending)?;
         if phase == Phase::Over {
             let verdict = self
-                .stage
-                .accounts
+                .state
+                .expected
                 .lock(self.rt)
                 .verdict(FIRST_STREAM, SECOND_STREAM);
-            self.stage.end(self.rt, Ok(verdict));
+            self.state.end(self.rt, Ok(verdict));
             return Ok(false);
         }
         Ok(true)
     }
 
-    /// Sends the frames that are due, or passes them over. What has to come is noted before a byte of it is sent.
-    fn send_due(&mut self, at: Moment, is_playing: bool) -> Result<(), Fault> {
+    /// Sends the frames that are due, or skips them. What has to come is noted before a byte of it is sent.
+    fn send_due(&mut self, at: UnixTime, is_sending: bool) -> Result<(), Fault> {
         let (mut one, mut other) = (Vec::new(self.alloc), Vec::new(self.alloc));
-        let is_compared = !self.stage.is_changed.load(Ordering::SeqCst);
-        let mut accounts = self.stage.accounts.lock(self.rt);
-        if !is_playing || (is_compared && accounts.waiting() >= ON_THEIR_WAY) {
-            self.one.pass(at);
-            self.other.pass(at);
+        let is_compared = !self.state.is_changed.load(Ordering::SeqCst);
+        let mut expected = self.state.expected.lock(self.rt);
+        if !is_sending || (is_compared && expected.waiting() >= ON_THEIR_WAY) {
+            self.one.skip_due(at);
+            self.other.skip_due(at);
         } else {
             self.one.due(at, &mut one)?;
             self.other.due(at, &mut other)?;
@@ -116,31 +115,23 @@ impl<'a, R: Wait + Clock> Simulators<'a, R> {
         if is_compared {
             let one_len = frame_len(&self.one.source().settings());
             let other_len = frame_len(&self.other.source().settings());
-            accounts.expect(&one, one_len, &other, other_len)?;
+            expected.expect(&one, one_len, &other, other_len)?;
         }
-        drop(accounts);
-        self.one.send(&one, &mut self.happened)?;
-        self.other.send(&other, &mut self.happened)?;
+        drop(expected);
+        self.one.send(&one, &mut self.events)?;
+        self.other.send(&other, &mut self.events)?;
         Ok(())
     }
 }
 
 impl<R: Wait + Clock> Work for Simulators<'_, R> {
     fn turn(&mut self) -> bool {
-        match self.play() {
+        match self.step() {
             Ok(goes_on) => goes_on,
             Err(fault) => {
-                self.stage.end(self.rt, Err(fault));
+                self.state.end(self.rt, Err(fault));
                 false
             }
         }
-    }
-}
-
-/// The time.
-pub fn now<R: Clock>(rt: &R) -> Result<Moment, Fault> {
-    match Moment::now(rt) {
-        Some(now) => Ok(now),
-        None => Err(Fault::from(io::Error::from(ErrorKind::Unsupported))),
     }
 }

@@ -1,7 +1,7 @@
 //! What the threads of a demo share.
 
 use crate::fault::Fault;
-use pg_demo_core::{Accounts, Verdict};
+use pg_demo_core::{ExpectedStreams, Verdict};
 use pg_log::Journal;
 use pg_service::{Directory, Mailbox, PortOrder, Resolver, SourceOrder, StatusCollector};
 use std::sync::atomic::{AtomicBool, Ordering};
@@ -9,7 +9,7 @@ use std::sync::{Mutex, Wait};
 
 /// The mailboxes of the gateway's workers.
 #[derive(Drop)]
-pub struct Boxes {
+pub struct Mailboxes {
     /// Of those that call sources.
     pub sources: Vec<Mailbox<SourceOrder>>,
     /// Of those that serve subscribers.
@@ -20,13 +20,13 @@ pub struct Boxes {
     pub window: Mailbox<()>,
     /// What the workers note.
     pub journal: Journal,
-    /// Where the workers tell how their sources and ports stand.
+    /// Where the workers report the state of their sources and ports.
     pub collector: StatusCollector,
     /// The PMUs and subscribers that are registered.
     pub registered: Mutex<Directory>,
 }
 
-impl Boxes {
+impl Mailboxes {
     /// Wakes all workers, so that they see that they are to end.
     fn wake(&self) {
         for mailbox in &self.sources {
@@ -41,33 +41,37 @@ impl Boxes {
 
 /// What the threads of a demo share.
 #[derive(Drop)]
-pub struct Stage<'a> {
+pub struct DemoState<'a> {
     /// Set where all are to end.
     pub stop: &'a AtomicBool,
     /// The mailboxes of the gateway's workers.
-    pub boxes: &'a Boxes,
+    pub mailboxes: &'a Mailboxes,
     /// Whether the subscribers may connect.
     pub is_open: AtomicBool,
     /// Whether the streams of the first and of the second subscriber are on.
     pub are_on: [AtomicBool; 2],
     /// Whether a line was typed that changes what comes, so that nothing is compared any more.
     pub is_changed: AtomicBool,
-    /// What the subscribers are owed.
-    pub accounts: Mutex<Accounts>,
+    /// The data frames that the subscribers have to receive.
+    pub expected: Mutex<ExpectedStreams>,
     /// What the demo came to, once that is known.
     pub outcome: Mutex<Option<Result<Verdict, Fault>>>,
 }
 
-impl<'a> Stage<'a> {
-    /// Nothing has happened.
-    pub fn new(stop: &'a AtomicBool, boxes: &'a Boxes, accounts: Accounts) -> Stage<'a> {
-        Stage {
+impl<'a> DemoState<'a> {
+    /// Nothing has events.
+    pub fn new(
+        stop: &'a AtomicBool,
+        mailboxes: &'a Mailboxes,
+        expected: ExpectedStreams,
+    ) -> DemoState<'a> {
+        DemoState {
             stop,
-            boxes,
+            mailboxes,
             is_open: AtomicBool::new(false),
             are_on: [AtomicBool::new(false), AtomicBool::new(false)],
             is_changed: AtomicBool::new(false),
-            accounts: Mutex::new(accounts),
+            expected: Mutex::new(expected),
             outcome: Mutex::new(None),
         }
     }
@@ -86,7 +90,7 @@ impl<'a> Stage<'a> {
             }
         }
         self.stop.store(true, Ordering::SeqCst);
-        self.boxes.wake();
+        self.mailboxes.wake();
     }
 
     /// Whether all are to end.

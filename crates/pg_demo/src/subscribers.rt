@@ -2,11 +2,12 @@
 
 use crate::fault::Fault;
 use crate::keyboard::Keyboard;
-use crate::state::Stage;
+use crate::setup::FIRST_STREAM;
+use crate::state::DemoState;
 use pg_data::DataFrame;
 use pg_demo_core::Verdict;
 use pg_shared::{Named, Work};
-use pg_tools::{Observer, Stamp, Style, Target, WatchOptions, Watcher, watch_before};
+use pg_tools::{Observer, Stamp, Style, Target, WatchOptions, Watcher, watch_with};
 use pg_wire::PmuId;
 use std::alloc::{AllocError, Global};
 use std::io::StdinLock;
@@ -20,16 +21,18 @@ use std::time::Duration;
 /// How long a subscriber waits, in milliseconds, before it looks again whether it may connect.
 const PAUSE: u64 = 5;
 
-/// Who looks on while a subscriber watches its stream.
+/// A worker that is a subscriber: it connects once both sources are called, and observes its stream.
 #[derive(Drop)]
-pub struct ScreenObserver<'a, R: Wait + Clock + Input<Reader = StdinLock<'static>>, N: Named> {
+pub struct TestSubscriber<'a, R: Wait + Clock + Input<Reader = StdinLock<'static>>, N: Named> {
     rt: &'a R,
     alloc: Global,
-    stage: &'a Stage<'a>,
+    state: &'a DemoState<'a>,
+    address: SocketAddr,
+    stream: PmuId,
     is_first: bool,
     style: Style,
     intro: String,
-    is_told: bool,
+    is_intro_printed: bool,
     notes: String,
     keyboard: Option<Keyboard<'a, R, N>>,
 }
@@ -38,78 +41,82 @@ impl<
     'a,
     R: Wait + Clock + Net + Print + Input<Reader = StdinLock<'static>>,
     N: Named,
-> ScreenObserver<'a, R, N> {
-    /// Of the first subscriber, or of the second one; `intro` stands below the screen, or before the lines.
+> TestSubscriber<'a, R, N> {
+    /// A subscriber of this stream at this address; `intro` stands below the screen, or before the lines.
     pub fn new(
         rt: &'a R,
         alloc: Global,
-        stage: &'a Stage<'a>,
-        is_first: bool,
+        state: &'a DemoState<'a>,
+        address: SocketAddr,
+        stream: PmuId,
         style: Style,
         intro: String,
         keyboard: Option<Keyboard<'a, R, N>>,
-    ) -> ScreenObserver<'a, R, N> {
-        ScreenObserver {
+    ) -> TestSubscriber<'a, R, N> {
+        TestSubscriber {
             rt,
             alloc,
-            stage,
-            is_first,
+            state,
+            address,
+            stream,
+            is_first: stream.get() == FIRST_STREAM,
             style,
             intro,
-            is_told: false,
+            is_intro_printed: false,
             notes: String::new(alloc),
             keyboard,
         }
     }
 
     /// Reads the lines that were typed, and writes the notes anew.
-    fn look(&mut self) -> Result<(), Fault> {
+    fn read_lines(&mut self) -> Result<(), Fault> {
         if let Some(keyboard) = &mut self.keyboard {
             keyboard.listen()?;
             if keyboard.has_changed() {
-                self.stage.is_changed.store(true, Ordering::SeqCst);
+                self.state.is_changed.store(true, Ordering::SeqCst);
             }
         }
         if self.style == Style::Plain {
-            self.tell()
+            self.print_notes()
         } else {
             self.write_notes()?;
             Ok(())
         }
     }
 
-    /// Tells where all of it is, and each answer, where there is no screen to stand below.
-    fn tell(&mut self) -> Result<(), Fault> {
-        let mut service = Ok(());
-        if !self.is_told {
-            self.is_told = true;
+    /// Prints the addresses once, and each answer, where there is no screen to stand below.
+    fn print_notes(&mut self) -> Result<(), Fault> {
+        let mut printed = Ok(());
+        if !self.is_intro_printed {
+            self.is_intro_printed = true;
             let intro = self.intro.as_str();
-            service = print!(self.rt; "{intro}");
+            printed = print!(self.rt; "{intro}");
         }
         if let Some(keyboard) = &mut self.keyboard {
             if keyboard.typed > 0 {
                 keyboard.typed = 0;
                 let answer = keyboard.answer.as_str();
-                service = println!(self.rt; "{answer}");
+                printed = println!(self.rt; "{answer}");
             }
         }
-        match service {
+        match printed {
             Ok(()) => Ok(()),
             Err(_) => Err(Fault::Tool(pg_tools::Fault::Output)),
         }
     }
 
+    /// The lines below the screen.
     fn write_notes(&mut self) -> Result<(), AllocError> {
         let mut notes = String::new(self.alloc);
         notes.push_str(self.intro.as_str())?;
-        if self.stage.is_changed.load(Ordering::SeqCst) {
+        if self.state.is_changed.load(Ordering::SeqCst) {
             notes.push_str(
                 "frames are not compared any more, since a line has changed what comes\n",
             )?;
         } else {
-            let accounts = self.stage.accounts.lock(self.rt);
-            let right = accounts.first.right.saturating_add(accounts.second.right);
-            match accounts.first.wrong.or(accounts.second.wrong) {
+            let expected = self.state.expected.lock(self.rt);
+            let right = expected.first.right.saturating_add(expected.second.right);
+            match expected.first.wrong.or(expected.second.wrong) {
                 Some(wrong) => write!(notes, "WRONG: {wrong}\n")?,
                 None => write!(
                     notes,
@@ -127,34 +134,34 @@ impl<
 }
 
 impl<R: Wait + Clock + Net + Print + Input<Reader = StdinLock<'static>>, N: Named> Observer
-    for ScreenObserver<'_, R, N> {
+    for TestSubscriber<'_, R, N> {
     fn frame(&mut self, frame: &DataFrame) {
-        if self.stage.is_changed.load(Ordering::SeqCst) {
+        if self.state.is_changed.load(Ordering::SeqCst) {
             return;
         }
         let stamp = Stamp {
             soc: frame.soc,
             frac: frame.frac,
         };
-        let mut accounts = self.stage.accounts.lock(self.rt);
+        let mut expected = self.state.expected.lock(self.rt);
         // What is wrong first is kept.
         if self.is_first {
-            let _ = accounts.first.came(stamp, &frame.body);
+            let _ = expected.first.receive(stamp, &frame.body);
         } else {
-            let _ = accounts.second.came(stamp, &frame.body);
+            let _ = expected.second.receive(stamp, &frame.body);
         }
     }
 
     fn turn(&mut self, watcher: &Watcher) -> bool {
         if watcher.is_on() {
-            let [first, second] = &self.stage.are_on;
+            let [first, second] = &self.state.are_on;
             let mine = if self.is_first { first } else { second };
             mine.store(true, Ordering::SeqCst);
         }
-        if let Err(fault) = self.look() {
-            self.stage.end(self.rt, Err(fault));
+        if let Err(fault) = self.read_lines() {
+            self.state.end(self.rt, Err(fault));
         }
-        !self.stage.is_over()
+        !self.state.is_over()
     }
 
     fn notes(&self) -> &str {
@@ -169,49 +176,36 @@ impl<R: Wait + Clock + Net + Print + Input<Reader = StdinLock<'static>>, N: Name
     }
 }
 
-/// A worker that is a subscriber: it connects once both sources are called.
-#[derive(Drop)]
-pub struct TestSubscriber<'a, R: Wait + Clock + Input<Reader = StdinLock<'static>>, N: Named> {
-    /// Who looks on.
-    pub onlooker: ScreenObserver<'a, R, N>,
-    /// Where it connects.
-    pub address: SocketAddr,
-    /// Its stream.
-    pub stream: PmuId,
-}
-
 impl<R, N: Named> Work for TestSubscriber<'_, R, N>
 where
     R: Wait + Net + Clock + Input<Reader = StdinLock<'static>> + Print + Eprint,
 {
     fn turn(&mut self) -> bool {
-        let rt = self.onlooker.rt;
-        let stage = self.onlooker.stage;
-        if !stage.is_open.load(Ordering::SeqCst) {
+        let (rt, state) = (self.rt, self.state);
+        if !state.is_open.load(Ordering::SeqCst) {
             thread::sleep(rt, Duration::from_millis(PAUSE));
             return true;
         }
-        let watched = WatchOptions {
+        let options = WatchOptions {
             address: Target::Address(self.address),
             stream: self.stream,
-            style: self.onlooker.style,
+            style: self.style,
             raw: None,
             frames: None,
             seconds: None,
         };
-        let alloc = self.onlooker.alloc;
         let mut raw: Option<Vec<u8>> = None;
-        match watch_before(rt, alloc, &watched, &mut raw, &mut self.onlooker) {
+        match watch_with(rt, self.alloc, &options, &mut raw, self) {
             Ok(is_good) => {
                 // A line that changes what comes lets frames come that do not fit, until the next configuration has come.
-                if !is_good && !stage.is_changed.load(Ordering::SeqCst) {
-                    stage.end(rt, Ok(Verdict::Troubled(self.stream.get())));
+                if !is_good && !state.is_changed.load(Ordering::SeqCst) {
+                    state.end(rt, Ok(Verdict::Troubled(self.stream.get())));
                 }
             }
-            Err(fault) => stage.end(rt, Err(Fault::Tool(fault))),
+            Err(fault) => state.end(rt, Err(Fault::Tool(fault))),
         }
         // It was ended, or by itself: then all end.
-        stage.end(rt, Ok(Verdict::Ended));
+        state.end(rt, Ok(Verdict::Ended));
         false
     }
 }

@@ -1,2 +1,2 @@
 -- Lemmas of the demo.
-pub mod Owing
+pub mod Expecting

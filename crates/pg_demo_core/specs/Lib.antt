@@ -1,2 +1,2 @@
 -- Definitions that the contracts of the demo cite.
-pub mod Owing
+pub mod Expecting

@@ -1,6 +1,6 @@
 //! What a demo comes to.
 
-use crate::owed::Wrong;
+use crate::expected_frames::Wrong;
 use pg_tools::Stamp;
 use std::fmt;
 

@@ -12,7 +12,7 @@ use std::marker::Model;
 /// The most grants of a subscriber.
 const GRANT_LIMIT: usize = 32;
 
-/// The PMUs that a subscriber was granted: at most 32 (own rule). Only `new` takes memory.
+/// The PMUs that a subscriber was granted: at most 32. Only `new` takes memory.
 #[derive(Drop)]
 pub struct Grants {
     keys: Vec<PmuKey>,

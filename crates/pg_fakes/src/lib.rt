@@ -103,7 +103,7 @@ impl Write for FakeWriter {
 }
 
 /// A gate that keeps what it was posted, in order, and answers as plainly as can be: each drain with the next of its chunks, as
-/// much of it as the buffer has room for, and all else with `Done` and no frames. It tells proofs nothing, since there may be
+/// much of it as the buffer has room for, and all else with `Done` and no frames. It says nothing to proofs, since there may be
 /// no memory for what it keeps.
 #[derive(Drop)]
 pub struct FakeGate<'a> {

@@ -13,8 +13,8 @@ fn checks(rt: HostRuntime) {
     same(&rt, check(b""), 0xFFFF);
     same(&rt, check_bytewise(b"123456789"), 0x29B1);
     same(&rt, check_more(check(b"12345"), b"6789"), 0x29B1);
-    let ahead = Ahead::new(4);
-    let past = ahead.check_past(check(b"12345"), b"6789", check_alone(b"6789"));
+    let shift = CrcShift::new(4);
+    let past = shift.check_past(check(b"12345"), b"6789", check_alone(b"6789"));
     same(&rt, past, 0x29B1);
 }
 

@@ -35,9 +35,9 @@ fn count_wraps(rt: HostRuntime) {
 }
 
 #[test]
-fn front_of_a_frame(rt: HostRuntime) {
+fn prefix_of_a_head(rt: HostRuntime) {
     let stream = StreamId::new(101).expect(&rt, "a stream");
-    same(&rt, Front::of(stream, 36).size(), 36);
+    same(&rt, HeadPrefix::of(stream, 36).size(), 36);
 }
 
 /// One frame of slot 3001 brought the blocks of both members, which are not in its own order. Bit 7 of its quality is not shown.

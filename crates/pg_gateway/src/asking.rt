@@ -173,7 +173,7 @@ pub(crate) fn grant_at(
     }
 }
 
-/// Those of these subscribers for whom something waits to be handed out, in the same order and memory.
+/// Those of these subscribers for which something waits to be handed out, in the same order and memory.
 pub(crate) fn waiting_among(
     subs: &IndexMap<SubId, SubscriberSlot>,
     mut asked: Vec<SubId>,
@@ -184,7 +184,7 @@ pub(crate) fn waiting_among(
     asked
 }
 
-/// Whether something waits to be handed out to a subscriber, who may not be there.
+/// Whether something waits to be handed out to a subscriber, which may not be there.
 fn waits(subs: &IndexMap<SubId, SubscriberSlot>, sub: SubId) -> bool
     ensures { result ≡ slot_waits (lookup (nat_eq sub) subs.now.entries) }
 {

@@ -17,7 +17,7 @@ use crate::slot::SubscriberSlot;
 use crate::state::MOST_SUBS;
 use indexmap::IndexMap;
 use pg_data::DataFrame;
-use pg_outcfg::Stamps;
+use pg_outcfg::StampCache;
 use pg_wire::{Refusal, SubId};
 use std::sync::Arc;
 
@@ -32,7 +32,7 @@ pub(crate) fn deliver_frame(
     granted_all: u64,
     granted_blocks: &[u16; MOST_SUBS],
     held: &mut Vec<usize>,
-    stamps: &mut Stamps,
+    stamps: &mut StampCache,
 ) -> (u64, u64)
     requires few { index_map_len subs.old ≤ 64 }
     requires bits { HasBits (index_map_len subs.old) granted_some }
@@ -89,7 +89,7 @@ pub(crate) fn prepare_frame(
     granted_all: u64,
     granted_blocks: &[u16; MOST_SUBS],
     held: &mut Vec<usize>,
-    stamps: &mut Stamps,
+    stamps: &mut StampCache,
 ) -> Result<(), Refusal>
     requires bits { HasBits (index_map_len subs.old) granted_some }
     requires rising { AreRising 0 (length (arc_value frame.now).config.parts) places.now }
@@ -147,7 +147,7 @@ fn prepare_each(
     granted_all: u64,
     granted_blocks: &[u16; MOST_SUBS],
     held: &mut Vec<usize>,
-    stamps: &mut Stamps,
+    stamps: &mut StampCache,
 ) -> Result<(), Refusal>
     requires bits { HasBits (index_map_len subs.old) granted_some }
     requires rising { AreRising 0 (length (arc_value frame.now).config.parts) places.now }
@@ -189,7 +189,7 @@ fn prepare_block(
     granted_some: u64,
     frame: &Arc<DataFrame>,
     place: usize,
-    stamps: &mut Stamps,
+    stamps: &mut StampCache,
 ) -> Result<(), Refusal>
     requires bits { HasBits (index_map_len subs.old) granted_some }
     requires place { place < length (arc_value frame.now).config.parts }
@@ -221,7 +221,7 @@ fn deliver_block(
     granted_some: u64,
     frame: &Arc<DataFrame>,
     place: usize,
-    stamps: &mut Stamps,
+    stamps: &mut StampCache,
 ) -> (u64, u64)
     requires few { index_map_len subs.old ≤ 64 }
     requires bits { HasBits (index_map_len subs.old) granted_some }

@@ -82,6 +82,6 @@ pub enum Reply {
     Audit(Option<Entry>),
     /// How a subscriber stands.
     Standing(Standing),
-    /// Those of the subscribers that were asked about for whom something waits, in the same order and memory.
+    /// Those of the subscribers that were asked about for which something waits, in the same order and memory.
     Waiting(Vec<SubId>),
 }

@@ -9,7 +9,7 @@ use pg_wire::Refusal;
 
 /// Where events are posted, one at a time: a gateway, or one that is shared with others.
 pub trait Gate {
-    // What was posted to it and answered, in order, where it tells.
+    // What was posted to it and answered, in order, where it says so.
     ghost posts: { Self → Option (List Posted) } = { λ _. None };
 
     // Which events it takes. It refuses the others with FarClock (21), and does not post them: they are data frames of sources.

@@ -107,7 +107,7 @@ impl Gateway {
     ///
     /// # Errors
     ///
-    /// The refusal that the reply tells: the first of a block, `NoSuchPmu` where none is of a registered PMU, or `NoMemory`.
+    /// The refusal in the reply: the first of a block, `NoSuchPmu` where none is of a registered PMU, or `NoMemory`.
     pub fn measure(&mut self, frame: &Arc<DataFrame>) -> Result<(u64, u64), Refusal>
         ensures goes { Goes self.old (measure (arc_value frame.now)) (told_to_all result) self.new }
         ensures alike { LeavesAlike self.old (measure (arc_value frame.now)) (told_to_all result) }

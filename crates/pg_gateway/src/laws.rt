@@ -17,7 +17,7 @@ pub fn own_blocks_alone()
     ensures { SharedFrame }
 {}
 
-/// Replies that tell no loss and no want of memory are those of a run in which no memory is refused.
+/// Replies that report no loss and no want of memory are those of a run in which no memory is refused.
 pub fn nothing_lost_is_full()
     ensures { NothingLost }
 {}

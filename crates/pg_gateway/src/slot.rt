@@ -24,7 +24,7 @@ use crate::event::Event;
 use pg_audit::{Audit, Entry, Stats, What};
 use pg_config::{PmuConfig, SourceConfig};
 use pg_data::DataFrame;
-use pg_outcfg::Stamps;
+use pg_outcfg::StampCache;
 use pg_ring::{RingBytes, RingSize};
 use pg_session::{PrivateEvent, PrivateReply, Standing, Subscriber};
 use pg_wire::{PmuKey, Refusal};
@@ -218,7 +218,7 @@ impl SubscriberSlot {
         whole: bool,
         number: u64,
         held: &mut Vec<usize>,
-        stamps: &mut Stamps,
+        stamps: &mut StampCache,
     ) -> Result<(), Refusal>
         requires rising { AreRising 0 (length (arc_value frame.now).config.parts) places.now }
         requires few { length places.now ≤ 16 }
@@ -246,7 +246,7 @@ impl SubscriberSlot {
         &mut self,
         frame: &Arc<DataFrame>,
         place: usize,
-        stamps: &mut Stamps,
+        stamps: &mut StampCache,
     ) -> Result<(), Refusal>
         requires place { place < length (arc_value frame.now).config.parts }
         requires holds { HoldsPart (arc_value frame.now).config place self.old }
@@ -265,7 +265,7 @@ impl SubscriberSlot {
         places: &[usize],
         number: u64,
         held: &mut Vec<usize>,
-        stamps: &mut Stamps,
+        stamps: &mut StampCache,
     ) -> Result<(), Refusal>
         requires rising { AreRising 0 (length (arc_value frame.now).config.parts) places.now }
         requires few { length places.now ≤ 16 }
@@ -372,7 +372,7 @@ impl SubscriberSlot {
         number: u64,
         held: &mut Vec<usize>,
         lost: bool,
-        stamps: &mut Stamps,
+        stamps: &mut StampCache,
     ) -> (u64, u64)
         requires rising { AreRising 0 (length (arc_value frame.now).config.parts) places.now }
         requires few { length places.now ≤ 16 }
@@ -403,7 +403,7 @@ impl SubscriberSlot {
         frame: &Arc<DataFrame>,
         place: usize,
         lost: bool,
-        stamps: &mut Stamps,
+        stamps: &mut StampCache,
     ) -> (u64, u64)
         requires place { place < length (arc_value frame.now).config.parts }
         requires holds { HoldsPart (arc_value frame.now).config place self.old }
@@ -423,7 +423,7 @@ impl SubscriberSlot {
         number: u64,
         held: &mut Vec<usize>,
         lost: bool,
-        stamps: &mut Stamps,
+        stamps: &mut StampCache,
     ) -> (u64, u64)
         requires rising { AreRising 0 (length (arc_value frame.now).config.parts) places.now }
         requires few { length places.now ≤ 16 }
@@ -489,7 +489,7 @@ fn hold(
     !held.is_empty()
 }
 
-/// The only bit that is set in a number, if it is told.
+/// The only bit that is set in a numberif it is known.
 #[inline(always)]
 fn only_bit(number: u64) -> Option<u32>
     ensures { IfSome result (λ bit. IsOnlyBit number bit) }

@@ -37,7 +37,7 @@ use indexmap::IndexMap;
 use pg_audit::What;
 use pg_config::{PmuConfig, SourceConfig};
 use pg_data::DataFrame;
-use pg_outcfg::Stamps;
+use pg_outcfg::StampCache;
 use pg_registry::Registry;
 use pg_ring::{OutQueue, RingBytes, RingSize};
 use pg_session::PrivateEvent;
@@ -70,7 +70,7 @@ pub(crate) struct GatewayState {
     // Room for the judgement of each registered block: the place of its PMU in the registry, and the refusal, if there is one.
     judged: Vec<(usize, Option<Refusal>)>,
     // The slot and the stamp that were computed last, for streams of one rate.
-    stamps: Stamps,
+    stamps: StampCache,
     // Where the registry is searched first for the PMU of the next frame's first block.
     near: usize,
     // Room for the references to announced configurations, on their way to the registry.
@@ -106,7 +106,7 @@ impl GatewayState {
             held: Vec::with_capacity(alloc, MOST_BLOCKS)?,
             granted_blocks: [0; MOST_SUBS],
             judged: Vec::with_capacity(alloc, MOST_BLOCKS)?,
-            stamps: Stamps::new(),
+            stamps: StampCache::new(),
             near: 0,
             copies: HeapCircularBuffer::with_capacity(alloc, MOST_BLOCKS)?,
         })

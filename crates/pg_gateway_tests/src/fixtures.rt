@@ -290,7 +290,7 @@ fn counted(rt: &impl Abort, alloc: Global, stats: &Stats) -> String {
     text
 }
 
-/// Those for whom something waits.
+/// Those for which something waits.
 fn listed(rt: &impl Abort, alloc: Global, subs: &[SubId]) -> String {
     let mut text = String::from_str(alloc, "waiting").expect(rt, "memory");
     for sub in subs {

@@ -1,4 +1,4 @@
-//! How a subscriber stands, for whom something waits, and blocks that are read by another configuration.
+//! How subscribers stand, for which of them something waits, and blocks that are read by another configuration.
 use crate::fixtures::{play, played};
 use std::test::*;
 
@@ -104,7 +104,7 @@ fn layouts(rt: HostRuntime) {
     play(&rt, alloc, &mut gateway, LAST_LAYOUTS);
 }
 
-/// Something waits for who has a reply or a frame that was not handed out; one who is not there is left out, and so is who has all.
+/// Something waits for a subscriber with a reply or a frame that was not handed out; one that is not there is left out, and so is one that has all.
 const WHO_WAITS: &str = "\
 addpmu 7
 hear 7 config-7

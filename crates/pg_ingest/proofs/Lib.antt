@@ -2,6 +2,7 @@
 pub mod Owing
 pub mod Holding
 pub mod Telling
+pub mod Again
 pub mod Past
 pub mod Known
 pub mod Stepping

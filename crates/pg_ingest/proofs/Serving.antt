@@ -328,30 +328,30 @@ last-append o (posts item ∷ before) piece items = last-append o before piece i
 last_is : (piece : List ℕ) (steps : List Step) → LastRead piece steps → last_read None steps ≡ Some piece
 last_is piece steps last = ap (last_read None) last.is ∙ last-append None last.before piece last.items
 
-fresh_told : (past : LinkPast) → IsFresh past → IsAllTold past
+pub fresh_told : (past : LinkPast) → IsFresh past → IsAllTold past
 unfolding frames_in frames_by
 fresh_told past fresh =
     subst (λ s. AreTold past.source (reverse (frames_in s)) (reverse (told_in past.acts))) (sym fresh.0)
     (subst (λ acts. AreTold past.source (reverse (frames_in [])) (reverse (told_in acts))) (sym fresh.1) tt)
 
-served_told : (past : LinkPast) (steps : List Step) (bytes : List ℕ) (items : List Item) → IsFresh past → IsAllTold (after_steps past steps) → bytes_in steps ≡ bytes → items_in steps ≡ items
-    → AreTold past.source (reverse (frames_in bytes)) (reverse items)
-served_told past steps bytes items fresh told b i =
-    let stream : (after_steps past steps).stream ≡ bytes = stream_after past steps ∙ ap (λ s. s ++ bytes_in steps) fresh.0 ∙ b in
-    let all : told_in (after_steps past steps).acts ≡ items = told_after past steps ∙ ap (λ acts. told_in acts ++ items_in steps) fresh.1 ∙ i in
-    subst (λ source. AreTold source (reverse (frames_in bytes)) (reverse items)) (source_stays past steps)
-    (subst (λ s. AreTold (after_steps past steps).source (reverse (frames_in s)) (reverse items)) stream
+served_told : (past : LinkPast) (steps : List Step) (bytes : List ℕ) (items : List Item) → IsAllTold (after_steps past steps) → bytes_in steps ≡ bytes → items_in steps ≡ items
+    → AreTold past.source (reverse (frames_in (past.stream ++ bytes))) (reverse (told_in past.acts ++ items))
+served_told past steps bytes items told b i =
+    let stream : (after_steps past steps).stream ≡ past.stream ++ bytes = stream_after past steps ∙ ap (λ s. past.stream ++ s) b in
+    let all : told_in (after_steps past steps).acts ≡ told_in past.acts ++ items = told_after past steps ∙ ap (λ xs. told_in past.acts ++ xs) i in
+    subst (λ source. AreTold source (reverse (frames_in (past.stream ++ bytes))) (reverse (told_in past.acts ++ items))) (source_stays past steps)
+    (subst (λ s. AreTold (after_steps past steps).source (reverse (frames_in s)) (reverse (told_in past.acts ++ items))) stream
     (subst (λ xs. AreTold (after_steps past steps).source (reverse (frames_in (after_steps past steps).stream)) (reverse xs)) all told))
 
-served_by : (end : End) (past : LinkPast) (v : Linking) (before after : Wires) (turns : List Turn) (unasked : List Word) → IsFresh past → (so : SoFar end past v before after)
+served_by : (end : End) (past : LinkPast) (v : Linking) (before after : Wires) (turns : List Turn) (unasked : List Word) → (so : SoFar end past v before after)
     → AreTurns past turns → bytes_in so.ran.steps ≡ bytes_read turns → items_in so.ran.steps ≡ items_read turns → words_in so.ran.steps ++ unasked ≡ commands_in past turns
     → (is_cut end ≡ false → (unasked ≡ []) × (v.left ≡ []) × ((before : List Turn) × (turn : Turn) × (turns ≡ before ++ turn ∷ []) × EndsDry end turn.piece))
     → Served end past v.left before after
-served_by end past v before after turns unasked fresh so are bytes items words whole = record {
+served_by end past v before after turns unasked so are bytes items words whole = record {
   turns = turns;
   are = are;
   read = subst (Consumes before.unread after.unread) bytes so.ran.read;
-  told = served_told past so.ran.steps (bytes_read turns) (items_read turns) fresh so.told bytes items;
+  told = served_told past so.ran.steps (bytes_read turns) (items_read turns) so.told bytes items;
   calls = so.ran.calls;
   posted = so.ran.posted;
   events = so.ran.events ∙ ap (filter before.takes) (events_are so.ran.steps ∙ ap (flat_map events_told) items);
@@ -364,15 +364,15 @@ served_by end past v before after turns unasked fresh so are bytes items words w
   whole = whole;
 }
 
-pub served : (end : End) (past : LinkPast) (v : Linking) (before after : Wires) → IsFresh past → SoFar end past v before after → Served end past v.left before after
-served end past v before after fresh so =
-    by (last_read None so.ran.steps) refl (cut so.ran.steps past (asking []) past (sym (begun_none past), refl, fresh_told past fresh) so.ran.are so.told)
+pub served : (end : End) (past : LinkPast) (v : Linking) (before after : Wires) → IsAllTold past → SoFar end past v before after → Served end past v.left before after
+served end past v before after told so =
+    by (last_read None so.ran.steps) refl (cut so.ran.steps past (asking []) past (sym (begun_none past), refl, told) so.ran.are so.told)
   where
     by : (close : Option (List ℕ)) → last_read None so.ran.steps ≡ close → Cut past (bytes_in so.ran.steps) (items_in so.ran.steps) (words_in so.ran.steps) close
         → Served end past v.left before after
     by (Some piece) is c =
         let closed = c.closes piece refl in
-        served_by end past v before after c.turns [] fresh so c.are c.bytes_are c.items_are
+        served_by end past v before after c.turns [] so c.are c.bytes_are c.items_are
         (append-nil (words_in so.ran.steps) ∙ c.words_are ∙ ap (λ ws. commands_in past c.turns ++ ws) closed.0 ∙ append-nil (commands_in past c.turns))
         (λ uncut.
         let last = so.last uncut in
@@ -380,7 +380,7 @@ served end past v before after fresh so =
         (refl, so.whole uncut, (closed.1.0, closed.1.1, closed.1.2, subst (EndsDry end) (same ∙ sym closed.1.3) last.1)))
     by None is c =
         let now = after_turns past c.turns in
-        served_by end past v before after (c.turns ++ dry ∷ []) c.rest fresh so
+        served_by end past v before after (c.turns ++ dry ∷ []) c.rest so
         (are-append past c.turns (dry ∷ []) c.are (omega arith, dry_told now c.last c.told, tt))
         (c.bytes_are ∙ sym (append-nil (bytes_read c.turns)) ∙ sym (flat_map-append (λ (turn : Turn). turn.piece) c.turns (dry ∷ [])))
         (c.items_are ∙ sym (append-nil (items_read c.turns)) ∙ sym (flat_map-append (λ (turn : Turn). turn.items) c.turns (dry ∷ [])))

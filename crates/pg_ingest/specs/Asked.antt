@@ -30,6 +30,10 @@ asking_of acts = record {
 abbrev pub asking_config : Asking → Asking
 asking_config a = if a.unanswered then a else record a { config = true; unanswered = true }
 
+-- all is asked for again, whether or not a configuration was accepted
+abbrev pub asking_again : Bool → Asking → Asking
+asking_again is_accepted a = record a { config = true; start = start_by is_accepted false }
+
 abbrev pub answered : Asking → Asking
 answered a = record a { unanswered = false }
 

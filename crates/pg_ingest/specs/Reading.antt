@@ -4,20 +4,20 @@ use Rattle.std.specs.Arc.{arc_value}
 use Rattle.pg_wire.specs.declared.refusal.Refusal.TheVariants.{NoMemory}
 use Rattle.pg_config.specs.Parts.{Source}
 use Rattle.pg_config.specs.Reading.{config_of}
-use Rattle.pg_ingest.specs.declared.told.Told.{Told}
-use Rattle.pg_ingest.specs.declared.told.Told.TheVariants.{Config, Data, Skipped, BadConfig, BadData, Other}
+use Rattle.pg_ingest.specs.declared.read_frame.ReadFrame.{ReadFrame}
+use Rattle.pg_ingest.specs.declared.read_frame.ReadFrame.TheVariants.{Config, Data, Skipped, BadConfig, BadData, Other}
 use Rattle.pg_ingest.specs.Items.{Item, announces, measures, skips, rejects_config, rejects_data, passes_over, config_item, data_item, data_by}
 
-abbrev pub item_told : Told → Item
-item_told (Config kept given) = announces (arc_value given)
-item_told (Data frame) = measures (arc_value frame)
-item_told (Skipped r) = skips r
-item_told (BadConfig r) = rejects_config r
-item_told (BadData r) = rejects_data r
-item_told Other = passes_over
+abbrev pub item_read : ReadFrame → Item
+item_read (Config kept given) = announces (arc_value given)
+item_read (Data frame) = measures (arc_value frame)
+item_read (Skipped r) = skips r
+item_read (BadConfig r) = rejects_config r
+item_read (BadData r) = rejects_data r
+item_read Other = passes_over
 
 -- The configuration that the link keeps is the one that it gives away.
-abbrev pub IsPaired : Told → Type 0
+abbrev pub IsPaired : ReadFrame → Type 0
 IsPaired (Config kept given) = arc_value kept ≡ arc_value given
 IsPaired (Data frame) = Unit {0}
 IsPaired (Skipped r) = Unit {0}

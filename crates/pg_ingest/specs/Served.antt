@@ -1,4 +1,4 @@
--- What a link's loop did over all its calls since the link was new or reset.
+-- What a link's loop did over all its calls since the link was new, was reset or asked its source again.
 use Rattle.std.specs.Prelude.{◌≡◌, ◌≤◌, ◌<◌, ℕ, false, if◌then◌else◌, List, [], ◌∷◌, ◌++◌, filter, map, reverse, length}
 use Rattle.std.specs.List.{flat_map}
 use Rattle.std.specs.Io.KnownBytes.{Appends, Consumes}
@@ -11,7 +11,7 @@ use Rattle.pg_gateway.specs.Posting.{Posted, Notes}
 use Rattle.pg_ingest.specs.declared.run.End.{End}
 use Rattle.pg_ingest.specs.declared.run.End.TheVariants.{Closed, Quiet, Stalled, Fault}
 use Rattle.pg_ingest.specs.Items.{Item, AreTold}
-use Rattle.pg_ingest.specs.Commands.{asks, tells, owes_config, owes_start}
+use Rattle.pg_ingest.specs.Commands.{asks, tells, told_in, owes_config, owes_start}
 use Rattle.pg_ingest.specs.Linking.{Linking}
 use Rattle.pg_ingest.specs.Shown.{LinkPast, IsAllTold}
 use Rattle.pg_ingest.specs.Runs.{after_steps, events_told, event_posted, Wires, RanFrom, Ran}
@@ -80,15 +80,15 @@ commands_in past (turn ∷ turns) = words_due past ++ commands_in (turning past 
 abbrev pub frames_of : ℕ → List Word → List ℕ
 frames_of source words = flat_map (λ word. written source 0 (word_number word)) words
 
--- For some cutting of the bytes that were read into pieces, what is told of these bytes was posted where the gate takes it, each event
--- once and in order; and what was written, with what is left to write, is the frames of the link's commands, but for some at the end that
+-- For some cutting of the bytes that were read into pieces, what is told of these bytes, behind those of the past, was posted where the
+-- gate takes it, each event once and in order; and what was written, with what is left to write, is the frames of the link's commands, but for some at the end that
 -- were not asked for. Where the last call was not cut short by its writer, there are none of those and nothing is left; and
 -- where its reader had ended or would have blocked, the last piece is empty.
 pub record Served (end : End) (past : LinkPast) (left : List ℕ) (before after : Wires) : Type 0 where
   pub turns : List Turn
   pub are : AreTurns past turns
   pub read : Consumes before.unread after.unread (bytes_read turns)
-  pub told : AreTold past.source (reverse (frames_in (bytes_read turns))) (reverse (items_read turns))
+  pub told : AreTold past.source (reverse (frames_in (past.stream ++ bytes_read turns))) (reverse (told_in past.acts ++ items_read turns))
   pub calls : List Posted
   pub posted : Notes before.posted after.posted calls
   pub events : map event_posted calls ≡ filter before.takes (flat_map events_told (items_read turns))

@@ -1,5 +1,5 @@
 -- What a link shows of its past.
-use Rattle.std.specs.Prelude.{◌≡◌, ℕ, List, [], ◌∷◌, ◌++◌, reverse, Option, option_map}
+use Rattle.std.specs.Prelude.{◌≡◌, ℕ, List, [], ◌∷◌, ◌++◌, map, reverse, Option, option_map}
 use Rattle.std.specs.Option.{option_to_list}
 use Rattle.pg_wire.specs.Stream as wire
 use Rattle.pg_wire.specs.Split.{frames_in}
@@ -7,7 +7,7 @@ use Rattle.pg_command.specs.declared.word.Word.{Word}
 use Rattle.pg_command.specs.Words.{word_number}
 use Rattle.pg_command.specs.Spelling.{written}
 use Rattle.pg_ingest.specs.Items.{Item, announced_last, AreTold}
-use Rattle.pg_ingest.specs.Commands.{Act, asks, told_in, owed_word}
+use Rattle.pg_ingest.specs.Commands.{Act, asks, tells, told_in, owed_word}
 use Rattle.pg_ingest.specs.Asked.{asking_of}
 use Rattle.pg_ingest.specs.Linking.{Linking, link_stats}
 
@@ -34,6 +34,10 @@ doing past act = record past { acts = past.acts ++ act ∷ [] }
 -- it was reset
 abbrev pub renewed : LinkPast → LinkPast
 renewed past = record { source = past.source; earlier = past.earlier ++ told_in past.acts; stream = []; acts = [] }
+
+-- its source is asked again: as if it had been asked for nothing yet
+abbrev pub asked_again : LinkPast → LinkPast
+asked_again past = record past { acts = map tells (told_in past.acts) }
 
 -- what it told since the last reset, the newest first
 abbrev pub told_before : LinkPast → List Item

@@ -1,7 +1,7 @@
 //! What a link asks its source for.
 
 ghost use Rattle.std.specs.Prelude.{◌≡◌, [], Option, Some, None};
-ghost use Rattle.pg_ingest.specs.Asked.{asking_of, asking_config, answered, accepted, measured, mismatched, next_word, asking_less};
+ghost use Rattle.pg_ingest.specs.Asked.{asking_of, asking_config, answered, accepted, measured, mismatched, next_word, asking_less, asking_again};
 
 use pg_command::Word;
 use pg_wire::Refusal;
@@ -48,6 +48,18 @@ impl Asking {
             self.config = true;
             self.unanswered = true;
         }
+    }
+
+    /// All that was asked for is owed anew: command 5, and behind it 2 where a configuration was accepted.
+    pub(crate) fn ask_again(&mut self, is_accepted: bool)
+        ensures { self.new ≡ asking_again is_accepted self.old }
+    {
+        self.config = true;
+        self.start = if is_accepted {
+            Start::Due
+        } else {
+            Start::NotDue
+        };
     }
 
     /// A CFG-2 frame that was not accepted, or a frame that was skipped: it may have been the answer.

@@ -6,9 +6,9 @@ mod asking;
 mod laws;
 mod link;
 mod pending;
+mod read_frame;
 mod run;
 mod spares;
-mod told;
 mod transfer;
 
 pub use laws::{

@@ -1,19 +1,20 @@
 //! The link to a source.
 
-ghost use Rattle.std.specs.Prelude.{◌≡◌, ℕ, ◌+◌, ◌≤◌, ◌<◌, ◌++◌, List, [], true, false, length, drop, IfOk, IfErr, IfNone, OnSome, OnErr};
+ghost use Rattle.std.specs.Prelude.{◌≡◌, ℕ, ◌+◌, ◌≤◌, ◌<◌, ◌++◌, List, [], true, false, length, drop, is_some, IfOk, IfErr, IfNone, OnSome, OnErr};
 ghost use Rattle.pg_wire.specs.Reads.{Gave};
-ghost use Rattle.pg_ingest.specs.Reading.{item_told, IsPaired};
+ghost use Rattle.pg_ingest.specs.Reading.{item_read, IsPaired};
 ghost use Rattle.pg_ingest.specs.Commands.{told_in};
 ghost use Rattle.pg_ingest.specs.Linking.{unfed, heard, after_item, link_stats, ignoring, words_owed};
-ghost use Rattle.pg_ingest.specs.Shown.{LinkPast, beginning, feeding, renewed, ShowsLink, command_due, commanding};
+ghost use Rattle.pg_ingest.specs.Asked.{asking_again};
+ghost use Rattle.pg_ingest.specs.Shown.{LinkPast, beginning, feeding, renewed, asked_again, ShowsLink, command_due, commanding};
 ghost use Rattle.pg_ingest.specs.Begun.{Begins};
 ghost use Rattle.pg_ingest.specs.Links.{IsEventOf, GivesEvent, Holds, Counts};
 ghost use Rattle.pg_audit.specs.Counting.{no_pmu_stats};
 
 use crate::asking::Asking;
 use crate::pending::Pending;
+use crate::read_frame::{ReadFrame, read_source_frame};
 use crate::spares::Spares;
-use crate::told::{Told, tell};
 use pg_audit::PmuStats;
 use pg_command::write_command;
 use pg_config::SourceConfig;
@@ -142,10 +143,10 @@ impl Link {
         match self.deframer.next() {
             Taken::Frame(frame) => {
                 let spare = self.spares.take();
-                let told = tell(self.alloc, self.source, &self.known, frame, spare);
-                self.take(told)
+                let read = read_source_frame(self.alloc, self.source, &self.known, frame, spare);
+                self.take(read)
             }
-            Taken::Skipped(refusal) => self.take(Told::Skipped(refusal)),
+            Taken::Skipped(refusal) => self.take(ReadFrame::Skipped(refusal)),
             Taken::More => LinkEvent::More,
             Taken::Broken(refusal) => LinkEvent::Ended(refusal),
         }
@@ -161,32 +162,32 @@ impl Link {
 
     /// Keeps and counts what was read of a frame, and gives its event.
     #[inline(always)]
-    fn take(&mut self, told: Told) -> LinkEvent
-        requires { IsPaired told }
-        ensures event { IsEventOf result (item_told told) }
-        ensures state { self.new ≡ after_item self.old (item_told told) }
+    fn take(&mut self, read: ReadFrame) -> LinkEvent
+        requires { IsPaired read }
+        ensures event { IsEventOf result (item_read read) }
+        ensures state { self.new ≡ after_item self.old (item_read read) }
     {
-        match told {
-            Told::Config(kept, given) => {
+        match read {
+            ReadFrame::Config(kept, given) => {
                 self.known = Some(kept);
                 self.asking.accept();
                 self.stats.count_taken();
                 LinkEvent::Announce(given)
             }
-            Told::Data(frame) => {
+            ReadFrame::Data(frame) => {
                 self.asking.measure(frame.is_changed());
                 self.stats.count_taken();
                 LinkEvent::Measure(frame)
             }
-            Told::Skipped(refusal) | Told::BadConfig(refusal) => {
+            ReadFrame::Skipped(refusal) | ReadFrame::BadConfig(refusal) => {
                 self.asking.answer();
                 self.ignore(refusal)
             }
-            Told::BadData(refusal) => {
+            ReadFrame::BadData(refusal) => {
                 self.asking.reject(refusal);
                 self.ignore(refusal)
             }
-            Told::Other => self.ignore(Refusal::WrongType),
+            ReadFrame::Other => self.ignore(Refusal::WrongType),
         }
     }
 
@@ -240,6 +241,16 @@ impl Link {
             }
             None => false,
         }
+    }
+
+    /// Asks the source again over the same connection: it is owed what it was asked for, command 5, and behind it 2 where it
+    /// announced a configuration. The configuration, the bytes of a frame that has begun, what is left to write of a command and
+    /// the counters stay, so that frames that were only delayed are read as they would have been.
+    pub fn ask_again(&mut self)
+        ensures state { self.new ≡ record self.old { asking = asking_again (is_some self.old.known) self.old.asking } }
+        ensures shows { (past : LinkPast) → ShowsLink self.old past → ShowsLink self.new (asked_again past) }
+    {
+        self.asking.ask_again(self.known.is_some());
     }
 
     /// Starts anew, as on a new connection: without a configuration, with command 5 owed, and without the bytes of a frame

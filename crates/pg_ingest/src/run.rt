@@ -63,7 +63,7 @@ fn write_owed<W: Write>(link: &mut Link, writer: &mut W) -> Option<End>
     }
 }
 
-/// Posts the events of a source that are whole, and tells whether its bytes broke behind them.
+/// Posts the events of a source that are whole, and returns whether its bytes broke behind them.
 fn post_events<G: Gate>(link: &mut Link, gate: &mut G) -> Option<Refusal>
     ensures ran { (r w : Option (List ℕ))
         → Ran (TellsAll result) link.old link.new (wires r w (G.posts gate.old) (G.takes gate.old)) (wires r w (G.posts gate.new) (G.takes gate.old)) }

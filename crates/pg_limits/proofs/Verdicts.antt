@@ -66,8 +66,8 @@ noted_tells f s rule begins idle k other r t i u w =
     (λ e. read_tells f rule k r t i u w (other (or_parts begins (not r) goes_on).0) changed)
     (λ e. off_tells f s rule idle k r t i u w (other (or_parts begins (not r) goes_on).0) changed (or_parts f.is_on _ e).0)))
 
-pub verdicts_are_exact : (f : FoundStream) (s : ServedOnce) (rule : OnChange) (k : KnownLayout) → WindowAfter f rule k (judged f s rule k).1 (judged f s rule k).0
-verdicts_are_exact f s rule k =
+pub verdicts_keep_the_window : (f : FoundStream) (s : ServedOnce) (rule : OnChange) (k : KnownLayout) → WindowAfter f rule k (judged f s rule k).1 (judged f s rule k).0
+verdicts_keep_the_window f s rule k =
     let begins = is_keep rule || reads_anew f s rule k in
     noted_any (λ n. WindowAfter f rule k (judged_noted f s rule begins (was_idle s k) n).1 (judged_noted f s rule begins (was_idle s k) n).0) s k
     (noted_tells f s rule begins (was_idle s k) k (λ e. not_keep rule (or_parts (is_keep rule) (reads_anew f s rule k) e).0))

@@ -116,8 +116,8 @@ WindowAfter f rule k SendConfig after = HasGrown f k after × (rule ≡ Safe) ×
 WindowAfter f rule k AskAgain after = HasStayed k after × (f.is_on ≡ false)
 WindowAfter f rule k Disconnect after = HasStayed k after × (is_at f k ≡ false) × ((rule ≡ Safe → is_unlike f k ≡ true → ⊥) × (rule ≢ Keep))
 
-abbrev pub VerdictsAreExact : Type 0
-VerdictsAreExact = (f : FoundStream) (s : ServedOnce) (rule : OnChange) (k : KnownLayout) → WindowAfter f rule k (judged f s rule k).1 (judged f s rule k).0
+abbrev pub VerdictsKeepTheWindow : Type 0
+VerdictsKeepTheWindow = (f : FoundStream) (s : ServedOnce) (rule : OnChange) (k : KnownLayout) → WindowAfter f rule k (judged f s rule k).1 (judged f s rule k).0
 
 -- ---- the other rules
 

@@ -5,8 +5,8 @@ use Rattle.std.specs.Duration.{max_nanos}
 use Rattle.pg_limits.specs.Calling.{longer}
 use Rattle.pg_limits.specs.declared.plan.Phase.{Phase}
 use Rattle.pg_limits.specs.declared.plan.Phase.TheVariants.{Resting, Calling, Up}
-use Rattle.pg_limits.specs.declared.plan.Due.{Due}
-use Rattle.pg_limits.specs.declared.plan.Due.TheVariants.{Nothing, Call, GiveUp, Silent, Ask}
+use Rattle.pg_limits.specs.declared.plan.Action.{Action}
+use Rattle.pg_limits.specs.declared.plan.Action.TheVariants.{Nothing, Call, GiveUp, Silent, Ask}
 
 -- what is waited for: since when, and how long at most
 pub record Awaited : Type 0 where
@@ -154,12 +154,12 @@ ask_in Resting now p = None
 ask_in Calling now p = None
 ask_in Up now p = Some (ask_left now p)
 
-abbrev pub step_in : Phase → Due
+abbrev pub step_in : Phase → Action
 step_in Resting = Call
 step_in Calling = GiveUp
 step_in Up = Silent
 
-abbrev pub due_by : ℕ → Plan → Due
+abbrev pub due_by : ℕ → Plan → Action
 due_by now p =
     if option_map_or (is_over now) p.wait false then step_in p.phase
     else if option_map_or (nat_eq 0) (ask_in p.phase now p) false then Ask else Nothing

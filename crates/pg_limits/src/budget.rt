@@ -7,7 +7,7 @@ ghost use Rattle.std.specs.Io.KnownBytes.{ReadConsumes};
 use std::io;
 use std::io::{ErrorKind, Read};
 
-/// A reader that answers `WouldBlock` once it has given so many reads, so that one peer who sends without end costs the others at most
+/// A reader that answers `WouldBlock` once it has given so many reads, so that one peer that sends without end costs the others at most
 /// one turn. It gives just the bytes of the reader inside, none of which is lost.
 #[derive(Drop)]
 pub struct Budget<R> {

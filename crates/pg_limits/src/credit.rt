@@ -6,7 +6,7 @@ use std::marker::Model;
 
 /// How many events may make frames before those are known to be handed out that were made before: `most`. They are counted in
 /// two parts, those before a mark, of which it is waited that they are handed out, and those since. Once all are out it is waited until
-/// half of them are handed out, so that who makes frames and who hands them out change over seldom.
+/// half of them are handed out, so that a worker that makes frames and one that hands them out change over seldom.
 #[derive(Clone, Copy, Debug)]
 pub struct Credit {
     most: u32,
@@ -67,7 +67,7 @@ impl Credit {
     /// So many events made frames.
     pub fn spend(&mut self, events: u32)
         ensures state { self.new ≡ spent events self.old }
-        // Who makes no more frames than may be made never has more out than may be.
+        // A worker that makes no more frames than may be made never has more out than may be.
         ensures within { events ≤ left_of self.old → self.old.before + self.old.since ≤ self.old.most → self.new.before + self.new.since ≤ self.new.most }
     {
         self.since = self.since.saturating_add(events);

@@ -10,7 +10,7 @@ pub struct ClockGuard {
 }
 
 impl ClockGuard {
-    /// Whether the instant SOC + numerator / resolution is near enough to this clock, which tells milliseconds since 1970-01-01 00:00
+    /// Whether the instant SOC + numerator / resolution is near enough to this clock, which is in milliseconds since 1970-01-01 00:00
     /// UTC.
     pub fn is_near(&self, now: u64, soc: u32, frac: u32, base: u32) -> bool
         ensures { result ≡ is_near self.now.limit now soc frac base }

@@ -66,7 +66,7 @@ impl<W: Write> Write for CountingIo<W> {
 }
 
 /// A reader that answers `WouldBlock` behind a read that filled less than it could, without a call of the system: that was all
-/// that had come, and what comes later is told by an event of its own. Where the peer sends no more it is read on, to its end. The
+/// that had come, and what comes later is reported by an event of its own. Where the peer sends no more it is read on, to its end. The
 /// bytes are those of the one inside.
 #[derive(Drop)]
 pub struct StopAfterShortRead<R> {

@@ -1,9 +1,9 @@
 //! Laws of what is known of the layouts of a connection, as contracts of functions that do nothing.
-ghost use Rattle.pg_limits.specs.Misreading.{FloorRises, NeverMisread, OneLayout, VerdictsAreExact};
+ghost use Rattle.pg_limits.specs.Misreading.{FloorRises, NeverMisread, OneLayout, VerdictsKeepTheWindow};
 ghost use Rattle.pg_limits.specs.Reading.{ReadRight, ReadingGoesOn};
 
 /// Whatever is found, commanded and drained in a connection, by whatever rule: a reader that goes by a layout of a stream's window takes no data
-/// frame of another one of the window for one of it, as far as its length tells. That is so where the lengths that are found are those of the
+/// frame of another one of the window for one of it, as far as its length says. That is so where the lengths that are found are those of the
 /// layouts.
 pub fn never_misread()
     ensures { NeverMisread }
@@ -11,8 +11,8 @@ pub fn never_misread()
 
 /// A CFG-2 is sent where the window grows, and nowhere else, and is owed from then on. A connection goes on only where the window ends at the layout
 /// that was found, or while the stream is off; it is closed only where the window does not end there, and may not grow up to it.
-pub fn verdicts_are_exact()
-    ensures { VerdictsAreExact }
+pub fn verdicts_keep_the_window()
+    ensures { VerdictsKeepTheWindow }
 {}
 
 /// By the rules `HangUp` and `Keep` no window ever has two layouts.

@@ -37,12 +37,12 @@ pub use io::{AlwaysBlocked, CountingIo, StopAfterShortRead};
 pub use known_layout::{FoundStream, KnownLayout, LAYOUTS, ServedOnce, Verdict};
 pub use known_layouts::{Judged, KnownLayouts};
 pub use laws::{
-    floor_rises, never_misread, one_layout, read_right, reading_goes_on, verdicts_are_exact,
+    floor_rises, never_misread, one_layout, read_right, reading_goes_on, verdicts_keep_the_window,
 };
 pub use layout_changes::LayoutChanges;
 pub use layouts::{OnChange, are_unlike};
 pub use pause::Pause;
-pub use plan::{CallPlan, Due, Phase};
+pub use plan::{Action, CallPlan, Phase};
 pub use portion::Portion;
 pub use room::least_room;
 pub use switches::{STREAMS, Switches};

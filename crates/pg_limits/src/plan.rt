@@ -38,7 +38,7 @@ pub enum Phase {
 
 /// What is to be done with the line to a source.
 #[derive(Clone, Copy, Debug, PartialEq, Eq)]
-pub enum Due {
+pub enum Action {
     /// Nothing by now.
     Nothing,
     /// It is to be called.
@@ -64,7 +64,7 @@ struct Span {
 /// - A connection without a measurement for 3 seconds, and without a byte in the last one, is asked again for configuration and data; again
 ///   after 6, 12 seconds and so on. Where three periods of the source's DATA_RATE are longer than 3 seconds, they stand in their place.
 /// - After `silence` without a measurement, or three periods where these are longer, the source is called anew. An announcement counts as a
-///   measurement only where it tells no rate.
+///   measurement only where it has no rate.
 /// - Behind a call that failed and a connection that ended comes a pause of 1 second, then 2, 4 and so on up to 30. A connection whose
 ///   measurements lasted 10 seconds sets it back to none.
 /// - Two calls are a second apart at least.
@@ -139,18 +139,18 @@ impl CallPlan {
     }
 
     /// What is to be done by now.
-    pub fn due(&self, now: Instant) -> Due
+    pub fn due(&self, now: Instant) -> Action
         ensures { result ≡ due_by (instant_nanos now) self.now }
     {
         match self.wait {
             Some(wait) if wait.is_over(now) => match self.phase {
-                Phase::Resting => Due::Call,
-                Phase::Calling => Due::GiveUp,
-                Phase::Up => Due::Silent,
+                Phase::Resting => Action::Call,
+                Phase::Calling => Action::GiveUp,
+                Phase::Up => Action::Silent,
             },
             _ => match self.ask_in(now) {
-                Some(left) if left.is_zero() => Due::Ask,
-                _ => Due::Nothing,
+                Some(left) if left.is_zero() => Action::Ask,
+                _ => Action::Nothing,
             },
         }
     }

@@ -8,7 +8,7 @@ ghost use Rattle.pg_limits.specs.Tcp.{address_in, both_in, bytes_in, count_in, f
 use hex::FromHex;
 use std::net::Ipv4Addr;
 
-/// A connection, as a line of /proc/net/tcp of Linux tells it.
+/// A connection, as a line of /proc/net/tcp of Linux has it.
 #[derive(Clone, Copy, Debug, PartialEq, Eq)]
 pub struct TcpRow {
     /// The address and the port of this machine's end.

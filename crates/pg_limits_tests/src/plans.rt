@@ -1,6 +1,6 @@
 //! When a source is called, asked again and called anew: by a clock that the test moves.
 use crate::times::after;
-use pg_limits::{CallPlan, Due};
+use pg_limits::{Action, CallPlan};
 use std::alloc::{AllocError, Global};
 use std::process::Abort;
 use std::test::*;
@@ -17,7 +17,7 @@ use std::time::{Duration, Instant};
 /// - A pause stands between calls, of 1, 2, 4, 8, 16, 30 and 30 seconds: however a connection ended, without a byte, behind an announcement,
 ///   or with measurements for less than 10 seconds. Two calls are a second apart, also where the source is to be called anew at once.
 /// - A connection is given up after `silence` without a measurement, and after three periods of its DATA_RATE where these are longer. An
-///   announcement is no sign of life where it tells a rate. A new connection has announced no rate.
+///   announcement is no sign of life where it has a rate. A new connection has announced no rate.
 /// - A connection without a measurement is asked again after 3, 6 and 12 seconds, and after three periods where these are longer; not before a
 ///   second without a byte. A measurement begins it anew, an announcement does not.
 /// - Without `silence` it is asked again for ever: 3 seconds, 18 times doubled, are 786,432.
@@ -124,7 +124,7 @@ fn told(
             return format!(in alloc; "{due:?}");
         }
         "silent" => {
-            let is_silent = plan.due(now) == Due::Silent;
+            let is_silent = plan.due(now) == Action::Silent;
             return format!(in alloc; "{is_silent}");
         }
         "phase" => {

@@ -21,9 +21,9 @@ pub enum Steer {
     Undial(PmuId),
     /// The port is opened for the subscriber, on this address of the machine; 0.0.0.0 for all of them.
     Listen(SubId, u16, Ipv4Addr),
-    /// The subscriber's port is closed, and who is connected is hung up.
+    /// The subscriber's port is closed, and the subscriber that is connected is hung up.
     Unlisten(SubId),
-    /// Who is connected as the subscriber is hung up.
+    /// The connection of the subscriber is hung up.
     Disconnect(SubId),
 }
 

@@ -27,7 +27,7 @@ pub enum Asked {
 }
 
 impl Asked {
-    /// What this edit asks for, and of whom; `None` where it asks for counters alone.
+    /// What this edit asks for, and of which one; `None` where it asks for counters alone.
     pub fn of(edit: &Edit) -> Option<(Subject, Asked)> {
         let asked = match edit {
             Edit::AddPmu(key) => (Subject::Source(key.source), Asked::AddPmu(key.pmu)),

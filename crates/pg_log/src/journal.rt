@@ -48,7 +48,7 @@ pub enum LogEvent {
     HungUp = 14,
     /// A connection could not be accepted.
     NotAccepted = 15,
-    /// A socket could not be waited for, or an option of it not set.
+    /// A connection's socket could not be waited for, so it was closed.
     SocketFault = 16,
     /// The system failed to wait for sockets.
     PollFault = 17,
@@ -122,13 +122,17 @@ pub enum LogEvent {
     PageBusy = 51,
     /// The setup that was read again has warnings.
     Warned = 52,
+    /// The option TCP_NODELAY of a connection could not be set.
+    NoDelayFault = 53,
+    /// A port is open, and its socket can't be waited for.
+    NotServed = 54,
 }
 
 /// The PMUs of a configuration at most.
 pub const MOST_PMUS: usize = 16;
 
 /// How many kinds of notices there are.
-const KINDS: usize = 53;
+const KINDS: usize = 55;
 
 impl LogEvent {
     /// The kinds that are counted without an entry; the log has their counts.
@@ -148,6 +152,8 @@ impl LogEvent {
             | LogEvent::ClockFault
             | LogEvent::MailFault
             | LogEvent::SocketFault
+            | LogEvent::NoDelayFault
+            | LogEvent::NotServed
             | LogEvent::WrongClock => Level::Error,
             LogEvent::NotMade
             | LogEvent::GivenUp
@@ -229,6 +235,10 @@ pub enum Detail {
     System(ErrorKind),
     /// The system's number of an error that is of no kind.
     Errno(i32),
+    /// What the system said of a call to this address.
+    OfCall(SocketAddr, ErrorKind),
+    /// The system's number of an error of a call to this address.
+    ErrnoOfCall(SocketAddr, i32),
     /// The configuration that was announced: its DATA_RATE, and the IDCODEs of its PMUs in their order, 0 behind the last.
     Config(i16, [u16; MOST_PMUS]),
     /// Of this stream.
@@ -289,6 +299,15 @@ impl Detail {
         match (error.kind(), error.raw_os_error()) {
             (ErrorKind::Uncategorized, Some(number)) => Detail::Errno(number),
             (kind, _) => Detail::System(kind),
+        }
+    }
+
+    /// What the system said by this error of a call to this address.
+    pub fn of_call(address: Option<SocketAddr>, error: &io::Error) -> Detail {
+        match (address, Detail::of_error(error)) {
+            (Some(address), Detail::System(kind)) => Detail::OfCall(address, kind),
+            (Some(address), Detail::Errno(number)) => Detail::ErrnoOfCall(address, number),
+            (_, detail) => detail,
         }
     }
 

@@ -4,6 +4,7 @@
 
 mod asked;
 mod change;
+mod hold;
 mod journal;
 mod messages;
 mod throttle;

@@ -84,8 +84,9 @@ fn said(event: LogEvent) -> &'static str {
         // What is known beside says it, or the count.
         LogEvent::NotDone | LogEvent::Edited | LogEvent::Gap | LogEvent::Untold => "",
         LogEvent::NotAccepted => "a connection can't be accepted",
-        LogEvent::SocketFault =>
-            "setting up a socket failed; a connection or a port may be closed (out of memory?)",
+        LogEvent::SocketFault => "a connection's socket can't be waited for",
+        LogEvent::NoDelayFault => "TCP_NODELAY can't be set, what is sent may be late",
+        LogEvent::NotServed => "its port is open, but its socket can't be waited for",
         LogEvent::PollFault => "waiting for sockets failed; retrying",
         LogEvent::ClockFault => "this machine's clock can't be read; retrying",
         LogEvent::MailFault =>
@@ -124,6 +125,7 @@ fn said(event: LogEvent) -> &'static str {
 fn after(event: LogEvent) -> &'static str {
     match event {
         LogEvent::NotMade => "; retrying",
+        LogEvent::SocketFault => "; the connection is closed",
         LogEvent::SourceEnded => "; connecting again",
         LogEvent::NotAccepted => "; retrying in 1 s",
         LogEvent::NotBound => "; retrying every 30 s",
@@ -153,11 +155,16 @@ fn write_detail<W: fmt::Write>(
         Detail::Because(refusal) => write_refusal(*refusal, f),
         Detail::ClosedByPeer => f.write_str(": closed by the other side"),
         Detail::Fault(number) => write_fault(*number, f),
-        Detail::System(kind) => {
-            let words = system_words(*kind);
-            write!(f, ": {words}")
-        }
+        Detail::System(kind) => write_system(*kind, f),
         Detail::Errno(number) => write_errno(*number, f),
+        Detail::OfCall(address, kind) => {
+            write!(f, " to {address}")?;
+            write_system(*kind, f)
+        }
+        Detail::ErrnoOfCall(address, number) => {
+            write!(f, " to {address}")?;
+            write_errno(*number, f)
+        }
         Detail::Config(rate, pmus) => write_config(*rate, pmus, f),
         Detail::Stream(stream) => write!(f, " {stream}"),
         Detail::Off(millis) => write_off(*millis, f),
@@ -218,6 +225,12 @@ fn write_fault<W: fmt::Write>(number: u8, f: &mut fmt::Formatter<W>) -> fmt::Res
         _ => return write!(f, ": reason {number}"),
     };
     write!(f, ": {text}")
+}
+
+/// What the system said.
+fn write_system<W: fmt::Write>(kind: ErrorKind, f: &mut fmt::Formatter<W>) -> fmt::Result {
+    let words = system_words(kind);
+    write!(f, ": {words}")
 }
 
 /// What the system said, in words.

@@ -1,15 +1,16 @@
 //! How often the log repeats what is alike.
 
+use crate::hold::HoldTime;
 use crate::journal::{Detail, Entry, LogEvent, Subject};
 use std::alloc::Global;
 
-/// How long an entry that is like one that was logged is held back, in milliseconds.
-const WINDOW_MS: u64 = 1_000;
+/// How long gaps are held back, in milliseconds.
+const GAP_MS: u64 = 1_000;
 
 /// How long where frames of a source were ignored, or too far from the clock.
-const LONG_WINDOW_MS: u64 = 60_000;
+const LONG_MS: u64 = 60_000;
 
-/// The most kinds that are told apart: more than a reload that changes everything has edits.
+/// The most kinds that are kept apart: more than a reload that changes everything has edits.
 const KINDS: usize = 4_096;
 
 /// A kind of which something was logged.
@@ -21,18 +22,28 @@ struct Recent {
     told: u64,
     // How often it happened since, or how many frames.
     held: u64,
+    // How long it is held back, unless its kind says.
+    hold: HoldTime,
 }
 
 impl Recent {
     /// Whether it may be logged again.
     fn is_over(&self, now: u64) -> bool {
-        now.saturating_sub(self.told) >= window(self.last.event)
+        now.saturating_sub(self.told) >= held_for(self.last.event, self.hold)
+    }
+
+    /// It is logged now, and what was held back is counted with it.
+    fn tell(&mut self, now: u64) {
+        self.hold = self.hold.next(self.held > 0);
+        self.held = 0;
+        self.told = now;
     }
 }
 
 /// What is logged at once, and what is held back. Of what is alike, of one kind, source or subscriber and reason, the first
-/// is logged at once and then at most a line a second, which counts those that were held back; of ignored frames a line a minute.
-/// So a flood of one fills no log, and hides no other. Times are milliseconds of any clock that rises.
+/// is logged at once. The others are held back and counted in the next line, as long as `HoldTime` says: while they repeat it comes after 1,
+/// 2, 4 seconds and so on up to a minute. Gaps have a line a second, ignored frames a line a minute. So a flood of one fills no log, and
+/// hides no other. Times are milliseconds of any clock that rises.
 #[derive(Drop)]
 pub struct LogThrottle {
     recent: Vec<Recent>,
@@ -54,7 +65,7 @@ impl LogThrottle {
             if recent.last.is_like(&entry) {
                 recent.last = entry;
                 if recent.held == 0 && recent.is_over(now) {
-                    recent.told = now;
+                    recent.tell(now);
                     return Some(entry);
                 }
                 recent.held = recent.held.saturating_add(entry.times);
@@ -76,8 +87,7 @@ impl LogThrottle {
                     times: recent.held,
                     ..recent.last
                 };
-                recent.held = 0;
-                recent.told = now;
+                recent.tell(now);
                 return Some(entry);
             }
         }
@@ -106,6 +116,7 @@ impl LogThrottle {
             last: entry,
             told: now,
             held: 0,
+            hold: HoldTime::first(),
         };
         if self.recent.len() < KINDS {
             return self.recent.push(new).is_ok();
@@ -121,9 +132,10 @@ impl LogThrottle {
 }
 
 /// How long what is like this is held back.
-fn window(event: LogEvent) -> u64 {
+fn held_for(event: LogEvent, hold: HoldTime) -> u64 {
     match event {
-        LogEvent::Ignored | LogEvent::FarMeasurement | LogEvent::WrongClock => LONG_WINDOW_MS,
-        _ => WINDOW_MS,
+        LogEvent::Ignored | LogEvent::FarMeasurement | LogEvent::WrongClock => LONG_MS,
+        LogEvent::Gap => GAP_MS,
+        _ => hold.millis(),
     }
 }

@@ -13,7 +13,7 @@ use Rattle.pg_gateway.specs.declared.edit.Edit.TheVariants.{AddPmu, AddSub, Gran
 use Rattle.pg_limits.specs.Hosts.{Net}
 use Rattle.pg_limits.specs.declared.layouts.OnChange.{OnChange}
 use Rattle.pg_limits.specs.declared.layouts.OnChange.TheVariants as on_change
-use Rattle.pg_operator.specs.declared.door.PortRules.{PortRules}
+use Rattle.pg_operator.specs.declared.port_rules.PortRules.{PortRules}
 use Rattle.pg_operator.specs.declared.general.GeneralKeys.{GeneralKeys}
 use Rattle.pg_operator.specs.declared.general.LogLevel.{LogLevel}
 use Rattle.pg_operator.specs.declared.general.LogLevel.TheVariants as level
@@ -236,7 +236,7 @@ entry_by ms =
     (required (whole_in 1 65535) (codes "id") ms)
 
 -- who may connect to its port, when it is hung up, and what is done where the blocks of a stream change
-pub record Door : Type 0 where
+pub record PortRulesValue : Type 0 where
   pub sub : ℕ
   pub address : ℕ
   pub allow : Option (List Net)
@@ -246,8 +246,8 @@ pub record Door : Type 0 where
   pub change : OnChange
 
 -- the same, of rules that were read
-abbrev pub door_of : PortRules → Door
-door_of r = record { sub = r.sub; address = ipv4_bits r.address; allow = option_map (λ v. v.items) r.allow.networks; takeover = r.takeover; stall = r.stall; idle = r.idle; change = r.change }
+abbrev pub port_rules_of : PortRules → PortRulesValue
+port_rules_of r = record { sub = r.sub; address = ipv4_bits r.address; allow = option_map (λ v. v.items) r.allow.networks; takeover = r.takeover; stall = r.stall; idle = r.idle; change = r.change }
 
 -- what is done where the blocks of a stream change, as it is written
 abbrev pub changes : List (Text × OnChange)
@@ -261,8 +261,8 @@ change_in (string s) = change_of s
 change_in _ = None
 
 -- 0.0.0.0, every host, no takeover, 30 seconds, never, and safe, where it is left out
-abbrev pub door_by : ℕ → Members → Option Door
-door_by id ms =
+abbrev pub port_rules_by : ℕ → Members → Option PortRulesValue
+port_rules_by id ms =
     option_and_then (λ address. option_and_then (λ takeover. option_and_then (λ stall. option_and_then (λ idle. option_and_then (λ change. option_map
     (λ allow. record { sub = id; address = address; allow = allow; takeover = takeover; stall = stall; idle = idle; change = change })
     (absent_or (list_of network_text_in) (codes "allow") ms))
@@ -275,12 +275,12 @@ door_by id ms =
 pub record Subscriber : Type 0 where
   pub edits : List Edit
   pub port : Option (ℕ × ℕ)
-  pub door : Door
+  pub rules : PortRulesValue
 
 abbrev pub subscriber_by : Members → Option Subscriber
 subscriber_by ms =
-    option_and_then (λ e. option_and_then (λ door. option_map (λ edits. record { edits = edits; port = option_map (λ p. (e.id, p)) e.port; door = door })
-    (edits_by e.id e.size e.bytes ms)) (door_by e.id ms)) (entry_by ms)
+    option_and_then (λ e. option_and_then (λ rules. option_map (λ edits. record { edits = edits; port = option_map (λ p. (e.id, p)) e.port; rules = rules })
+    (edits_by e.id e.size e.bytes ms)) (port_rules_by e.id ms)) (entry_by ms)
 
 abbrev pub subscriber_names : List Text
 subscriber_names =
@@ -364,29 +364,29 @@ abbrev pub edits_of : List Subscriber → List Edit
 edits_of [] = []
 edits_of (s ∷ ss) = s.edits ++ edits_of ss
 
--- the ports, and the doors of just those that have one, in the same order
+-- the ports, and the rules of just those that have one, in the same order
 abbrev pub ports_of : List Subscriber → List (ℕ × ℕ)
 ports_of [] = []
 ports_of (s ∷ ss) = option_to_list s.port ++ ports_of ss
 
-abbrev pub doors_of : List Subscriber → List Door
-doors_of [] = []
-doors_of (s ∷ ss) = option_to_list (option_map (λ p. s.door) s.port) ++ doors_of ss
+abbrev pub all_port_rules : List Subscriber → List PortRulesValue
+all_port_rules [] = []
+all_port_rules (s ∷ ss) = option_to_list (option_map (λ p. s.rules) s.port) ++ all_port_rules ss
 
 pub record Plans : Type 0 where
   pub edits : List Edit
   pub ports : List (ℕ × ℕ)
-  pub doors : List Door
+  pub port_rules : List PortRulesValue
 
 abbrev pub planned : List Subscriber → Plans
-planned ss = record { edits = edits_of ss; ports = ports_of ss; doors = doors_of ss }
+planned ss = record { edits = edits_of ss; ports = ports_of ss; port_rules = all_port_rules ss }
 
 pub record Settings : Type 0 where
   pub edits : List Edit
   pub links : Links
   pub sources : List SourceRules
   pub ports : List (ℕ × ℕ)
-  pub doors : List Door
+  pub port_rules : List PortRulesValue
   pub general : General
 
 -- the same, of a setup that was read
@@ -396,7 +396,7 @@ settings s = record {
   links = map (λ l. (l.0, string_bytes l.1)) s.links.items;
   sources = s.sources.items;
   ports = s.ports.items;
-  doors = map door_of s.doors.items;
+  port_rules = map port_rules_of s.port_rules.items;
   general = record {
     tick_ms = s.tick_ms;
     ingest = s.ingest;
@@ -414,7 +414,7 @@ settings_by pmus links sources subscribers general = record {
   links = links;
   sources = sources;
   ports = ports_of subscribers;
-  doors = doors_of subscribers;
+  port_rules = all_port_rules subscribers;
   general = general;
 }
 

@@ -11,7 +11,7 @@ use std::alloc::Global;
 use std::net::SocketAddrV4;
 use toml::{Table, Value};
 
-/// Which events the log tells: those of its level and of those before it.
+/// Which events the log has: those of its level and of those before it.
 #[derive(Clone, Copy, Debug, PartialEq, Eq)]
 pub enum LogLevel {
     /// Faults of the service.

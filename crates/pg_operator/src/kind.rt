@@ -2,7 +2,7 @@
 
 ghost use Rattle.std.specs.Prelude.{◌≡◌, IfErr};
 
-use crate::{address, door, general, table};
+use crate::{address, general, port_rules, table};
 use pg_wire::Refusal;
 use std::alloc::Global;
 use std::fmt;
@@ -128,7 +128,7 @@ pub(crate) const SUBSCRIBER: [Rule; 12] = [
 ];
 
 /// The keys of a stream's table, with the ranges of a definition: a setup is read with wider ones, and the gateway refuses what is
-/// beyond these, but who has to mend a file is told what would be right.
+/// beyond these, but a reader that has to mend a file sees what would be right.
 pub(crate) const STREAM: [Rule; 7] = [
     required!("id", Kind::Whole(1, 65534)),
     required!("rate", Kind::Whole(1, 120)),
@@ -233,7 +233,7 @@ impl Kind {
             Kind::Bound => address::bound(value).is_some(),
             Kind::Served => address::served(value).is_some(),
             Kind::Level => general::level(value).is_some(),
-            Kind::Change => door::change(value).is_some(),
+            Kind::Change => port_rules::change(value).is_some(),
             Kind::Path => general::path(value).is_some(),
             Kind::Name => general::name(value).is_some(),
             Kind::Text => matches!(value, Value::String(_)),

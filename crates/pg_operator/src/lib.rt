@@ -4,24 +4,24 @@
 #![tactic(auto)]
 
 mod address;
-mod door;
 mod faults;
 mod general;
 mod kind;
 mod lines;
 mod place;
 mod pmu;
+mod port_rules;
 mod setup;
 mod source;
 mod stream;
 mod table;
 
-pub use door::PortRules;
 pub use faults::{Fault, Wrong, setup_faults};
 pub use general::{LogLevel, is_gateway_name};
 pub use kind::{Found, Heading, Kind, Misfit};
 pub use lines::{SetupLines, SetupTable};
 pub use pg_lines::{Steer, parse_line, parse_steer, words_of};
 pub use place::{BoundBy, line_of_key};
+pub use port_rules::PortRules;
 pub use setup::{Setup, read_setup, setup_edits};
 pub use source::SourceRules;

@@ -1,10 +1,10 @@
 //! The setup file: what it is read as.
 ghost use Rattle.std.specs.Prelude.{◌≡◌, ◌⊎◌, ◌++◌, IfOk, IfErr, OnOk, map, option_map, option_to_list, codes, string_bytes, Some, None, []};
 ghost use Rattle.toml.specs.View.{view, table_view};
-ghost use Rattle.pg_operator.specs.Setups.{absent_or, asked_in, asked_of, door_of, edits_by, entry_by, grants_in, list_of, optional, planned, required, settings, setup_in, setup_of, streams_in, subscriber_in, told, whole_in};
+ghost use Rattle.pg_operator.specs.Setups.{absent_or, asked_in, asked_of, port_rules_of, edits_by, entry_by, grants_in, list_of, optional, planned, required, settings, setup_in, setup_of, streams_in, subscriber_in, told, whole_in};
 
-use crate::door::{self, PortRules};
 use crate::general::{self, LogLevel};
+use crate::port_rules::{PortRules, port_rules_at};
 use crate::source::{self, SourceRules};
 use crate::{pmu, stream, table};
 use pg_gateway::Edit;
@@ -26,14 +26,14 @@ pub struct Setup {
     /// The subscribers that have a port of their own, with it.
     pub ports: Vec<(SubId, u16)>,
     /// The rules of these ports: one for each, in the same order.
-    pub doors: Vec<PortRules>,
+    pub port_rules: Vec<PortRules>,
     /// Milliseconds from tick to tick: 1 to 1000.
     pub tick_ms: u16,
     /// Threads that read the links: 1 to 8.
     pub ingest: u8,
     /// Threads that serve the subscribers: 1 to 8.
     pub serve: u8,
-    /// Which events the log tells.
+    /// Which events the log has.
     pub log: LogLevel,
     /// The path of the Unix socket at which an operator's lines are taken: 1 to 107 bytes, none of them zero; `None` for no such socket.
     pub control: Option<String>,
@@ -180,7 +180,7 @@ fn setup_in(alloc: Global, table: &Table) -> Result<Setup, Refusal>
         links,
         sources,
         ports: subscribers.ports,
-        doors: subscribers.doors,
+        port_rules: subscribers.port_rules,
         tick_ms: general.tick_ms,
         ingest: general.ingest,
         serve: general.serve,
@@ -202,12 +202,12 @@ const SUBSCRIBER_KEYS: [&str; 12] = [
 struct Subscribers {
     edits: Vec<Edit>,
     ports: Vec<(SubId, u16)>,
-    doors: Vec<PortRules>,
+    port_rules: Vec<PortRules>,
 }
 
 /// The subscribers, in order.
 fn subscribers_at(alloc: Global, table: &Table) -> Result<Subscribers, Refusal>
-    ensures ok { IfOk result (λ s. option_map planned (required (list_of subscriber_in) (codes "subscriber") (table_view table.now)) ≡ Some (record { edits = s.edits.items; ports = s.ports.items; doors = map door_of s.doors.items })) }
+    ensures ok { IfOk result (λ s. option_map planned (required (list_of subscriber_in) (codes "subscriber") (table_view table.now)) ≡ Some (record { edits = s.edits.items; ports = s.ports.items; port_rules = map port_rules_of s.port_rules.items })) }
     ensures err { IfErr result (λ r. (r ≡ Refusal.NoMemory) ⊎ ((r ≡ Refusal.BadSetup) × (required (list_of subscriber_in) (codes "subscriber") (table_view table.now) ≡ None))) }
 {
     match table::value_at(table, "subscriber") {
@@ -218,7 +218,7 @@ fn subscribers_at(alloc: Global, table: &Table) -> Result<Subscribers, Refusal>
 
 /// The subscribers' tables.
 fn subscribers_in(alloc: Global, value: &Value) -> Result<Subscribers, Refusal>
-    ensures ok { IfOk result (λ s. option_map planned (list_of subscriber_in (view value.now)) ≡ Some (record { edits = s.edits.items; ports = s.ports.items; doors = map door_of s.doors.items })) }
+    ensures ok { IfOk result (λ s. option_map planned (list_of subscriber_in (view value.now)) ≡ Some (record { edits = s.edits.items; ports = s.ports.items; port_rules = map port_rules_of s.port_rules.items })) }
     ensures err { IfErr result (λ r. (r ≡ Refusal.NoMemory) ⊎ ((r ≡ Refusal.BadSetup) × (list_of subscriber_in (view value.now) ≡ None))) }
 {
     let Some(items) = value.as_array() else {
@@ -226,40 +226,40 @@ fn subscribers_in(alloc: Global, value: &Value) -> Result<Subscribers, Refusal>
     };
     let mut edits = Vec::new(alloc);
     let mut ports = Vec::new(alloc);
-    let mut doors = Vec::new(alloc);
+    let mut port_rules = Vec::new(alloc);
     'items: for item in items {
         let Subscriber {
             edits: mut own,
             port,
-            door,
+            rules,
         } = match subscriber_in(alloc, item) {
             Ok(subscriber) => subscriber,
             Err(refusal) => return Err(refusal),
         };
         edits.append(&mut own)?;
-        add_port(&mut ports, &mut doors, port, door)?;
+        add_port(&mut ports, &mut port_rules, port, rules)?;
     }
     Ok(Subscribers {
         edits,
         ports,
-        doors,
+        port_rules,
     })
 }
 
 /// Adds a port that is there, and its rules.
 fn add_port(
     ports: &mut Vec<(SubId, u16)>,
-    doors: &mut Vec<PortRules>,
+    port_rules: &mut Vec<PortRules>,
     port: Option<(SubId, u16)>,
-    door: PortRules,
+    rules: PortRules,
 ) -> Result<(), Refusal>
     ensures ports { OnOk result (ports.new.items ≡ ports.old.items ++ option_to_list port) }
-    ensures doors { OnOk result (map door_of doors.new.items ≡ map door_of doors.old.items ++ option_to_list (option_map (λ p. door_of door) port)) }
+    ensures port_rules { OnOk result (map port_rules_of port_rules.new.items ≡ map port_rules_of port_rules.old.items ++ option_to_list (option_map (λ p. port_rules_of rules) port)) }
     ensures err { IfErr result (λ r. r ≡ Refusal.NoMemory) }
 {
     if let Some(port) = port {
         ports.push(port)?;
-        doors.push(door)?;
+        port_rules.push(rules)?;
     }
     Ok(())
 }
@@ -269,12 +269,12 @@ fn add_port(
 struct Subscriber {
     edits: Vec<Edit>,
     port: Option<(SubId, u16)>,
-    door: PortRules,
+    rules: PortRules,
 }
 
 /// A subscriber's table.
 fn subscriber_in(alloc: Global, value: &Value) -> Result<Subscriber, Refusal>
-    ensures ok { IfOk result (λ s. subscriber_in (view value.now) ≡ Some (record { edits = s.edits.items; port = s.port; door = door_of s.door })) }
+    ensures ok { IfOk result (λ s. subscriber_in (view value.now) ≡ Some (record { edits = s.edits.items; port = s.port; rules = port_rules_of s.rules })) }
     ensures err { IfErr result (λ r. (r ≡ Refusal.NoMemory) ⊎ ((r ≡ Refusal.BadSetup) × (subscriber_in (view value.now) ≡ None))) }
 {
     let Some(table) = value.as_table() else {
@@ -287,12 +287,12 @@ fn subscriber_in(alloc: Global, value: &Value) -> Result<Subscriber, Refusal>
         return Err(Refusal::BadSetup);
     };
     let port = entry.own_port();
-    let door = match door::door_at(alloc, entry.id, table) {
-        Ok(door) => door,
+    let rules = match port_rules_at(alloc, entry.id, table) {
+        Ok(rules) => rules,
         Err(refusal) => return Err(refusal),
     };
     match edits_at(alloc, &entry, table) {
-        Ok(edits) => Ok(Subscriber { edits, port, door }),
+        Ok(edits) => Ok(Subscriber { edits, port, rules }),
         Err(refusal) => Err(refusal),
     }
 }

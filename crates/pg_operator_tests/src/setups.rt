@@ -309,7 +309,7 @@ control="aaaaaaaaaaaaaaaaaaaaaaaaaaaaaaaaaaaaaaaaaaaaaaaaaaaaaaaaaaaaaaaaaaaaaaa
 control="éééééééééééééééééééééééééééééééééééééééééééééééééééééa" => Info Some("éééééééééééééééééééééééééééééééééééééééééééééééééééééa") None
 control="éééééééééééééééééééééééééééééééééééééééééééééééééééééé" => BadSetup"#;
 
-/// What is told of a setup.
+/// What is said of a setup.
 #[derive(Clone, Copy)]
 enum Part {
     Edits,
@@ -343,9 +343,14 @@ fn sources_of(rt: &impl Abort, alloc: Global, setup: &Setup) -> String {
 
 /// The ports with their rules, of which there are as many.
 fn ports_of(rt: &impl Abort, alloc: Global, setup: &Setup) -> String {
-    same(rt, setup.doors.len(), setup.ports.len());
+    same(rt, setup.port_rules.len(), setup.ports.len());
     let mut text = String::new(alloc);
-    for (rules, port) in setup.doors.as_slice().iter().zip(setup.ports.as_slice()) {
+    for (rules, port) in setup
+        .port_rules
+        .as_slice()
+        .iter()
+        .zip(setup.ports.as_slice())
+    {
         let port = port_told(rt, alloc, port.1, rules);
         text.push_str(port.as_str()).expect(rt, "memory");
     }

@@ -8,7 +8,7 @@ use Rattle.pg_wire.proofs.Remainders.{IsRemainder-xor}
 use Rattle.pg_wire.proofs.Slicing.{lifted, dividend-append}
 use Rattle.pg_stream.specs.declared.definition.Definition.{Definition}
 use Rattle.pg_stream.specs.Slots.{stamp_at}
-use Rattle.pg_outcfg.specs.Fronts.{FrontValue, front_bytes, no_stamp}
+use Rattle.pg_outcfg.specs.HeadPrefixes.{HeadPrefixValue, prefix_bytes, no_stamp}
 use Rattle.pg_outcfg.specs.Stamped.{stamp_bytes}
 use Rattle.pg_outcfg.specs.Frames.{data_heading}
 
@@ -38,8 +38,8 @@ IsRemainder-stamped front stamp r s long octets up alone =
     (IsRemainder-xor (dividend front * 2 ^ 64) (lifted stamp) r s raised (subst (λ x. IsRemainder x s) own alone))
 
 -- the head of a slot's frame
-pub started : (d : Definition) (slot quality : ℕ) (front : FrontValue) (stamp : List ℕ) → front.id ≡ d.stream
-    → stamp ≡ stamp_bytes (stamp_at d.rate d.base slot) quality → front_bytes front ++ stamp ≡ start_of (data_heading d slot quality) front.size
+pub started : (d : Definition) (slot quality : ℕ) (front : HeadPrefixValue) (stamp : List ℕ) → front.id ≡ d.stream
+    → stamp ≡ stamp_bytes (stamp_at d.rate d.base slot) quality → prefix_bytes front ++ stamp ≡ start_of (data_heading d slot quality) front.size
 started d slot quality front stamp id is =
-    ap (λ n. front_bytes (record { id = n; size = front.size }) ++ stamp) id
-    ∙ ap (λ s. front_bytes (record { id = d.stream; size = front.size }) ++ s) is
+    ap (λ n. prefix_bytes (record { id = n; size = front.size }) ++ stamp) id
+    ∙ ap (λ s. prefix_bytes (record { id = d.stream; size = front.size }) ++ s) is

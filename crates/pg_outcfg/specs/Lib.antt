@@ -4,7 +4,7 @@ pub mod Listing
 pub mod Quality
 pub mod Frames
 pub mod Ordered
-pub mod Fronts
+pub mod HeadPrefixes
 pub mod Reading
 -- Only private contracts and proofs use these: places in the list, how it lies in memory, and a stamp's bytes.
 pub mod Places

@@ -8,12 +8,12 @@ ghost use Rattle.pg_data.specs.Measurements.{block_of};
 ghost use Rattle.pg_outcfg.specs.Listing.{Listing};
 ghost use Rattle.pg_outcfg.specs.Ordered.{AreBlocks, AreMembers, blocks_in, pieces_in};
 ghost use Rattle.pg_outcfg.specs.Quality.{joined_quality};
-ghost use Rattle.pg_outcfg.specs.Fronts.{front_bytes};
+ghost use Rattle.pg_outcfg.specs.HeadPrefixes.{prefix_bytes};
 ghost use Rattle.pg_outcfg.specs.Frames.{block_or_filler, data_blocks, qualities_of, data_frame_of};
 
-use crate::front::Front;
+use crate::head_prefix::HeadPrefix;
 use crate::list::ConfigList;
-use crate::stamps::{Stamp, Stamps};
+use crate::stamp_cache::{Stamp, StampCache};
 use pg_config::PmuConfig;
 use pg_data::{DataFrame, SharedBlock, filler_into};
 use pg_stream::Definition;
@@ -60,13 +60,15 @@ pub fn data_frame(
     ensures memory { IfErr result (λ refusal. refusal ≡ Refusal.NoMemory) }
 {
     let spare = Vec::new(alloc);
-    let stamps = &mut Stamps::new();
-    let front = &mut Front::new();
-    data_frame_near(alloc, definition, slot, listed, parts, front, stamps, spare)
+    let stamps = &mut StampCache::new();
+    let prefix = &mut HeadPrefix::new();
+    data_frame_near(
+        alloc, definition, slot, listed, parts, prefix, stamps, spare,
+    )
 }
 
-/// The same, where `front` is that of the stream's last data frame. This one may well have it too: if it has, the members are gone through
-/// once, and its bytes are not summed again. `front` is then that of this frame. One of no frame guesses nothing.
+/// The same, where `prefix` is that of the stream's last data frame. This one may well have it too: if it has, the members are gone through
+/// once, and its bytes are not summed again. `prefix` is then that of this frame. One of no frame guesses nothing.
 ///
 /// The frame is composed in the memory of `spare`, whatever bytes are there, or in an allocation of its size where that has less
 /// room. So it may have more room than its size.
@@ -76,8 +78,8 @@ pub fn data_frame_near(
     slot: u64,
     listed: &ConfigList,
     parts: &[Option<SharedBlock>],
-    front: &mut Front,
-    stamps: &mut Stamps,
+    prefix: &mut HeadPrefix,
+    stamps: &mut StampCache,
     spare: Vec<u8>,
 ) -> Result<Vec<u8>, Refusal>
     requires limits { IsWithinLimits definition.now }
@@ -86,16 +88,16 @@ pub fn data_frame_near(
     ensures frame { IfOk result (λ v. v.items ≡ data_frame_of definition.now slot listed.now parts.now) }
     ensures least { IfOk result (λ v. 16 ≤ vec_len v) }
     ensures most { IfOk result (λ v. vec_len v ≤ 12752) }
-    ensures front { IfOk result (λ v. front.new ≡ record { id = definition.now.stream; size = vec_len v }) }
+    ensures prefix { IfOk result (λ v. prefix.new ≡ record { id = definition.now.stream; size = vec_len v }) }
     ensures memory { IfErr result (λ refusal. refusal ≡ Refusal.NoMemory) }
 {
     let mut frame = spare;
-    let mut near = front.size();
+    let mut near = prefix.size();
     loop {
         if AROUND_BODY <= near && near <= MOST_BYTES {
             frame = room_for(alloc, frame, near)?;
-            front.turn_to(definition.stream, near);
-            if compose(&mut frame, definition, slot, listed, parts, front, stamps) {
+            prefix.turn_to(definition.stream, near);
+            if compose(&mut frame, definition, slot, listed, parts, prefix, stamps) {
                 return Ok(frame);
             }
         }
@@ -108,7 +110,7 @@ pub fn data_frame_near(
 /// order, which of that frame's blocks is its own.
 ///
 /// It asks for what `data_frame` asks for, and of each block that the frame has it. The frame is the same for every list in which
-/// all members stand. `front` and `spare` are what `data_frame_near` has them to be: where the frame has that front too, its blocks are not
+/// all members stand. `prefix` and `spare` are what `data_frame_near` has them to be: where the frame has that prefix too, its blocks are not
 /// measured first. The one refusal is `NoMemory`.
 pub fn data_frame_at_once(
     alloc: Global,
@@ -116,8 +118,8 @@ pub fn data_frame_at_once(
     slot: u64,
     frame: &DataFrame,
     order: &[Option<u8>],
-    front: &mut Front,
-    stamps: &mut Stamps,
+    prefix: &mut HeadPrefix,
+    stamps: &mut StampCache,
     spare: Vec<u8>,
 ) -> Result<Vec<u8>, Refusal>
     requires limits { IsWithinLimits definition.now }
@@ -128,16 +130,16 @@ pub fn data_frame_at_once(
         → v.items ≡ data_frame_of definition.now slot listed (pieces_in frame.now order.now)) }
     ensures least { IfOk result (λ v. 16 ≤ vec_len v) }
     ensures most { IfOk result (λ v. vec_len v ≤ 12752) }
-    ensures front { IfOk result (λ v. front.new ≡ record { id = definition.now.stream; size = vec_len v }) }
+    ensures prefix { IfOk result (λ v. prefix.new ≡ record { id = definition.now.stream; size = vec_len v }) }
     ensures memory { IfErr result (λ refusal. refusal ≡ Refusal.NoMemory) }
 {
     let mut out = spare;
-    let mut near = front.size();
+    let mut near = prefix.size();
     loop {
         if AROUND_BODY <= near && near <= MOST_BYTES {
             out = room_for(alloc, out, near)?;
-            front.turn_to(definition.stream, near);
-            if compose_at_once(&mut out, definition, slot, frame, order, front, stamps) {
+            prefix.turn_to(definition.stream, near);
+            if compose_at_once(&mut out, definition, slot, frame, order, prefix, stamps) {
                 return Ok(out);
             }
         }
@@ -146,38 +148,38 @@ pub fn data_frame_at_once(
     }
 }
 
-/// Composes the data frame of a slot in memory with room for as many bytes as this front tells, where one frame brought the blocks of all
-/// members, and tells whether it is so many bytes long.
+/// Composes the data frame of a slot in memory with room for as many bytes as this prefix says, where one frame brought the blocks of all
+/// members, and returns whether it is so many bytes long.
 fn compose_at_once(
     out: &mut Vec<u8>,
     definition: &Definition,
     slot: u64,
     frame: &DataFrame,
     order: &[Option<u8>],
-    front: &Front,
-    stamps: &mut Stamps,
+    prefix: &HeadPrefix,
+    stamps: &mut StampCache,
 ) -> bool
     requires limits { IsWithinLimits definition.now }
     requires time { slot / definition.now.rate < 2 ^ 32 }
     requires members { length order.now ≡ length definition.now.members }
     requires blocks { AreBlocks (length frame.now.config.parts) order.now }
-    requires front { front.now.id ≡ definition.now.stream }
-    requires least { 16 ≤ front.now.size }
-    requires room { front.now.size ≤ vec_capacity out.old }
-    ensures fits { front.now.size ≡ 16 + length (joined (blocks_in frame.now order.now)) → IsTrue result }
+    requires prefix { prefix.now.id ≡ definition.now.stream }
+    requires least { 16 ≤ prefix.now.size }
+    requires room { prefix.now.size ≤ vec_capacity out.old }
+    ensures fits { prefix.now.size ≡ 16 + length (joined (blocks_in frame.now order.now)) → IsTrue result }
     ensures frame { IsTrue result → (listed : Listing) → AreMembers listed definition.now.members
         → out.new.items ≡ data_frame_of definition.now slot listed (pieces_in frame.now order.now) }
-    ensures len { IsTrue result → vec_len out.new ≡ front.now.size }
+    ensures len { IsTrue result → vec_len out.new ≡ prefix.now.size }
 {
     let quality = clear_quality(frame.quality);
     let stamp = stamps.stamp_of(definition.rate, definition.base, slot, quality);
-    let Some(crc) = start_stamped(out, front, stamp) else {
+    let Some(crc) = start_stamped(out, prefix, stamp) else {
         return false;
     };
     let Some(crc) = add_ordered(out, crc, frame, order) else {
         return false;
     };
-    end_if_whole(out, crc, front.size())
+    end_if_whole(out, crc, prefix.size())
 }
 
 /// The joined time quality where all blocks are of one frame: that frame's without bit 7.
@@ -255,7 +257,7 @@ fn room_for(alloc: Global, spare: Vec<u8>, size: u16) -> Result<Vec<u8>, Refusal
     Ok(Vec::with_capacity(alloc, usize::from(size))?)
 }
 
-/// Composes the data frame of a slot in memory with room for as many bytes as this front tells, and tells whether it is so many bytes
+/// Composes the data frame of a slot in memory with room for as many bytes as this prefix says, and returns whether it is so many bytes
 /// long.
 fn compose(
     frame: &mut Vec<u8>,
@@ -263,29 +265,29 @@ fn compose(
     slot: u64,
     listed: &ConfigList,
     parts: &[Option<SharedBlock>],
-    front: &Front,
-    stamps: &mut Stamps,
+    prefix: &HeadPrefix,
+    stamps: &mut StampCache,
 ) -> bool
     requires limits { IsWithinLimits definition.now }
     requires time { slot / definition.now.rate < 2 ^ 32 }
     requires parts { length parts.now ≡ length definition.now.members }
-    requires front { front.now.id ≡ definition.now.stream }
-    requires least { 16 ≤ front.now.size }
-    requires room { front.now.size ≤ vec_capacity frame.old }
-    ensures fits { front.now.size ≡ 16 + length (joined (data_blocks listed.now definition.now.members parts.now)) → IsTrue result }
+    requires prefix { prefix.now.id ≡ definition.now.stream }
+    requires least { 16 ≤ prefix.now.size }
+    requires room { prefix.now.size ≤ vec_capacity frame.old }
+    ensures fits { prefix.now.size ≡ 16 + length (joined (data_blocks listed.now definition.now.members parts.now)) → IsTrue result }
     ensures frame { IsTrue result → frame.new.items ≡ data_frame_of definition.now slot listed.now parts.now }
-    ensures len { IsTrue result → vec_len frame.new ≡ front.now.size }
+    ensures len { IsTrue result → vec_len frame.new ≡ prefix.now.size }
 {
     let members = definition.members.as_slice();
     let quality = join_qualities(parts);
     let stamp = stamps.stamp_of(definition.rate, definition.base, slot, quality);
-    let Some(crc) = start_stamped(frame, front, stamp) else {
+    let Some(crc) = start_stamped(frame, prefix, stamp) else {
         return false;
     };
     let Some(crc) = add_blocks(frame, crc, members, listed, parts) else {
         return false;
     };
-    end_if_whole(frame, crc, front.size())
+    end_if_whole(frame, crc, prefix.size())
 }
 
 /// Ends a frame of which this is the check so far, if it is then so many bytes long.
@@ -305,12 +307,12 @@ fn end_if_whole(frame: &mut Vec<u8>, crc: u16, size: u16) -> bool
     true
 }
 
-/// Starts the data frame of a slot whose front and stamp these are: its first 14 bytes are there, and nothing of what was. Returns the
+/// Starts the data frame of a slot whose prefix and stamp these are: its first 14 bytes are there, and nothing of what was. Returns the
 /// check of them; none where there was no room for them.
 #[inline(always)]
-fn start_stamped(frame: &mut Vec<u8>, front: &Front, stamp: &Stamp) -> Option<u16>
+fn start_stamped(frame: &mut Vec<u8>, prefix: &HeadPrefix, stamp: &Stamp) -> Option<u16>
     ensures fits { 14 ≤ vec_capacity frame.old → IsSome result }
-    ensures bytes { IsSome result → frame.new.items ≡ front_bytes front.now ++ stamp.now }
+    ensures bytes { IsSome result → frame.new.items ≡ prefix_bytes prefix.now ++ stamp.now }
     ensures len { IsSome result → vec_len frame.new ≡ 14 }
     ensures check { IfSome result (λ crc. IsRemainder (dividend frame.new.items) crc) }
     ensures room { vec_capacity frame.old ≤ vec_capacity frame.new }
@@ -320,21 +322,21 @@ fn start_stamped(frame: &mut Vec<u8>, front: &Front, stamp: &Stamp) -> Option<u1
         return None;
     }
     // With the room tested, the head is added without a way to take memory.
-    let _ = frame.extend_from_slice(&head_of(&front.bytes(), stamp.bytes()));
-    Some(front.check_with(stamp))
+    let _ = frame.extend_from_slice(&head_of(&prefix.bytes(), stamp.bytes()));
+    Some(prefix.check_with(stamp))
 }
 
-/// A head of this front and this stamp.
+/// A head of this prefix and this stamp.
 #[inline(always)]
-fn head_of(front: &[u8; 6], stamp: &[u8; 8]) -> [u8; 14]
-    ensures { result ≡ front.now ++ stamp.now }
+fn head_of(prefix: &[u8; 6], stamp: &[u8; 8]) -> [u8; 14]
+    ensures { result ≡ prefix.now ++ stamp.now }
 {
-    let [a, b, c, d, e, f] = *front;
+    let [a, b, c, d, e, f] = *prefix;
     let [g, h, i, j, k, l, m, n] = *stamp;
     [a, b, c, d, e, f, g, h, i, j, k, l, m, n]
 }
 
-/// The joined time quality of the blocks that are there (own rule): each leap second flag that one has, and the greatest
+/// The joined time quality of the blocks that are there: each leap second flag that one has, and the greatest
 /// quality code. Bit 7 is 0.
 fn join_qualities(parts: &[Option<SharedBlock>]) -> u8
     ensures { result ≡ joined_quality (qualities_of parts.now) }

@@ -11,7 +11,7 @@ ghost use Rattle.pg_outcfg.specs.Quality.{leap_flags, quality_code, joined_flags
 ghost use Rattle.pg_outcfg.specs.Frames.{effective_of, cfg1_frame, cfg2_frame, data_blocks, data_frame_of};
 ghost use Rattle.pg_outcfg.specs.Reading.{CanTell, TellsConfig, AreBlocks, TellsData, told_measurement};
 
-/// CFG-1 and CFG-2 are read as the PMUs that they tell of, with the stream's count, resolution and rate, where a reader takes
+/// CFG-1 and CFG-2 are read as the PMUs that they name, with the stream's count, resolution and rate, where a reader takes
 /// these: 1 to 16 PMUs, each with an IDCODE of its own.
 pub fn config_is_read()
     ensures cfg1 { (d : Definition) (count soc : ℕ) (listed : Listing) → CanTell d listed → count < 2 ^ 16 → soc < 2 ^ 32
@@ -22,7 +22,7 @@ pub fn config_is_read()
         → TellsConfig (cfg2_frame d count soc listed) CfgTwo d count (effective_of listed d.members) }
 {}
 
-/// A data frame is read, by the configuration that CFG-2 tells, as the slot's stamp, the joined quality, and for each
+/// A data frame is read, by the configuration in CFG-2, as the slot's stamp, the joined quality, and for each
 /// effective member its block or the filler.
 pub fn data_is_read()
     ensures { (d : Definition) (count slot : ℕ) (listed : Listing) (pieces : List (Option Piece)) → CanTell d listed

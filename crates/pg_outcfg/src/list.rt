@@ -24,7 +24,7 @@ pub struct Listed {
     pub config: Arc<PmuConfig>,
 }
 
-/// The PMUs that are granted to one subscriber and announced, by rising key: what CFG-1 lists (own rule). At most 32, no
+/// The PMUs that are granted to one subscriber and announced, by rising key: what CFG-1 lists. At most 32, no
 /// key twice. Only `new` takes memory.
 #[derive(Drop)]
 pub struct ConfigList {

@@ -3,7 +3,7 @@
 #![tactic(auto)]
 
 ghost use Rattle.std.specs.Prelude.{◌≡◌, ◌≤◌, ◌⊎◌, Some, None, IfOk, IfErr};
-ghost use Rattle.pg_serve.specs.Inputs.{facts, outcomes};
+ghost use Rattle.pg_serve.specs.Inputs.{input_values, outcomes};
 ghost use Rattle.pg_serve.specs.Shown.{queue_shown};
 ghost use Rattle.pg_serve.specs.Full.{handed_over};
 ghost use Rattle.pg_serve.specs.Headline.{HasAnswered, OutcomesLossless, Headline};
@@ -27,11 +27,11 @@ pub struct Ran {
 
 /// A new world takes these inputs. The one refusal is `NoMemory`.
 pub fn run_anew(alloc: Global, inputs: &[Input]) -> Result<Ran, Refusal>
-    ensures answers { IfOk result (λ ran. HasAnswered ran.world (facts inputs.now) (outcomes ran.outputs.items)) }
+    ensures answers { IfOk result (λ ran. HasAnswered ran.world (input_values inputs.now) (outcomes ran.outputs.items)) }
     ensures isolates { IfOk result (λ ran. OutcomesLossless (outcomes ran.outputs.items)
-        → Headline ran.world (facts inputs.now) (outcomes ran.outputs.items)) }
+        → Headline ran.world (input_values inputs.now) (outcomes ran.outputs.items)) }
     ensures beside { IfOk result (λ ran. OutcomesLossless (outcomes ran.outputs.items)
-        → StandsBeside ran.world (facts inputs.now) (outcomes ran.outputs.items)) }
+        → StandsBeside ran.world (input_values inputs.now) (outcomes ran.outputs.items)) }
     ensures memory { IfErr result (λ refusal. refusal ≡ Refusal.NoMemory) }
 {
     let mut world = World::new(alloc)?;
@@ -50,34 +50,34 @@ pub struct Pair {
     pub other: Ran,
 }
 
-/// Runs two lists of inputs, each in a world of its own, and no output tells a loss or want of memory. Where they differ only in
+/// Runs two lists of inputs, each in a world of its own, and no output reports a loss or want of memory. Where they differ only in
 /// inputs that name other subscribers, and neither adds subscribers more than 64 times, the subscriber's queue shows the same in
 /// both worlds, and both handed it the same. So it is too where their data frames differ in blocks alone that the subscriber is
 /// not granted, also where that is said of the frames' bytes, all other inputs being the same. The one refusal is `NoMemory`.
 pub fn compare(alloc: Global, sub: SubId, mine: &[Input], other: &[Input]) -> Result<Pair, Refusal>
-    ensures mine { IfOk result (λ pair. HasAnswered pair.mine.world (facts mine.now) (outcomes pair.mine.outputs.items)) }
-    ensures other { IfOk result (λ pair. HasAnswered pair.other.world (facts other.now) (outcomes pair.other.outputs.items)) }
+    ensures mine { IfOk result (λ pair. HasAnswered pair.mine.world (input_values mine.now) (outcomes pair.mine.outputs.items)) }
+    ensures other { IfOk result (λ pair. HasAnswered pair.other.world (input_values other.now) (outcomes pair.other.outputs.items)) }
     ensures queued { IfOk result (λ pair. OutcomesLossless (outcomes pair.mine.outputs.items)
         → OutcomesLossless (outcomes pair.other.outputs.items)
-        → adds_in (facts mine.now) ≤ 64 → adds_in (facts other.now) ≤ 64
-        → without_others sub (facts mine.now) ≡ without_others sub (facts other.now)
+        → adds_in (input_values mine.now) ≤ 64 → adds_in (input_values other.now) ≤ 64
+        → without_others sub (input_values mine.now) ≡ without_others sub (input_values other.now)
         → queue_shown sub pair.mine.world ≡ queue_shown sub pair.other.world) }
     ensures handed { IfOk result (λ pair. OutcomesLossless (outcomes pair.mine.outputs.items)
         → OutcomesLossless (outcomes pair.other.outputs.items)
-        → adds_in (facts mine.now) ≤ 64 → adds_in (facts other.now) ≤ 64
-        → without_others sub (facts mine.now) ≡ without_others sub (facts other.now)
-        → handed_over sub (facts mine.now) (outcomes pair.mine.outputs.items)
-        ≡ handed_over sub (facts other.now) (outcomes pair.other.outputs.items)) }
+        → adds_in (input_values mine.now) ≤ 64 → adds_in (input_values other.now) ≤ 64
+        → without_others sub (input_values mine.now) ≡ without_others sub (input_values other.now)
+        → handed_over sub (input_values mine.now) (outcomes pair.mine.outputs.items)
+        ≡ handed_over sub (input_values other.now) (outcomes pair.other.outputs.items)) }
     ensures shared { IfOk result (λ pair. OutcomesLossless (outcomes pair.mine.outputs.items)
         → OutcomesLossless (outcomes pair.other.outputs.items)
-        → SeeAlike sub (facts mine.now) (facts other.now)
-        → ServesAlike sub pair.mine.world (facts mine.now) (outcomes pair.mine.outputs.items)
-        pair.other.world (facts other.now) (outcomes pair.other.outputs.items)) }
+        → SeeAlike sub (input_values mine.now) (input_values other.now)
+        → ServesAlike sub pair.mine.world (input_values mine.now) (outcomes pair.mine.outputs.items)
+        pair.other.world (input_values other.now) (outcomes pair.other.outputs.items)) }
     ensures bytes { IfOk result (λ pair. OutcomesLossless (outcomes pair.mine.outputs.items)
         → OutcomesLossless (outcomes pair.other.outputs.items)
-        → adds_in (facts mine.now) ≤ 64 → SameButUngranted sub (facts mine.now) (facts other.now)
-        → ServesAlike sub pair.mine.world (facts mine.now) (outcomes pair.mine.outputs.items)
-        pair.other.world (facts other.now) (outcomes pair.other.outputs.items)) }
+        → adds_in (input_values mine.now) ≤ 64 → SameButUngranted sub (input_values mine.now) (input_values other.now)
+        → ServesAlike sub pair.mine.world (input_values mine.now) (outcomes pair.mine.outputs.items)
+        pair.other.world (input_values other.now) (outcomes pair.other.outputs.items)) }
     ensures memory { IfErr result (λ refusal. refusal ≡ Refusal.NoMemory) }
 {
     neighbours_change_nothing();

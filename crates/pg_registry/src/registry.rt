@@ -18,7 +18,7 @@ use std::sync::Arc;
 /// The most registered PMUs.
 const PMU_LIMIT: usize = 256;
 
-/// The registered PMUs in order of registration, at most 256 (own rule), each with the configuration that it announced
+/// The registered PMUs in order of registration, at most 256, each with the configuration that it announced
 /// last and with its counters. Only `new` and `add` take memory.
 ///
 /// A PMU stands at a place, the first at 0, which `place_of` finds by its key: what is asked or changed at a place needs

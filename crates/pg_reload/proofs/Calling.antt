@@ -72,8 +72,8 @@ some_told p (Some t) = p t
 
 port_same : (o : Opened) → opened_eq o o ≡ true
 port_same o =
-    λ i. number_same o.port i && ((((((number_same o.door.sub i && number_same o.door.address i) && allow_same o.door.allow i) && truth_same o.door.takeover i)
-    && number_same o.door.stall i) && number_same o.door.idle i) && change_same o.door.change i)
+    λ i. number_same o.port i && ((((((number_same o.rules.sub i && number_same o.rules.address i) && allow_same o.rules.allow i) && truth_same o.rules.takeover i)
+    && number_same o.rules.stall i) && number_same o.rules.idle i) && change_same o.rules.change i)
   where
     net_same : (n : Net) → net_eq n n ≡ true
     net_same n = λ i. number_same n.address i && number_same n.bits i
@@ -129,9 +129,9 @@ calls_left : (p : Told → Bool) (q : Called → Bool) → ((c : Called) → p (
     → (old new : List Called) → SameCalls q old new → list_any p (orders_between old new) ≡ false
 calls_left p q a b old new agree = no_orders called_eq called_same (λ c. undialled c.source) dialled p q a b old new agree
 
-ports_left : (p : Told → Bool) (q : Opened → Bool) → ((o : Opened) → p (unlistened o.door.sub) ≡ q o) → ((o : Opened) → p (listened o) ≡ q o)
+ports_left : (p : Told → Bool) (q : Opened → Bool) → ((o : Opened) → p (unlistened o.rules.sub) ≡ q o) → ((o : Opened) → p (listened o) ≡ q o)
     → (old new : List Opened) → SamePorts q old new → list_any p (port_orders_between old new) ≡ false
-ports_left p q a b old new agree = no_orders opened_eq port_same (λ o. unlistened o.door.sub) listened p q a b old new agree
+ports_left p q a b old new agree = no_orders opened_eq port_same (λ o. unlistened o.rules.sub) listened p q a b old new agree
 
 either_none : (p : Told → Bool) (xs ys : List Told) → list_any p xs ≡ false → list_any p ys ≡ false → list_any p (xs ++ ys) ≡ false
 either_none p xs ys a b = list_any-append p xs ys ∙ ap (λ t. t || list_any p ys) a ∙ b
@@ -143,12 +143,12 @@ source_left old new before after s agree =
     (calls_left (is_about s) (λ c. c.source == s) (λ c. refl) (λ c. refl) old new agree)
     (ports_left (is_about s) (λ o. false) (λ o. refl) (λ o. refl) before after (λ o h. absurd (false≢true h)))
 
-pub port_left : (old new : List Called) (before after : List Opened) (u : ℕ) → SamePorts (λ o. o.door.sub == u) before after
+pub port_left : (old new : List Called) (before after : List Opened) (u : ℕ) → SamePorts (λ o. o.rules.sub == u) before after
     → list_any (is_of u) (orders_between old new ++ port_orders_between before after) ≡ false
 port_left old new before after u agree =
     either_none (is_of u) (orders_between old new) (port_orders_between before after)
     (calls_left (is_of u) (λ c. false) (λ c. refl) (λ c. refl) old new (λ c h. absurd (false≢true h)))
-    (ports_left (is_of u) (λ o. o.door.sub == u) (λ o. refl) (λ o. refl) before after agree)
+    (ports_left (is_of u) (λ o. o.rules.sub == u) (λ o. refl) (λ o. refl) before after agree)
 
 none_told : (ts : List Told) → list_any (λ t. true) ts ≡ false → ts ≡ []
 none_told [] h = refl

@@ -69,7 +69,7 @@ orders_between old new = filter_map (ended new) old ++ filter_map (begun old) ne
 
 -- ports that are not among the others are closed, or opened
 abbrev pub closed : List Opened → Opened → Option Told
-closed others p = if is_open others p then None else Some (unlistened p.door.sub)
+closed others p = if is_open others p then None else Some (unlistened p.rules.sub)
 
 abbrev pub listened_of : List Opened → Opened → Option Told
 listened_of others p = if is_open others p then None else Some (listened p)
@@ -96,5 +96,5 @@ SamePorts p old new = (o : Opened) → p o ≡ true → is_open old o ≡ is_ope
 -- an order about this subscriber
 abbrev pub is_of : ℕ → Told → Bool
 is_of u (unlistened v) = v == u
-is_of u (listened p) = p.door.sub == u
+is_of u (listened p) = p.rules.sub == u
 is_of u t = false

@@ -5,24 +5,24 @@ use Rattle.std.specs.List.{list_any, filter_map}
 use Rattle.pg_limits.specs.Hosts.{Net}
 use Rattle.pg_limits.specs.declared.layouts.OnChange.{OnChange}
 use Rattle.pg_limits.specs.declared.layouts.OnChange.TheVariants as on_change
-use Rattle.pg_operator.specs.Setups.{Door, door_of}
+use Rattle.pg_operator.specs.Setups.{PortRulesValue, port_rules_of}
 use Rattle.pg_reload.specs.declared.ports.Port.{Port}
 
 -- a subscriber's port, and its rules
 pub record Opened : Type 0 where
   pub port : ℕ
-  pub door : Door
+  pub rules : PortRulesValue
 
 -- the same, of a port of the code
 abbrev pub opened_of : Port → Opened
-opened_of p = record { port = p.port; door = door_of p.rules }
+opened_of p = record { port = p.port; rules = port_rules_of p.rules }
 
 -- a port with the rules that the setup has for its subscriber
-abbrev pub opened_by : List Door → ℕ × ℕ → Option Opened
-opened_by doors port = option_map (λ d. record { port = port.1; door = d }) (find (λ d. d.sub == port.0) doors)
+abbrev pub opened_by : List PortRulesValue → ℕ × ℕ → Option Opened
+opened_by port_rules port = option_map (λ d. record { port = port.1; rules = d }) (find (λ d. d.sub == port.0) port_rules)
 
-abbrev pub ports_by : List (ℕ × ℕ) → List Door → List Opened
-ports_by ports doors = filter_map (opened_by doors) ports
+abbrev pub ports_by : List (ℕ × ℕ) → List PortRulesValue → List Opened
+ports_by ports port_rules = filter_map (opened_by port_rules) ports
 
 -- every field is the same
 abbrev pub net_eq : Net → Net → Bool
@@ -44,13 +44,13 @@ change_eq on_change.HangUp on_change.HangUp = true
 change_eq on_change.Keep on_change.Keep = true
 change_eq a b = false
 
-abbrev pub door_eq : Door → Door → Bool
-door_eq c d =
+abbrev pub port_rules_eq : PortRulesValue → PortRulesValue → Bool
+port_rules_eq c d =
     (((((c.sub == d.sub && c.address == d.address) && allow_eq c.allow d.allow) && is_same_bool c.takeover d.takeover) && c.stall == d.stall) && c.idle == d.idle)
     && change_eq c.change d.change
 
 abbrev pub opened_eq : Opened → Opened → Bool
-opened_eq p q = p.port == q.port && door_eq p.door q.door
+opened_eq p q = p.port == q.port && port_rules_eq p.rules q.rules
 
 -- one of the ports is this one
 abbrev pub is_open : List Opened → Opened → Bool

@@ -6,7 +6,7 @@ ghost use Rattle.pg_reload.specs.Edits.{edits_between};
 ghost use Rattle.pg_reload.specs.Leading.{IsSound, LeadsFrom};
 ghost use Rattle.pg_reload.specs.Orders.{SameCalls, SamePorts, calls_by, is_about, is_of, orders_between, port_orders_between, told};
 ghost use Rattle.pg_reload.specs.Ports.{ports_by};
-ghost use Rattle.pg_operator.specs.Setups.{door_of};
+ghost use Rattle.pg_operator.specs.Setups.{port_rules_of};
 ghost use Rattle.pg_reload.specs.Restarts.{keys_of, restarts_between};
 
 use crate::orders::{self, Order};
@@ -44,7 +44,7 @@ pub struct Changes {
 /// is called anew where its address, `silence`, `clock_ms` or `ahead_ms` changed; a port is closed and opened anew where its number or a rule of it
 /// changed, and stays where its subscriber is dropped and added again.
 ///
-/// The keys that need a new start are told in the order `tick_ms`, `ingest`, `serve`, `control`, `status`, `name`; `log` needs none.
+/// The keys that need a new start are named in the order `tick_ms`, `ingest`, `serve`, `control`, `status`, `name`; `log` needs none.
 ///
 /// # Errors
 ///
@@ -59,17 +59,17 @@ pub fn changes_between(alloc: Global, old: &Setup, new: &Setup) -> Result<Change
     ensures orders { IfOk result (λ c. map told c.orders.items ≡ orders_between
         (calls_by (map (λ l. (l.0, string_bytes l.1)) old.now.links.items) old.now.sources.items)
         (calls_by (map (λ l. (l.0, string_bytes l.1)) new.now.links.items) new.now.sources.items)
-        ++ port_orders_between (ports_by old.now.ports.items (map door_of old.now.doors.items)) (ports_by new.now.ports.items (map door_of new.now.doors.items))) }
+        ++ port_orders_between (ports_by old.now.ports.items (map port_rules_of old.now.port_rules.items)) (ports_by new.now.ports.items (map port_rules_of new.now.port_rules.items))) }
     ensures sources { IfOk result (λ c. let before = calls_by (map (λ l. (l.0, string_bytes l.1)) old.now.links.items) old.now.sources.items in
         let after = calls_by (map (λ l. (l.0, string_bytes l.1)) new.now.links.items) new.now.sources.items in
         (s : ℕ) → SameCalls (λ call. call.source == s) before after → list_any (is_about s) (map told c.orders.items) ≡ false) }
-    ensures ports { IfOk result (λ c. let before = ports_by old.now.ports.items (map door_of old.now.doors.items) in
-        let after = ports_by new.now.ports.items (map door_of new.now.doors.items) in
-        (u : ℕ) → SamePorts (λ port. port.door.sub == u) before after → list_any (is_of u) (map told c.orders.items) ≡ false) }
+    ensures ports { IfOk result (λ c. let before = ports_by old.now.ports.items (map port_rules_of old.now.port_rules.items) in
+        let after = ports_by new.now.ports.items (map port_rules_of new.now.port_rules.items) in
+        (u : ℕ) → SamePorts (λ port. port.rules.sub == u) before after → list_any (is_of u) (map told c.orders.items) ≡ false) }
     ensures quiet { IfOk result (λ c. SameCalls (λ call. true)
         (calls_by (map (λ l. (l.0, string_bytes l.1)) old.now.links.items) old.now.sources.items)
         (calls_by (map (λ l. (l.0, string_bytes l.1)) new.now.links.items) new.now.sources.items)
-        → SamePorts (λ port. true) (ports_by old.now.ports.items (map door_of old.now.doors.items)) (ports_by new.now.ports.items (map door_of new.now.doors.items))
+        → SamePorts (λ port. true) (ports_by old.now.ports.items (map port_rules_of old.now.port_rules.items)) (ports_by new.now.ports.items (map port_rules_of new.now.port_rules.items))
         → map told c.orders.items ≡ []) }
     ensures restarts { IfOk result (λ c. c.restarts.items ≡ restarts_between (keys_of old.now) (keys_of new.now)) }
     ensures refused { IfErr result (λ r. r ≡ Refusal.NoMemory) }

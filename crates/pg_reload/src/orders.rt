@@ -26,7 +26,7 @@ pub enum Order {
     Undial(PmuId),
     /// A source is called.
     Dial(Call),
-    /// A subscriber's port is closed, and who is connected there hung up.
+    /// A subscriber's port is closed, and the subscriber that is connected is hung up.
     Unlisten(SubId),
     /// A port is opened for its subscriber.
     Listen(Port),

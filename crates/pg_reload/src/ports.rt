@@ -1,9 +1,9 @@
 //! Ports that are open by one setup and not, or otherwise, by another.
 ghost use Rattle.std.specs.Prelude.{◌≡◌, ◌++◌, IfOk, IfErr, OnOk, find, map, option_map, ◌==◌, if◌then◌else◌, Some, None};
 ghost use Rattle.std.specs.List.{filter_map, list_any};
-ghost use Rattle.pg_operator.specs.Setups.{door_of};
+ghost use Rattle.pg_operator.specs.Setups.{port_rules_of};
 ghost use Rattle.pg_reload.specs.Orders.{closed, listened_of, port_orders_between, told};
-ghost use Rattle.pg_reload.specs.Ports.{allow_eq, change_eq, door_eq, opened_by, opened_eq, opened_of, ports_by};
+ghost use Rattle.pg_reload.specs.Ports.{allow_eq, change_eq, port_rules_eq, opened_by, opened_eq, opened_of, ports_by};
 
 use crate::orders::Order;
 use pg_limits::{Allow, OnChange};
@@ -16,7 +16,7 @@ use std::alloc::Global;
 pub struct Port {
     /// Its number: 1 to 65535.
     pub port: u16,
-    /// Its subscriber, who may connect, when it is hung up, and what is done where the blocks of a stream change.
+    /// Its subscriber, the hosts that may connect, when it is hung up, and what is done where the blocks of a stream change.
     pub rules: PortRules,
 }
 
@@ -38,7 +38,7 @@ fn allow_of(alloc: Global, allow: &Allow) -> Result<Allow, Refusal>
 
 /// A port with a copy of these rules.
 fn port_of(alloc: Global, port: u16, rules: &PortRules) -> Result<Port, Refusal>
-    ensures ok { IfOk result (λ copy. opened_of copy ≡ record { port = port; door = door_of rules.now }) }
+    ensures ok { IfOk result (λ copy. opened_of copy ≡ record { port = port; rules = port_rules_of rules.now }) }
     ensures err { IfErr result (λ r. r ≡ Refusal.NoMemory) }
 {
     match allow_of(alloc, &rules.allow) {
@@ -62,12 +62,12 @@ fn port_of(alloc: Global, port: u16, rules: &PortRules) -> Result<Port, Refusal>
 fn opened_by(
     alloc: Global,
     port: &(SubId, u16),
-    doors: &[PortRules],
+    port_rules: &[PortRules],
 ) -> Result<Option<Port>, Refusal>
-    ensures ok { IfOk result (λ o. option_map opened_of o ≡ opened_by (map door_of doors.now) port.now) }
+    ensures ok { IfOk result (λ o. option_map opened_of o ≡ opened_by (map port_rules_of port_rules.now) port.now) }
     ensures err { IfErr result (λ r. r ≡ Refusal.NoMemory) }
 {
-    'doors: for rules in doors {
+    'port_rules: for rules in port_rules {
         if rules.sub == port.0 {
             return match port_of(alloc, port.1, rules) {
                 Ok(port) => Ok(Some(port)),
@@ -82,14 +82,14 @@ fn opened_by(
 fn ports_by(
     alloc: Global,
     ports: &[(SubId, u16)],
-    doors: &[PortRules],
+    port_rules: &[PortRules],
 ) -> Result<Vec<Port>, Refusal>
-    ensures ok { IfOk result (λ v. map opened_of v.items ≡ ports_by ports.now (map door_of doors.now)) }
+    ensures ok { IfOk result (λ v. map opened_of v.items ≡ ports_by ports.now (map port_rules_of port_rules.now)) }
     ensures err { IfErr result (λ r. r ≡ Refusal.NoMemory) }
 {
     let mut opened = Vec::new(alloc);
     'ports: for port in ports {
-        let found = match opened_by(alloc, port, doors) {
+        let found = match opened_by(alloc, port, port_rules) {
             Ok(found) => found,
             Err(refusal) => return Err(refusal),
         };
@@ -125,7 +125,7 @@ fn is_same_change(one: OnChange, other: OnChange) -> bool
 
 /// Whether every field is the same.
 fn are_rules_alike(one: &PortRules, other: &PortRules) -> bool
-    ensures { result ≡ door_eq (door_of one.now) (door_of other.now) }
+    ensures { result ≡ port_rules_eq (port_rules_of one.now) (port_rules_of other.now) }
 {
     one.sub == other.sub
         && one.address.to_bits() == other.address.to_bits()
@@ -193,11 +193,11 @@ pub(crate) fn add_orders(
     new: &Setup,
 ) -> Result<(), Refusal>
     ensures ok { OnOk result (map told orders.new.items ≡ map told orders.old.items ++ port_orders_between
-        (ports_by old.now.ports.items (map door_of old.now.doors.items)) (ports_by new.now.ports.items (map door_of new.now.doors.items))) }
+        (ports_by old.now.ports.items (map port_rules_of old.now.port_rules.items)) (ports_by new.now.ports.items (map port_rules_of new.now.port_rules.items))) }
     ensures err { IfErr result (λ r. r ≡ Refusal.NoMemory) }
 {
-    let before = ports_by(alloc, old.ports.as_slice(), old.doors.as_slice())?;
-    let after = ports_by(alloc, new.ports.as_slice(), new.doors.as_slice())?;
+    let before = ports_by(alloc, old.ports.as_slice(), old.port_rules.as_slice())?;
+    let after = ports_by(alloc, new.ports.as_slice(), new.port_rules.as_slice())?;
     close_ports(orders, before.as_slice(), after.as_slice())?;
     open_ports(alloc, orders, after.as_slice(), before.as_slice())?;
     Ok(())

@@ -27,7 +27,7 @@ pub enum Restart {
     Name,
 }
 
-/// Tells a key, unless its values are the same.
+/// Names a key, unless its values are the same.
 fn tell(keys: &mut Vec<Restart>, key: Restart, is_same: bool) -> Result<(), Refusal>
     ensures ok { OnOk result (keys.new.items ≡ keys.old.items ++ told_unless is_same key) }
     ensures err { IfErr result (λ r. r ≡ Refusal.NoMemory) }

@@ -1,18 +1,13 @@
 -- What a line asks for, by whether it is text.
-use Rattle.std.proofs.Common.{◌≡◌, Bool, true, false, List, ℕ, None, refl}
+use Rattle.std.proofs.Common.{◌≡◌, false, List, ℕ, None, refl}
 use Rattle.std.specs.Str.{is_utf8, IsUtf8}
-use Rattle.std.proofs.lemmas.Str.{IsUtf8-from_is_utf8, is_utf8-from_IsUtf8}
-use Rattle.pg_replay.specs.Lines.{is_comment, text_asks, asked_in}
+use Rattle.std.proofs.lemmas.Str.{is_utf8-from_IsUtf8}
+use Rattle.pg_answers.specs.Edits.{is_comment}
+use Rattle.pg_answers.proofs.EditLaws.{not_text}
+use Rattle.pg_replay.specs.Lines.{text_asks, asked_in}
 
 pub asked_text : (line : List ℕ) → is_comment line ≡ false → IsUtf8 line → asked_in line ≡ text_asks line
 asked_text line comment text = rw (comment, is_utf8-from_IsUtf8 line text) refl
-
-not_text : (line : List ℕ) → (IsUtf8 line → ⊥) → is_utf8 line ≡ false
-not_text line none = by (is_utf8 line) refl
-  where
-    by : (b : Bool) → is_utf8 line ≡ b → b ≡ false
-    by true is = absurd (none (IsUtf8-from_is_utf8 line is))
-    by false is = refl
 
 pub asked_none : (line : List ℕ) → is_comment line ≡ false → (IsUtf8 line → ⊥) → asked_in line ≡ None
 asked_none line comment none = rw (comment, not_text line none) refl

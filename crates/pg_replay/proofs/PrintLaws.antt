@@ -1,4 +1,4 @@
--- What is appended, piece by piece.
+-- What is printed of a queue and of commands, piece by piece.
 use Rattle.std.proofs.Common.{◌≡◌, ℕ, zero, suc, ◌+◌, ◌≤◌, ◌<◌, List, [], ◌∷◌, ◌++◌, length, take, drop, min, get_or, Option, Some, None, codes, refl, sym, ap, ◌∙◌, arith}
 use Rattle.std.specs.List.{flat_map, slice_get}
 use Rattle.std.specs.Io.KnownBytes.{Appends}
@@ -6,26 +6,9 @@ use Rattle.std.proofs.Math.Seq.{take-suc}
 use Rattle.std.proofs.lemmas.List.{append_assoc, append-nil, length-take, length-drop, take_min, drop_min}
 use Rattle.std.proofs.lemmas.Grind.{flat_map-append}
 use Rattle.std.proofs.lemmas.Option.{slice_get_within, get_or_from_slice_get}
-use Rattle.pg_replay.specs.Printing.{hex_end, reason_text, reasons_from, send_line, send_from, send_lines}
-
-pub appends_more : (a b c : Option (List ℕ)) (xs ys : List ℕ) → Appends a b xs → Appends b c ys → Appends a c (xs ++ ys)
-appends_more None b c xs ys first second = tt
-appends_more (Some x) None c xs ys first second = absurd first
-appends_more (Some x) (Some y) None xs ys first second = absurd second
-appends_more (Some x) (Some y) (Some z) xs ys first second = second ∙ ap (λ l. l ++ ys) first ∙ append_assoc x xs ys
-
-reasons_more : (n : ℕ) (xs : List ℕ) (c : ℕ) → reasons_from n (xs ++ c ∷ []) ≡ reasons_from n xs ++ reason_text (n + length xs) c
-reasons_more n [] c = append-nil _ ∙ ap (λ k. reason_text k c) (omega arith)
-reasons_more n (x ∷ xs) c =
-    ap (λ t. reason_text n x ++ t) (reasons_more (n + 1) xs c ∙ ap (λ k. reasons_from (n + 1) xs ++ reason_text k c) (omega arith))
-    ∙ sym (append_assoc (reason_text n x) (reasons_from (n + 1) xs) (reason_text (n + length (x ∷ xs)) c))
-
-pub reasons_taken : (l : List ℕ) (n d : ℕ) → n < length l → reasons_from 0 (take (n + 1) l) ≡ reasons_from 0 (take n l) ++ reason_text n (get_or l n d)
-reasons_taken l n d less =
-    let on : n + 1 ≡ suc n = omega arith in
-    let len : 0 + length (take n l) ≡ n = omega (arith, length-take n l) in
-    ap (λ k. reasons_from 0 (take k l)) on ∙ ap (reasons_from 0) (take-suc l n d less) ∙ reasons_more 0 (take n l) (get_or l n d)
-    ∙ ap (λ k. reasons_from 0 (take n l) ++ reason_text k (get_or l n d)) len
+use Rattle.pg_answers.specs.Printing.{hex_end}
+use Rattle.pg_answers.proofs.PrintLaws.{appends_more}
+use Rattle.pg_replay.specs.Printing.{send_line, send_from, send_lines}
 
 pub flat_taken : {X : Type 0} (f : X → List ℕ) (l : List X) (n : ℕ) (x : X) → slice_get l n ≡ Some x → flat_map f (take (n + 1) l) ≡ flat_map f (take n l) ++ f x
 flat_taken f l n x is =

@@ -8,18 +8,20 @@ use Rattle.std.proofs.Common.{is_some}
 use Rattle.pg_audit.specs.declared.counters.PmuStats.{PmuStats}
 use Rattle.pg_gateway.specs.State.{SharedMachine, slot_of}
 use Rattle.pg_gateway.specs.Shown.{GatewayShows}
-use Rattle.pg_serve.specs.Inputs.{Fact, Outcome}
-use Rattle.pg_serve.specs.Moments.{Moment, opening, outcome_of, after_turn, after_turns, all_outcomes}
-use Rattle.pg_serve.specs.Full.{full_turn, full_turns, moment_of}
+use Rattle.pg_serve.specs.Inputs.{InputValue, Outcome}
+use Rattle.pg_serve.specs.WorldStates.{WorldState, opening, outcome_of, after_turn, after_turns, all_outcomes}
+use Rattle.pg_serve.specs.Full.{full_turn, full_turns, world_state_of}
 use Rattle.pg_serve.specs.Headline.{OutcomesLossless, HasAnswered, Headline}
 use Rattle.pg_serve.proofs.Determined.{turns_are_full}
 use Rattle.pg_serve.proofs.Isolating.{isolated}
 use Rattle.pg_serve.specs.Shown.{WorldValue, queue_shown, link_counted, session_counted}
 use Rattle.pg_replay.specs.Lines.{Asked, nothing, hands, queue, link_stats, session_stats, asked_in}
-use Rattle.pg_replay.specs.Printing.{Text, output_lines}
-use Rattle.pg_replay.specs.Replaying.{without_end, lines_by, lines_in, asked_of, Took, Does, Runs, PrintsScript, SessionText, handed_over, handed_in, text_at, text_of, refused_line, outputs_lines, queue_text, link_text, session_text}
+use Rattle.pg_lines.specs.Words.{Text}
+use Rattle.pg_answers.specs.Edits.{without_end}
+use Rattle.pg_replay.specs.Printing.{output_lines}
+use Rattle.pg_replay.specs.Replaying.{lines_by, lines_in, asked_of, Took, Does, Runs, PrintsScript, SessionText, handed_over, handed_in, text_at, text_of, refused_line, outputs_lines, queue_text, link_text, session_text}
 use Rattle.pg_replay.specs.Answering.{PrintsSession, DoesAsked, AnswersLine, AnswersScript}
-use Rattle.pg_replay.proofs.PrintLaws.{appends_more}
+use Rattle.pg_answers.proofs.PrintLaws.{appends_more}
 
 pub appends-none : (a : Option (List ℕ)) → Appends a a []
 appends-none None = tt
@@ -37,7 +39,7 @@ does-link w s a b appends = record { told = []; text = link_text (link_counted s
 pub does-session : (w : WorldValue) (u : ℕ) (a b : Option (List ℕ)) → PrintsSession w u a b → DoesAsked w (Some (session_stats u)) a b w
 does-session w u a b prints = record { told = []; text = prints.text; does = (refl, prints.is, refl); appends = prints.appends }
 
-pub does-input : (w v : WorldValue) (f : Fact) (o : Outcome) (a b : Option (List ℕ)) → Took w f (o ∷ []) v → Appends a b (output_lines o) → DoesAsked w (Some (hands f)) a b v
+pub does-input : (w v : WorldValue) (f : InputValue) (o : Outcome) (a b : Option (List ℕ)) → Took w f (o ∷ []) v → Appends a b (output_lines o) → DoesAsked w (Some (hands f)) a b v
 does-input w v f o a b took appends = record {
   told = o ∷ [];
   text = outputs_lines (o ∷ []);
@@ -187,19 +189,19 @@ lossless-front : (xs ys : List Outcome) → OutcomesLossless (xs ++ ys) → Outc
 lossless-front [] ys h = tt
 lossless-front (x ∷ xs) ys h = (h.0, lossless-front xs ys h.1)
 
-outcomes_more : (m : Moment) (fs : List Fact) (f : Fact) → all_outcomes m (full_turns m (fs ++ f ∷ [])) ≡ all_outcomes m (full_turns m fs)
+outcomes_more : (m : WorldState) (fs : List InputValue) (f : InputValue) → all_outcomes m (full_turns m (fs ++ f ∷ [])) ≡ all_outcomes m (full_turns m fs)
     ++ outcome_of (after_turns m (full_turns m fs)) (full_turn (after_turns m (full_turns m fs)) f) ∷ []
 outcomes_more m [] f = refl
 outcomes_more m (g ∷ fs) f = ap (λ os. outcome_of m (full_turn m g) ∷ os) (outcomes_more (after_turn m (full_turn m g)) fs f)
 
--- the moment that a world shows
-shown_moment : (w : WorldValue) (before : List Fact) (had : List Outcome) → OutcomesLossless had → HasAnswered w before had → GatewayShows w.gateway (moment_of before).shared
-shown_moment w before had lossless has =
+-- the state that a world shows
+shown_world_state : (w : WorldValue) (before : List InputValue) (had : List Outcome) → OutcomesLossless had → HasAnswered w before had → GatewayShows w.gateway (world_state_of before).shared
+shown_world_state w before had lossless has =
     let all : has.turns ≡ full_turns opening before = turns_are_full has.turns has.shows.legal (subst OutcomesLossless has.outcomes lossless) ∙ ap (full_turns opening) has.taken in
     subst (λ ts. GatewayShows w.gateway (after_turns opening ts).shared) all has.shows.shows.gateway
 
 -- what a line leaves
-kept_after : (w u : WorldValue) (m : Option Asked) (before : List Fact) (had os : List Outcome) (here : Text) → HasAnswered w before had → Does w m os here u
+kept_after : (w u : WorldValue) (m : Option Asked) (before : List InputValue) (had os : List Outcome) (here : Text) → HasAnswered w before had → Does w m os here u
     → HasAnswered u (before ++ handed_over m) (had ++ os)
 kept_after w u m before had os here has does = by m does
   where
@@ -222,7 +224,7 @@ session_is w n here S None shows text = text.2 ∙ ap refused_line (text.1 S sho
 session_is w n here S (Some s) shows text = text
 
 -- what a line prints
-text_is : (w u : WorldValue) (m : Option Asked) (before : List Fact) (had os : List Outcome) (here : Text) → HasAnswered w before had → Does w m os here u
+text_is : (w u : WorldValue) (m : Option Asked) (before : List InputValue) (had os : List Outcome) (here : Text) → HasAnswered w before had → Does w m os here u
     → OutcomesLossless (had ++ os) → here ≡ text_at before m
 text_is w u m before had os here has does lossless = by m does
   where
@@ -237,16 +239,16 @@ text_is w u m before had os here has does lossless = by m does
     by (Some nothing) d = d.1
     by (Some (hands f)) d =
         let later = isolated u (before ++ f ∷ []) (had ++ os) lossless (d.1 before had has) in
-        let one = outcome_of (moment_of before) (full_turn (moment_of before) f) in
+        let one = outcome_of (world_state_of before) (full_turn (world_state_of before) f) in
         let whole : had ++ os ≡ had ++ one ∷ [] = later.outcomes ∙ outcomes_more opening before f ∙ ap (λ l. l ++ one ∷ []) (sym headline.outcomes) in
         d.0 ∙ ap outputs_lines (append_cancel_left had os (one ∷ []) whole) ∙ append-nil (output_lines one)
     by (Some (queue n)) d = d.1 ∙ ap queue_text (headline.queued n)
     by (Some (link_stats n)) d = d.1 ∙ ap link_text (headline.links n)
     by (Some (session_stats n)) d =
-        session_is w n here (moment_of before).shared (session_counted n w) (shown_moment w before had first has) d.1
-        ∙ ap (session_text (is_some (slot_of n (moment_of before).shared.subs))) (headline.sessions n)
+        session_is w n here (world_state_of before).shared (session_counted n w) (shown_world_state w before had first has) d.1
+        ∙ ap (session_text (is_some (slot_of n (world_state_of before).shared.subs))) (headline.sessions n)
 
-runs_print : (w v : WorldValue) (ms : List (Option Asked)) (before : List Fact) (had told : List Outcome) (text : Text) → HasAnswered w before had → Runs w ms told text v
+runs_print : (w v : WorldValue) (ms : List (Option Asked)) (before : List InputValue) (had told : List Outcome) (text : Text) → HasAnswered w before had → Runs w ms told text v
     → OutcomesLossless (had ++ told) → text ≡ text_of before ms
 runs_print w v [] before had told text has runs lossless = runs.1
 runs_print w v (m ∷ ms) before had told text has runs lossless =
@@ -259,7 +261,7 @@ runs_print w v (m ∷ ms) before had told text has runs lossless =
     runs.6 ∙ ap (λ t. t ++ runs.4) here ∙ ap (λ t. text_at before m ++ t) rest
 
 -- all that was taken and told by then
-runs_answer : (w v : WorldValue) (ms : List (Option Asked)) (before : List Fact) (had told : List Outcome) (text : Text) → HasAnswered w before had → Runs w ms told text v
+runs_answer : (w v : WorldValue) (ms : List (Option Asked)) (before : List InputValue) (had told : List Outcome) (text : Text) → HasAnswered w before had → Runs w ms told text v
     → HasAnswered v (before ++ handed_in ms) (had ++ told)
 runs_answer w v [] before had told text has runs =
     subst (λ u. HasAnswered u (before ++ []) (had ++ told)) (sym runs.2)

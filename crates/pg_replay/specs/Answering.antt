@@ -4,7 +4,7 @@ use Rattle.std.specs.Io.KnownBytes.{Appends}
 use Rattle.pg_serve.specs.Inputs.{Outcome}
 use Rattle.pg_serve.specs.Shown.{WorldValue, session_counted}
 use Rattle.pg_replay.specs.Lines.{Asked, asked_in}
-use Rattle.pg_replay.specs.Printing.{Text}
+use Rattle.pg_lines.specs.Words.{Text}
 use Rattle.pg_replay.specs.Replaying.{SessionText, Does, Runs, asked_of}
 
 pub record PrintsSession (w : WorldValue) (u : ℕ) (old new : Option (List ℕ)) : Type 0 where

@@ -4,9 +4,10 @@ use Rattle.std.specs.Str.{bytes_eq, is_utf8}
 use Rattle.pg_session.specs.Events.{connect, hangup, drain}
 use Rattle.pg_gateway.specs.GatewayEvents.{asks, tick}
 use Rattle.pg_shared.specs.Edits.{edited}
-use Rattle.pg_serve.specs.Inputs.{Fact, fact, link_up, pmu_bytes, sub_bytes, names}
+use Rattle.pg_serve.specs.Inputs.{InputValue, input_value, link_up, pmu_bytes, sub_bytes, names}
 use Rattle.pg_lines.specs.Words.{Text, number_in, pmu_id_in, subscriber_in, frame_in}
 use Rattle.pg_lines.specs.Lines.{words_of, one, two, edit_of}
+use Rattle.pg_answers.specs.Edits.{is_comment}
 use Rattle.pg_replay.specs.declared.lines.Kind.{Kind}
 use Rattle.pg_replay.specs.declared.lines.Kind.TheVariants as kind
 use Rattle.pg_replay.specs.declared.lines.Line.{Line}
@@ -15,7 +16,7 @@ use Rattle.pg_replay.specs.declared.lines.Line.TheVariants as line
 -- nothing, what a world is handed, or something of it that is to be printed
 pub data Asked : Type 0 where
   nothing : Asked
-  hands : Fact → Asked
+  hands : InputValue → Asked
   queue : ℕ → Asked
   link_stats : ℕ → Asked
   session_stats : ℕ → Asked
@@ -23,7 +24,7 @@ pub data Asked : Type 0 where
 -- wherever it lies in memory
 abbrev pub asked : Line → Asked
 asked line.Nothing = nothing
-asked (line.Handed input) = hands (fact input)
+asked (line.Handed input) = hands (input_value input)
 asked (line.Queue u) = queue u
 asked (line.LinkStats s) = link_stats s
 asked (line.SessionStats u) = session_stats u
@@ -64,11 +65,6 @@ words_ask (verb ∷ ws) line = line_of (kind_of verb) ws line
 -- what a text asks for, or nothing that a line may
 abbrev pub text_asks : Text → Option Asked
 text_asks line = words_ask (words_of line) line
-
--- the first byte that is no space (32) is `#` (35)
-abbrev pub is_comment : Text → Bool
-is_comment [] = false
-is_comment (b ∷ bs) = if b == 32 then is_comment bs else (b == 35)
 
 -- what a line asks for: a comment nothing, whatever its bytes are, and else only a text anything
 abbrev pub asked_in : List ℕ → Option Asked

@@ -1,7 +1,7 @@
 -- What a replay prints of a script.
 use Rattle.std.specs.Prelude.{◌≡◌, ℕ, zero, suc, List, [], ◌∷◌, ◌++◌, length, map, codes, Option, Some, None, is_some, if◌then◌else◌, Bool, true}
 use Rattle.std.specs.List.{flat_map}
-use Rattle.std.specs.Io.BufRead.{first_line, drop_through, ends_with_byte, strip_last}
+use Rattle.std.specs.Io.BufRead.{first_line, drop_through}
 use Rattle.std.specs.Io.KnownBytes.{Appends}
 use Rattle.pg_wire.specs.declared.refusal.Refusal.{Refusal}
 use Rattle.pg_wire.specs.declared.refusal.Refusal.TheVariants.{BadLine, NoSuchPmu, NoSuchSub}
@@ -10,17 +10,15 @@ use Rattle.pg_ring.specs.Shown.{Queue}
 use Rattle.pg_gateway.specs.State.{SharedMachine, slot_of}
 use Rattle.pg_gateway.specs.Views.{private_run}
 use Rattle.pg_gateway.specs.Shown.{GatewayShows}
-use Rattle.pg_serve.specs.Inputs.{Fact, Outcome}
-use Rattle.pg_serve.specs.Moments.{absence, outcome_of}
+use Rattle.pg_serve.specs.Inputs.{InputValue, Outcome}
+use Rattle.pg_serve.specs.WorldStates.{absence, outcome_of}
 use Rattle.pg_serve.specs.Shown.{WorldValue, queue_shown, link_counted, session_counted}
-use Rattle.pg_serve.specs.Full.{full_turn, moment_of, queue_of, view_of, link_counts_of, session_counts_of}
+use Rattle.pg_serve.specs.Full.{full_turn, world_state_of, queue_of, view_of, link_counts_of, session_counts_of}
 use Rattle.pg_serve.specs.Headline.{OutcomesLossless, HasAnswered}
 use Rattle.pg_replay.specs.Lines.{Asked, nothing, hands, queue, link_stats, session_stats, asked_in}
-use Rattle.pg_replay.specs.Printing.{Text, refusal_line, queue_lines, counters_line, output_lines}
-
--- a line without its LF, and without one CR before that
-abbrev pub without_end : Text → Text
-without_end line = if ends_with_byte 10 line then strip_last 13 (strip_last 10 line) else line
+use Rattle.pg_lines.specs.Words.{Text}
+use Rattle.pg_answers.specs.Printing.{refusal_line, counters_line}
+use Rattle.pg_replay.specs.Printing.{queue_lines, output_lines}
 
 -- at most so many lines of a script; LF ends a line, and the last may have none
 abbrev pub lines_by : ℕ → Text → List Text
@@ -59,8 +57,8 @@ outputs_lines told = flat_map output_lines told
 -- ---- one line
 
 -- A world took an input, and so answered: whatever it took and told before.
-abbrev pub Took : WorldValue → Fact → List Outcome → WorldValue → Type 0
-Took w f told v = (inputs : List Fact) (before : List Outcome) → HasAnswered w inputs before → HasAnswered v (inputs ++ f ∷ []) (before ++ told)
+abbrev pub Took : WorldValue → InputValue → List Outcome → WorldValue → Type 0
+Took w f told v = (inputs : List InputValue) (before : List Outcome) → HasAnswered w inputs before → HasAnswered v (inputs ++ f ∷ []) (before ++ told)
 
 -- a session's counters, or why the subscriber has none
 abbrev pub SessionText : WorldValue → ℕ → Text → Option PmuStats → Type 0
@@ -89,15 +87,15 @@ Runs w (m ∷ ms) told text v =
 -- ---- a script
 
 -- what a line that asks for this prints, behind lines that handed over these inputs, where no memory is refused
-abbrev pub text_at : List Fact → Option Asked → Text
+abbrev pub text_at : List InputValue → Option Asked → Text
 text_at before None = refused_line BadLine
 text_at before (Some nothing) = []
-text_at before (Some (hands f)) = output_lines (outcome_of (moment_of before) (full_turn (moment_of before) f))
+text_at before (Some (hands f)) = output_lines (outcome_of (world_state_of before) (full_turn (world_state_of before) f))
 text_at before (Some (queue u)) = queue_text (queue_of (private_run None (view_of u before)))
 text_at before (Some (link_stats s)) = link_text (link_counts_of s before)
-text_at before (Some (session_stats u)) = session_text (is_some (slot_of u (moment_of before).shared.subs)) (session_counts_of u before)
+text_at before (Some (session_stats u)) = session_text (is_some (slot_of u (world_state_of before).shared.subs)) (session_counts_of u before)
 
-abbrev pub handed_over : Option Asked → List Fact
+abbrev pub handed_over : Option Asked → List InputValue
 handed_over None = []
 handed_over (Some nothing) = []
 handed_over (Some (hands f)) = f ∷ []
@@ -106,11 +104,11 @@ handed_over (Some (link_stats s)) = []
 handed_over (Some (session_stats u)) = []
 
 -- the inputs that lines hand over, in their order
-abbrev pub handed_in : List (Option Asked) → List Fact
+abbrev pub handed_in : List (Option Asked) → List InputValue
 handed_in ms = flat_map handed_over ms
 
 -- all that lines print
-abbrev pub text_of : List Fact → List (Option Asked) → Text
+abbrev pub text_of : List InputValue → List (Option Asked) → Text
 text_of before [] = []
 text_of before (m ∷ ms) = text_at before m ++ text_of (before ++ handed_over m) ms
 

@@ -7,6 +7,5 @@ mod lines;
 mod reading;
 mod script;
 
-pub use answers::{NotPrinted, print_output, print_refusal, print_reply};
-pub use lines::{Line, read_line, without_end};
+pub use lines::{Line, read_line};
 pub use script::{Fault, replay};

@@ -2,9 +2,9 @@
 ghost use Rattle.std.specs.Prelude.{◌≡◌, ◌≢◌, ◌⊎◌, IfOk, IfErr, Some, None, map, option_map};
 ghost use Rattle.pg_lines.specs.Words.{number_in, pmu_id_in, subscriber_in};
 ghost use Rattle.pg_lines.specs.Lines.{one, two};
-ghost use Rattle.pg_replay.specs.Replaying.{without_end};
-ghost use Rattle.pg_replay.specs.Lines.{asked_in, asked, is_comment, kind_of, line_by, text_asks};
+ghost use Rattle.pg_replay.specs.Lines.{asked_in, asked, kind_of, line_by, text_asks};
 
+use pg_answers::is_comment;
 use pg_lines::words::{self, frame_bytes};
 use pg_lines::{parse_line, words_of};
 use pg_serve::Input;
@@ -63,17 +63,6 @@ impl Kind {
     }
 }
 
-/// The line without its LF and one CR before that.
-pub fn without_end(line: &[u8]) -> &[u8]
-    ensures value { result.now ≡ without_end line.now }
-{
-    match line {
-        [rest @ .., b'\r', b'\n'] => rest,
-        [rest @ .., b'\n'] => rest,
-        _ => line,
-    }
-}
-
 /// What a line asks for. An empty line asks for nothing, and so does a comment, whose first word begins with `#`, whatever
 /// its bytes are. Words are separated by spaces, and spaces at either end are ignored.
 ///
@@ -91,18 +80,6 @@ pub fn read_line(alloc: Global, line: &[u8]) -> Result<Line, Refusal>
         return Err(Refusal::BadLine);
     };
     read_text(alloc, text)
-}
-
-/// Whether the first word begins with `#`.
-fn is_comment(line: &[u8]) -> bool
-    ensures value { result ≡ is_comment line.now }
-{
-    for byte in line {
-        if *byte != b' ' {
-            return *byte == b'#';
-        }
-    }
-    false
 }
 
 /// What a text asks for.

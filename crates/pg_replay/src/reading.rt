@@ -21,7 +21,7 @@ fn len_through(bytes: &[u8]) -> usize
     }
 }
 
-/// Appends what the reader has at hand, up to and including the first LF, and tells whether the line ends there.
+/// Appends what the reader has at hand, up to and including the first LF, and returns whether the line ends there.
 fn append_piece<B: BufRead>(reader: &mut B, buf: &mut Vec<u8>) -> io::Result<bool>
     ensures grows { vec_len buf.old ≤ vec_len buf.new }
     ensures appends { StartsWith buf.new.items buf.old.items }
@@ -49,7 +49,7 @@ fn append_piece<B: BufRead>(reader: &mut B, buf: &mut Vec<u8>) -> io::Result<boo
     Ok(is_done)
 }
 
-/// Appends the next line with its LF, and tells how many bytes it has: 0 at the reader's end.
+/// Appends the next line with its LF, and returns how many bytes it has: 0 at the reader's end.
 pub(crate) fn read_line_bytes<B: BufRead>(reader: &mut B, buf: &mut Vec<u8>) -> io::Result<usize>
     ensures ok { IfOk result (λ n. vec_len buf.new ≡ vec_len buf.old + n) }
     ensures bytes { OnOk result (IfSome (B.remaining reader.old) (λ xs. buf.new.items ≡ buf.old.items ++ take_through 10 xs)) }

@@ -2,16 +2,17 @@
 
 ghost use Rattle.std.specs.Prelude.{◌≡◌, Some, OnOk};
 ghost use Rattle.std.specs.Io.KnownBytes.{Appends};
-ghost use Rattle.pg_serve.specs.Inputs.{fact};
+ghost use Rattle.pg_serve.specs.Inputs.{input_value};
 ghost use Rattle.pg_serve.specs.Shown.{queue_shown, link_counted};
 ghost use Rattle.pg_replay.specs.Faults.{told_as, fault_of};
 ghost use Rattle.pg_replay.specs.Lines.{asked, hands};
 ghost use Rattle.pg_replay.specs.Replaying.{Prints, queue_text, link_text};
 ghost use Rattle.pg_replay.specs.Answering.{AnswersAll, AnswersLine, PrintsSession, DoesAsked};
 
-use crate::answers::{NotPrinted, print_counters, print_output, print_queue, print_refusal};
-use crate::lines::{Line, read_line, without_end};
+use crate::answers::{print_output, print_queue};
+use crate::lines::{Line, read_line};
 use crate::reading::read_line_bytes;
+use pg_answers::{NotPrinted, print_counters, print_refusal, without_end};
 use pg_serve::{Input, Output, World};
 use pg_wire::{PmuId, Refusal, SubId};
 use std::alloc::Global;
@@ -34,7 +35,7 @@ pub enum Fault {
 }
 
 impl Fault {
-    /// The refusal by whose number and name it is told.
+    /// The refusal by whose number and name it is printed.
     pub fn refusal(self) -> Refusal
         ensures value { result ≡ told_as self }
     {
@@ -139,7 +140,7 @@ impl Script {
     /// Hands the world an input, and prints what that comes to.
     #[inline(always)]
     fn run<W: Write>(&mut self, input: &Input, out: &mut W) -> Result<(), Fault>
-        ensures does { OnOk result (DoesAsked self.old.world (Some (hands (fact input.now))) (W.contents out.old) (W.contents out.new) self.new.world) }
+        ensures does { OnOk result (DoesAsked self.old.world (Some (hands (input_value input.now))) (W.contents out.old) (W.contents out.new) self.new.world) }
     {
         match self.world.take(input, &mut self.output) {
             Ok(()) => print_output(self.alloc, out, &self.output)?,

@@ -17,7 +17,7 @@ use std::mem;
 const MOST_SPARES: usize = 64;
 
 /// What waits to be handed to a subscriber: the rest of the frame in hand, up to 8 replies, and a ring of data frames
-/// that is bounded by frames and by bytes (own rule). A frame of which one byte was handed out is in hand: it has left
+/// that is bounded by frames and by bytes. A frame of which one byte was handed out is in hand: it has left
 /// its queue, is never dropped, and counts towards no limit. Only `new` takes memory. The memory of data frames that went, dropped or
 /// handed out, is kept for the next ones.
 #[derive(Drop)]

@@ -3,7 +3,7 @@ ghost use Rattle.std.specs.Prelude.{◌≡◌, ◌≤◌, ◌<◌, ◌&&◌, nat
 
 use std::marker::Model;
 
-/// How many data frames a subscriber's ring holds: 1 to 1,024 (own rule).
+/// How many data frames a subscriber's ring holds: 1 to 1,024.
 #[derive(Clone, Copy, Debug, PartialEq, Eq)]
 pub struct RingSize {
     count: u16,
@@ -43,7 +43,7 @@ impl RingSize {
     }
 }
 
-/// How many bytes the data frames in a subscriber's ring have together at most: 16 to 16,777,216 (own rule). The
+/// How many bytes the data frames in a subscriber's ring have together at most: 16 to 16,777,216. The
 /// frame in hand and the replies don't count.
 #[derive(Clone, Copy, Debug, PartialEq, Eq)]
 pub struct RingBytes {

@@ -1,4 +1,4 @@
 -- Definitions that the contracts of the running program cite.
 pub mod Limits
-pub mod Doors
+pub mod OpenedPorts
 pub mod Kinds

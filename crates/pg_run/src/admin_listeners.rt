@@ -56,7 +56,7 @@ impl AdminListeners {
     }
 }
 
-/// Serves what was opened, and tells the log of it.
+/// Serves what was opened, and writes it to the log.
 pub(crate) fn opened<
     'a,
     R: Wait + Clock + Net<Listener = TcpListener, Stream = TcpStream>,

@@ -37,7 +37,7 @@ pub(crate) struct Place<'a> {
 }
 
 impl<'a> Place<'a> {
-    /// For who answers lines.
+    /// For the answers to lines.
     pub(crate) fn in_force<R: Net + Clock>(self, rt: &'a R) -> SetupManager<'a, R> {
         SetupManager::new(rt, self.files, self.file, self.setup, self.turn)
     }
@@ -189,7 +189,7 @@ fn callers<'a, R: Wait + Net + Clock, N: Named>(
     Ok((rest, made))
 }
 
-/// Adds the workers that serve subscribers, one for each of these waits. Each port is given to one of them, in turn, and told to the log.
+/// Adds the workers that serve subscribers, one for each of these waits. Each port is given to one of them, in turn, and written to the log.
 fn add_servers<'a, R: Runtime, N: Named>(
     context: &WorkerContext<'a, R>,
     seat: Seat,
@@ -254,7 +254,7 @@ fn servers<'a, R: Wait + Net + Clock, N: Named>(
     Ok((rest, made))
 }
 
-/// Tells the log where each subscriber may connect.
+/// Writes to the log where each subscriber may connect.
 fn tell_ports<R: Wait + Clock>(rt: &R, journal: &Journal, ports: &[Port]) {
     for port in ports {
         if let Ok(address) = port.address() {

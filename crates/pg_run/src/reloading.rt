@@ -5,13 +5,13 @@ use crate::running::{connection_rules, dial_by, rules_of};
 use crate::workers::told_as;
 use log::LevelFilter;
 use mio::net::TcpListener as PortListener;
+use pg_answers::{NotPrinted, print_refusal};
 use pg_check::check_setup;
 use pg_console::{Console, ServiceHandle};
 use pg_gateway::{Gate, Reply};
 use pg_log::{Asked, Detail, Entry, Journal, LogEvent, Subject, system_words};
 use pg_operator::{LogLevel, Setup, SourceRules, read_setup};
 use pg_reload::{Call, Changes, Order, Port, Restart, changes_between};
-use pg_replay::{Fault, print_refusal};
 use pg_service::MeteredGate;
 use pg_wire::{PmuId, Refusal, SubId};
 use std::alloc::Global;
@@ -74,29 +74,29 @@ impl<R: Net + Clock> SetupManager<'_, R> {
     }
 
     /// The setup that the file has now. Where it has none that can run, that is answered.
-    fn read<W: Write>(&self, alloc: Global, out: &mut W) -> Result<Option<NewSetup>, Fault> {
+    fn read<W: Write>(&self, alloc: Global, out: &mut W) -> Result<Option<NewSetup>, NotPrinted> {
         let bytes = match self.contents(alloc) {
             Ok(bytes) => bytes,
             Err(error) => {
                 let why = system_words(error.kind());
-                write_all(writeln!(out, "{}: can't be read: {why}", self.file))?;
+                writeln!(out, "{}: can't be read: {why}", self.file)?;
                 print_refusal(out, "refused", told_as(error))?;
                 return Ok(None);
             }
         };
         let Ok(text) = str::from_utf8(bytes.as_slice()) else {
-            write_all(writeln!(
+            writeln!(
                 out,
                 "{}: is no text; a setup file is TOML in UTF-8",
                 self.file
-            ))?;
+            )?;
             print_refusal(out, "refused", Refusal::BadSetup)?;
             return Ok(None);
         };
         let has_warnings = match check_setup(alloc, self.file, text) {
             Ok(checked) => !checked.warnings.is_empty(),
             Err(trouble) => {
-                write_all(write!(out, "{}", trouble.told.as_str()))?;
+                write!(out, "{}", trouble.told.as_str())?;
                 print_refusal(out, "refused", trouble.refusal)?;
                 return Ok(None);
             }
@@ -199,7 +199,7 @@ impl Report {
         }
     }
 
-    /// An edit that asks for this was answered so. Where it was refused, a line says whom it concerns, what was asked for, and why.
+    /// An edit that asks for this was answered so. Where it was refused, a line says which one it concerns, what was asked for, and why.
     fn edited(&mut self, asked: Option<(Subject, Asked)>, reply: &Reply) {
         let (Reply::Refused(refusal), Some((subject, asked))) = (reply, asked) else {
             self.edits = self.edits.saturating_add(1);
@@ -243,18 +243,19 @@ impl Report {
     }
 
     /// Prints what was done, and in the lines before it what was not.
-    fn print<W: Write>(&self, out: &mut W) -> Result<(), Fault> {
-        write_all(out.write_all(&self.lines))?;
+    fn print<W: Write>(&self, out: &mut W) -> Result<(), NotPrinted> {
+        out.write_all(&self.lines)?;
         if !self.is_whole {
             print_refusal(out, "refused", Refusal::NoMemory)?;
         }
         let (edits, orders) = (self.edits, self.orders);
         let edit = if edits == 1 { "edit" } else { "edits" };
         let change = if orders == 1 { "change" } else { "changes" };
-        write_all(writeln!(
+        writeln!(
             out,
             "reloaded: {edits} {edit}, {orders} {change} of connections and ports"
-        ))
+        )?;
+        Ok(())
     }
 }
 
@@ -316,13 +317,13 @@ impl<R: Net + Clock> SetupManager<'_, R> {
     ///
     /// # Errors
     ///
-    /// `Fault::Write` where an answer can't be written.
+    /// Those of `print_refusal` where an answer can't be printed.
     pub(crate) fn renew<W: Write, Q: Wait + Clock, G: Gate>(
         &self,
         rt: &Q,
         console: &mut Console<'_, W>,
         gate: &mut MeteredGate<G>,
-    ) -> Result<(), Fault> {
+    ) -> Result<(), NotPrinted> {
         let alloc = console.alloc();
         let journal = console.service().handles.journal;
         let Some(
@@ -381,15 +382,7 @@ impl<R: Net + Clock> SetupManager<'_, R> {
     }
 }
 
-/// Whether it could be written.
-pub(crate) fn write_all(written: io::Result<()>) -> Result<(), Fault> {
-    match written {
-        Ok(()) => Ok(()),
-        Err(_) => Err(Fault::Write),
-    }
-}
-
-/// What the log tells by a setup.
+/// What the log has by a setup.
 pub(crate) fn filter_of(level: LogLevel) -> LevelFilter {
     match level {
         LogLevel::Error => LevelFilter::Error,

@@ -2,7 +2,7 @@
 
 ghost use Rattle.std.specs.Prelude.{◌≡◌, IfOk, IfSome, map, option_map};
 ghost use Rattle.std.specs.Duration.{as_nanos};
-ghost use Rattle.pg_run.specs.Doors.{opened_by};
+ghost use Rattle.pg_run.specs.OpenedPorts.{opened_by};
 ghost use Rattle.pg_run.specs.Limits.{guards_by, limit_of};
 
 use crate::admin_listeners::AdminListeners;
@@ -184,7 +184,7 @@ fn plan_of<R: Net + Clock>(
         links,
         sources,
         ports,
-        doors,
+        port_rules,
         tick_ms,
         ingest,
         serve,
@@ -197,7 +197,7 @@ fn plan_of<R: Net + Clock>(
         Err(error) => return Err(Failure::Refused(told_as(error))),
     };
     let plan = Plan {
-        ports: ports_of(rt, alloc, port_plans(alloc, &ports, doors)?)?,
+        ports: ports_of(rt, alloc, port_plans(alloc, &ports, port_rules)?)?,
         dials: dials_of(alloc, &links, &sources)?,
         openings: AdminListeners::of(rt, files, &control, status)?,
         tick: Duration::from_millis(u64::from(tick_ms)),
@@ -264,14 +264,14 @@ struct PortPlan {
 fn port_plans(
     alloc: Global,
     ports: &[(SubId, u16)],
-    doors: Vec<PortRules>,
+    port_rules: Vec<PortRules>,
 ) -> Result<Vec<PortPlan>, Refusal>
     ensures subs { IfOk result (λ plans. map (λ p. p.sub) plans.items ≡ map (λ x. x.0) ports.now) }
     ensures ports { IfOk result (λ plans. map (λ p. p.port) plans.items ≡ map (λ x. x.1) ports.now) }
     ensures rules { IfOk result (λ plans. map (λ p. p.rules.sub) plans.items ≡ map (λ x. x.0) ports.now) }
 {
     let mut plans = Vec::new(alloc);
-    let mut rest = doors.into_iter();
+    let mut rest = port_rules.into_iter();
     'ports: for port in ports {
         let Some(rules) = rest.next() else {
             return Err(Refusal::BadSetup);
@@ -351,10 +351,10 @@ pub(crate) fn rules_of(sources: &[SourceRules], source: PmuId) -> Option<SourceR
 }
 
 /// The rules of this subscriber's port, by the setup.
-pub(crate) fn door_of(doors: &[PortRules], sub: SubId) -> Option<&PortRules>
+pub(crate) fn port_rules_of(port_rules: &[PortRules], sub: SubId) -> Option<&PortRules>
     ensures own { IfSome result (λ rules. rules.now.sub ≡ sub) }
 {
-    doors.iter().find(|it| it.sub == sub)
+    port_rules.iter().find(|it| it.sub == sub)
 }
 
 /// The sources that are called, in their order, each at its address and by its rules.

@@ -45,7 +45,7 @@ pub(crate) struct SharedState {
     pub(crate) registered: Mutex<Directory>,
 }
 
-/// What workers wait with and are told by.
+/// What workers wait with and get orders by.
 #[derive(Drop)]
 struct Boxes {
     sources: Vec<Mailbox<SourceOrder>>,
@@ -133,7 +133,7 @@ fn workers_of<'a, R: Runtime, N: Named>(
     make_workers(&context, seat, plan, waits, lines)
 }
 
-/// What the workers of this plan wait with, and the mailboxes by which they are told.
+/// What the workers of this plan wait with, and the mailboxes by which they get orders.
 fn waits_of<R: Net>(rt: &R, alloc: Global, plan: &Plan) -> Result<(Waits, Boxes), Refusal> {
     let (source_waits, sources) = mailboxes(rt, alloc, plan.ingest)?;
     let (port_waits, ports) = mailboxes(rt, alloc, plan.serve)?;

@@ -1,15 +1,15 @@
 //! Lines about the sources and ports of the running service.
 
-use crate::reloading::{SetupManager, write_all};
-use crate::running::{connection_rules, dial_to, door_of};
+use crate::reloading::SetupManager;
+use crate::running::{connection_rules, dial_to, port_rules_of};
 use crate::workers::told_as;
+use pg_answers::{NotPrinted, print_refusal};
 use pg_console::{Console, ServiceCommands};
 use pg_gateway::{Event, Gate, Reply};
 use pg_limits::{Allow, OnChange};
 use pg_lines::Steer;
 use pg_log::system_words;
 use pg_operator::PortRules;
-use pg_replay::{Fault, print_refusal};
 use pg_service::{Address, MeteredGate};
 use pg_wire::{PmuId, Refusal, SubId};
 use std::alloc::Global;
@@ -51,7 +51,7 @@ impl<R: Net + Clock> SetupManager<'_, R> {
         address: Ipv4Addr,
     ) -> Result<PortRules, Refusal> {
         let setup = self.setup.lock(rt);
-        let Some(door) = door_of(&setup.doors, sub) else {
+        let Some(rules) = port_rules_of(&setup.port_rules, sub) else {
             return Ok(PortRules {
                 sub,
                 address,
@@ -62,7 +62,7 @@ impl<R: Net + Clock> SetupManager<'_, R> {
                 change: OnChange::Safe,
             });
         };
-        let networks = match &door.allow.networks {
+        let networks = match &rules.allow.networks {
             Some(networks) => Some(Vec::from_slice(alloc, networks.as_slice())?),
             None => None,
         };
@@ -70,10 +70,10 @@ impl<R: Net + Clock> SetupManager<'_, R> {
             sub,
             address,
             allow: Allow { networks },
-            takeover: door.takeover,
-            stall: door.stall,
-            idle: door.idle,
-            change: door.change,
+            takeover: rules.takeover,
+            stall: rules.stall,
+            idle: rules.idle,
+            change: rules.change,
         })
     }
 
@@ -86,7 +86,7 @@ impl<R: Net + Clock> SetupManager<'_, R> {
         sub: SubId,
         port: u16,
         host: Ipv4Addr,
-    ) -> Result<Result<(), Refusal>, Fault> {
+    ) -> Result<Result<(), Refusal>, NotPrinted> {
         if let Reply::Refused(refusal) = gate.post(Event::Stats(sub)) {
             return Ok(Err(refusal));
         }
@@ -104,10 +104,10 @@ impl<R: Net + Clock> SetupManager<'_, R> {
             }
             Err(error) => {
                 let (number, why) = (sub.get(), system_words(error.kind()));
-                write_all(writeln!(
+                writeln!(
                     console.out_mut(),
                     "subscriber {number}: port {address}: {why}"
-                ))?;
+                )?;
                 Ok(Err(told_as(error)))
             }
         }
@@ -120,7 +120,7 @@ impl<R: Net + Clock> ServiceCommands for SetupManager<'_, R> {
         rt: &Q,
         console: &mut Console<'_, W>,
         gate: &mut MeteredGate<G>,
-    ) -> Result<(), Fault> {
+    ) -> Result<(), NotPrinted> {
         self.renew(rt, console, gate)
     }
 
@@ -130,7 +130,7 @@ impl<R: Net + Clock> ServiceCommands for SetupManager<'_, R> {
         console: &mut Console<'_, W>,
         gate: &mut MeteredGate<G>,
         steer: Steer,
-    ) -> Result<(), Fault> {
+    ) -> Result<(), NotPrinted> {
         let mut done = Ok(());
         match steer {
             Steer::Dial(source, address) => done = self.dial(rt, console, source, address),
@@ -142,11 +142,9 @@ impl<R: Net + Clock> ServiceCommands for SetupManager<'_, R> {
             Steer::Disconnect(sub) => console.service().hang_up(rt, sub),
         }
         match done {
-            Ok(()) => write_all(writeln!(console.out_mut(), "done 0 0")),
-            Err(refusal) => {
-                print_refusal(console.out_mut(), "refused", refusal)?;
-                Ok(())
-            }
+            Ok(()) => writeln!(console.out_mut(), "done 0 0")?,
+            Err(refusal) => print_refusal(console.out_mut(), "refused", refusal)?,
         }
+        Ok(())
     }
 }

@@ -47,7 +47,7 @@ impl<'a> StoppableStdin<'a> {
         })
     }
 
-    /// Waits until something is there to be read, and tells whether it is: else all workers are to end.
+    /// Waits until something is there to be read, and returns whether it is: else all workers are to end.
     fn waits(&mut self) -> io::Result<bool> {
         if !self.is_waited_for {
             return Ok(!self.stop.load(Ordering::SeqCst));

@@ -34,12 +34,12 @@ use Rattle.pg_gateway.specs.Histories.{state_after}
 use Rattle.pg_gateway.specs.Views.{takes, unless_refused, full_told, private_run, as_seen, share_seen, part_of, full_by, full_answer, shared_step}
 use Rattle.pg_gateway.proofs.SlotLaws.{Alone, SameNumbers, Alone-same, Alone-removed, same_itself, lookup-removed, owned}
 use Rattle.pg_gateway.proofs.ViewLaws.{full_own, own_full, own-step, Alone-next}
-use Rattle.pg_serve.specs.Inputs.{Fact, link_up, pmu_bytes, sub_bytes, names}
-use Rattle.pg_serve.specs.Dues.{Due, posts, ignores_frame, closes, refuses, pairs_of, item_due, hang_up, session_grows, told_due, link_due, close}
-use Rattle.pg_serve.specs.Moments.{SourceLinkPast, Moment, opening, is_done, is_done_so, has_source, new_source_link, lines_by, put_line, put_fed, fed_more, all_given, line_after, after_turn, after_turns, heard_due, up_due}
+use Rattle.pg_serve.specs.Inputs.{InputValue, link_up, pmu_bytes, sub_bytes, names}
+use Rattle.pg_serve.specs.Actions.{Action, posts, ignores_frame, closes, refuses, pairs_of, item_action, hang_up, session_grows, told_action, link_action, close}
+use Rattle.pg_serve.specs.WorldStates.{SourceLinkPast, WorldState, opening, is_done, is_done_so, has_source, new_source_link, lines_by, put_line, put_fed, fed_more, all_given, line_after, after_turn, after_turns, heard_action, up_action}
 use Rattle.pg_serve.proofs.Lines.{no_rest}
 use Rattle.pg_serve.proofs.Taking.{grows}
-use Rattle.pg_serve.specs.Full.{full_deeds, after_due, told_more, told_dues, full_turn, full_turns, moment_of}
+use Rattle.pg_serve.specs.Full.{full_effects, after_action, told_more, told_actions, full_turn, full_turns, world_state_of}
 
 abbrev pub connected_in : Option Model → Bool
 connected_in o = option_map_or (λ p. p.connected) o false
@@ -446,7 +446,7 @@ adds_sub S w size bytes u alone = ap connected_in (own-step u S (add_sub w size 
         rw same (sym (ap (λ o. connected_in (option_map (λ s. s.own) o)) (none_of (slot_of u S.subs) (ap (λ v. is_some (slot_of v S.subs)) (eqb-true u w same) ∙ is))))
     by false is false false other = rw other refl
 
--- ---- moments
+-- ---- states
 
 -- no session's bytes broke
 abbrev AllWhole : List (ℕ × List ℕ) → Type 0
@@ -486,7 +486,7 @@ whole_insert u (x ∷ xs) whole = by (nat_eq u x.0) (whole_insert u xs whole.1)
     by false rest = (whole.0, rest)
 
 -- Lines and sessions are where they belong.
-pub record Belongs (m : Moment) : Type 0 where
+pub record Belongs (m : WorldState) : Type 0 where
   pub alone : Alone m.shared.subs
   pub lines_alone : Alone m.lines
   pub fed_alone : Alone m.fed
@@ -517,42 +517,42 @@ stays_then S T R first then_so = record {
   connected = λ u. then_so.connected u ∙ first.connected u;
 }
 
-abbrev KeepsDue : Due → Type 0
-KeepsDue (posts e) = KeepsKeys e × KeepsSessions e
-KeepsDue (ignores_frame r) = Unit {0}
-KeepsDue (closes r) = Unit {0}
-KeepsDue (refuses r) = Unit {0}
+abbrev KeepsAction : Action → Type 0
+KeepsAction (posts e) = KeepsKeys e × KeepsSessions e
+KeepsAction (ignores_frame r) = Unit {0}
+KeepsAction (closes r) = Unit {0}
+KeepsAction (refuses r) = Unit {0}
 
-abbrev KeepDues : List Due → Type 0
-KeepDues [] = Unit {0}
-KeepDues (d ∷ dues) = KeepsDue d × KeepDues dues
+abbrev KeepActions : List Action → Type 0
+KeepActions [] = Unit {0}
+KeepActions (d ∷ actions) = KeepsAction d × KeepActions actions
 
--- the state that dues leave
-abbrev run_dues : SharedMachine → List Due → SharedMachine
-run_dues S [] = S
-run_dues S (d ∷ dues) = run_dues (after_due S d) dues
+-- the state that actions leave
+abbrev run_actions : SharedMachine → List Action → SharedMachine
+run_actions S [] = S
+run_actions S (d ∷ actions) = run_actions (after_action S d) actions
 
-run_is : (S : SharedMachine) (dues : List Due) → state_after S (pairs_of (full_deeds S dues)) ≡ run_dues S dues
+run_is : (S : SharedMachine) (actions : List Action) → state_after S (pairs_of (full_effects S actions)) ≡ run_actions S actions
 run_is S [] = refl
-run_is S (posts e ∷ dues) = run_is (shared_step S e) dues
-run_is S (ignores_frame r ∷ dues) = run_is S dues
-run_is S (closes r ∷ dues) = run_is S dues
-run_is S (refuses r ∷ dues) = run_is S dues
+run_is S (posts e ∷ actions) = run_is (shared_step S e) actions
+run_is S (ignores_frame r ∷ actions) = run_is S actions
+run_is S (closes r ∷ actions) = run_is S actions
+run_is S (refuses r ∷ actions) = run_is S actions
 
-run-append : (S : SharedMachine) (ds es : List Due) → run_dues S (ds ++ es) ≡ run_dues (run_dues S ds) es
+run-append : (S : SharedMachine) (ds es : List Action) → run_actions S (ds ++ es) ≡ run_actions (run_actions S ds) es
 run-append S [] es = refl
-run-append S (d ∷ ds) es = run-append (after_due S d) ds es
+run-append S (d ∷ ds) es = run-append (after_action S d) ds es
 
-run_stays : (S : SharedMachine) (dues : List Due) → Alone S.subs → KeepDues dues → Stays S (run_dues S dues)
+run_stays : (S : SharedMachine) (actions : List Action) → Alone S.subs → KeepActions actions → Stays S (run_actions S actions)
 run_stays S [] alone keep = stays_itself S alone
-run_stays S (posts e ∷ dues) alone keep =
+run_stays S (posts e ∷ actions) alone keep =
     let first = stays_step S e alone keep.0.0 keep.0.1 in
-    stays_then S (shared_step S e) (run_dues (shared_step S e) dues) first (run_stays (shared_step S e) dues first.alone keep.1)
-run_stays S (ignores_frame r ∷ dues) alone keep = run_stays S dues alone keep.1
-run_stays S (closes r ∷ dues) alone keep = run_stays S dues alone keep.1
-run_stays S (refuses r ∷ dues) alone keep = run_stays S dues alone keep.1
+    stays_then S (shared_step S e) (run_actions (shared_step S e) actions) first (run_stays (shared_step S e) actions first.alone keep.1)
+run_stays S (ignores_frame r ∷ actions) alone keep = run_stays S actions alone keep.1
+run_stays S (closes r ∷ actions) alone keep = run_stays S actions alone keep.1
+run_stays S (refuses r ∷ actions) alone keep = run_stays S actions alone keep.1
 
-keep_told : (items : List link.Item) (more : List Due) → KeepDues more → KeepDues (map told_due items ++ more)
+keep_told : (items : List link.Item) (more : List Action) → KeepActions more → KeepActions (map told_action items ++ more)
 keep_told [] more keep = keep
 keep_told (link.announces config ∷ items) more keep = ((tt, tt), keep_told items more keep)
 keep_told (link.measures m ∷ items) more keep = ((tt, tt), keep_told items more keep)
@@ -561,21 +561,21 @@ keep_told (link.rejects_config r ∷ items) more keep = (tt, keep_told items mor
 keep_told (link.rejects_data r ∷ items) more keep = (tt, keep_told items more keep)
 keep_told (link.passes_over ∷ items) more keep = (tt, keep_told items more keep)
 
-keep_close : (broken : Option Refusal) → KeepDues (close broken)
+keep_close : (broken : Option Refusal) → KeepActions (close broken)
 keep_close None = tt
 keep_close (Some r) = (tt, tt)
 
-keep_items : (u : ℕ) (items : List Item) → KeepDues (map (item_due u) items)
+keep_items : (u : ℕ) (items : List Item) → KeepActions (map (item_action u) items)
 keep_items u [] = tt
 keep_items u (commands c ∷ items) = ((tt, tt), keep_items u items)
 keep_items u (ignores r ∷ items) = (tt, keep_items u items)
 
--- a moment whose sources and connections stay
-moment_stays : (m : Moment) (T : SharedMachine) (lines : List (ℕ × SourceLinkPast)) (fed : List (ℕ × List ℕ)) → Belongs m → Stays m.shared T
+-- a state whose sources and connections stay
+world_state_stays : (m : WorldState) (T : SharedMachine) (lines : List (ℕ × SourceLinkPast)) (fed : List (ℕ × List ℕ)) → Belongs m → Stays m.shared T
     → Alone lines → ((s : ℕ) → is_some (lookup (nat_eq s) lines) ≡ is_some (lookup (nat_eq s) m.lines))
     → Alone fed → AllWhole fed → ((u : ℕ) → is_some (lookup (nat_eq u) fed) ≡ is_some (lookup (nat_eq u) m.fed))
     → Belongs (record { shared = T; lines = lines; fed = fed })
-moment_stays m T lines fed is stays lines_alone same fed_alone whole same' = record {
+world_state_stays m T lines fed is stays lines_alone same fed_alone whole same' = record {
   alone = stays.alone;
   lines_alone = lines_alone;
   fed_alone = fed_alone;
@@ -585,40 +585,40 @@ moment_stays m T lines fed is stays lines_alone same fed_alone whole same' = rec
 }
 
 -- an input of a source: its line stays
-source_belongs : (m : Moment) (s : ℕ) (dues : List Due) (o : Option SourceLinkPast) → Belongs m → KeepDues dues
-    → Belongs (record { shared = state_after m.shared (pairs_of (full_deeds m.shared dues)); lines = put_line s m.lines o; fed = m.fed })
-source_belongs m s dues o is keep =
-    let T = state_after m.shared (pairs_of (full_deeds m.shared dues)) in
-    let stays : Stays m.shared T = subst (Stays m.shared) (sym (run_is m.shared dues)) (run_stays m.shared dues is.alone keep) in
+source_belongs : (m : WorldState) (s : ℕ) (actions : List Action) (o : Option SourceLinkPast) → Belongs m → KeepActions actions
+    → Belongs (record { shared = state_after m.shared (pairs_of (full_effects m.shared actions)); lines = put_line s m.lines o; fed = m.fed })
+source_belongs m s actions o is keep =
+    let T = state_after m.shared (pairs_of (full_effects m.shared actions)) in
+    let stays : Stays m.shared T = subst (Stays m.shared) (sym (run_is m.shared actions)) (run_stays m.shared actions is.alone keep) in
     by T stays o
   where
     by : (T : SharedMachine) → Stays m.shared T → (o : Option SourceLinkPast) → Belongs (record { shared = T; lines = put_line s m.lines o; fed = m.fed })
-    by T stays None = moment_stays m T m.lines m.fed is stays is.lines_alone (λ s. refl) is.fed_alone is.whole (λ u. refl)
+    by T stays None = world_state_stays m T m.lines m.fed is stays is.lines_alone (λ s. refl) is.fed_alone is.whole (λ u. refl)
     by T stays (Some line) =
-        moment_stays m T (set_value (nat_eq s) m.lines line) m.fed is stays (set_alone (nat_eq s) line m.lines is.lines_alone)
+        world_state_stays m T (set_value (nat_eq s) m.lines line) m.fed is stays (set_alone (nat_eq s) line m.lines is.lines_alone)
         (λ k. set_there (nat_eq k) (nat_eq s) line m.lines) is.fed_alone is.whole (λ u. refl)
 
-up_belongs : (m : Moment) (s : ℕ) → Belongs m → Belongs (after_turn m (full_turn m (link_up s)))
+up_belongs : (m : WorldState) (s : ℕ) → Belongs m → Belongs (after_turn m (full_turn m (link_up s)))
 up_belongs m s is = by (lookup (nat_eq s) m.lines)
   where
-    by : (o : Option SourceLinkPast) → Belongs (record { shared = state_after m.shared (pairs_of (full_deeds m.shared (up_due o))); lines = put_line s m.lines (all_given (line_after (link_up s) [] o)); fed = m.fed })
-    by None = source_belongs m s (up_due None) None is (tt, tt)
+    by : (o : Option SourceLinkPast) → Belongs (record { shared = state_after m.shared (pairs_of (full_effects m.shared (up_action o))); lines = put_line s m.lines (all_given (line_after (link_up s) [] o)); fed = m.fed })
+    by None = source_belongs m s (up_action None) None is (tt, tt)
     by (Some line) = source_belongs m s [] (all_given (line_after (link_up s) [] (Some line))) is tt
 
-bytes_belong : (m : Moment) (s : ℕ) (piece : List ℕ) → Belongs m → Belongs (after_turn m (full_turn m (pmu_bytes s piece)))
+bytes_belong : (m : WorldState) (s : ℕ) (piece : List ℕ) → Belongs m → Belongs (after_turn m (full_turn m (pmu_bytes s piece)))
 bytes_belong m s piece is = by (lookup (nat_eq s) m.lines)
   where
-    by : (o : Option SourceLinkPast) → Belongs (record { shared = state_after m.shared (pairs_of (full_deeds m.shared (told_dues piece o))); lines = put_line s m.lines (all_given (line_after (pmu_bytes s piece) (told_more piece o) o)); fed = m.fed })
-    by None = source_belongs m s (up_due None) None is (tt, tt)
+    by : (o : Option SourceLinkPast) → Belongs (record { shared = state_after m.shared (pairs_of (full_effects m.shared (told_actions piece o))); lines = put_line s m.lines (all_given (line_after (pmu_bytes s piece) (told_more piece o) o)); fed = m.fed })
+    by None = source_belongs m s (up_action None) None is (tt, tt)
     by (Some line) =
-        source_belongs m s (link_due (told_more piece (Some line)) (link.break_in (line.link.stream ++ piece)))
+        source_belongs m s (link_action (told_more piece (Some line)) (link.break_in (line.link.stream ++ piece)))
         (all_given (line_after (pmu_bytes s piece) (told_more piece (Some line)) (Some line))) is
         (keep_told (told_more piece (Some line)) (close (link.break_in (line.link.stream ++ piece))) (keep_close (link.break_in (line.link.stream ++ piece))))
 
 -- ---- bytes of a subscriber
 
 -- a session ends, and its subscriber is hung up
-hung_belongs : (m : Moment) (R : SharedMachine) (u : ℕ) → Belongs m → Stays m.shared R
+hung_belongs : (m : WorldState) (R : SharedMachine) (u : ℕ) → Belongs m → Stays m.shared R
     → Belongs (record { shared = shared_step R (asks u session.hangup); lines = m.lines; fed = remove_entry (nat_eq u) m.fed })
 hung_belongs m R u is stays = record {
   alone = Alone-next R (asks u session.hangup) (full_answer R (asks u session.hangup)) stays.alone;
@@ -633,7 +633,7 @@ hung_belongs m R u is stays = record {
     by w true = refl
     by w false = is.fed w ∙ sym (stays.connected w)
 
-heard_belongs : (m : Moment) (u : ℕ) (piece : List ℕ) → Belongs m → Belongs (after_turn m (full_turn m (sub_bytes u piece)))
+heard_belongs : (m : WorldState) (u : ℕ) (piece : List ℕ) → Belongs m → Belongs (after_turn m (full_turn m (sub_bytes u piece)))
 heard_belongs m u piece is = by (lookup (nat_eq u) m.fed) refl
   where
     more : List ℕ → List Item
@@ -643,35 +643,35 @@ heard_belongs m u piece is = by (lookup (nat_eq u) m.fed) refl
     all stream = sym (ap (map item_of) (frames_in-append stream piece).0 ∙ map-append item_of (frames_in stream) (frames_in (rest_in stream ++ piece)))
 
     state : (stream : List ℕ) (broken : Option Refusal) → break_in stream ≡ None → break_in (stream ++ piece) ≡ broken
-        → state_after m.shared (pairs_of (full_deeds m.shared (session_grows u stream piece))) ≡ run_dues (run_dues m.shared (map (item_due u) (more stream))) (hang_up u broken)
+        → state_after m.shared (pairs_of (full_effects m.shared (session_grows u stream piece))) ≡ run_actions (run_actions m.shared (map (item_action u) (more stream))) (hang_up u broken)
     state stream broken whole end =
-        run_is m.shared (session_grows u stream piece) ∙ ap (run_dues m.shared) (sym (grows u stream piece (more stream) broken whole (all stream) end))
-        ∙ run-append m.shared (map (item_due u) (more stream)) (hang_up u broken)
+        run_is m.shared (session_grows u stream piece) ∙ ap (run_actions m.shared) (sym (grows u stream piece (more stream) broken whole (all stream) end))
+        ∙ run-append m.shared (map (item_action u) (more stream)) (hang_up u broken)
 
     split : (stream : List ℕ) → lookup (nat_eq u) m.fed ≡ Some stream → (broken : Option Refusal) → break_in (stream ++ piece) ≡ broken
-        → Belongs (record { shared = state_after m.shared (pairs_of (full_deeds m.shared (session_grows u stream piece))); lines = m.lines; fed = put_fed u (stream ++ piece) m.fed broken })
+        → Belongs (record { shared = state_after m.shared (pairs_of (full_effects m.shared (session_grows u stream piece))); lines = m.lines; fed = put_fed u (stream ++ piece) m.fed broken })
     split stream found None end =
         let whole = whole_found (nat_eq u) m.fed stream is.whole found in
-        let stays = run_stays m.shared (map (item_due u) (more stream)) is.alone (keep_items u (more stream)) in
-        moment_stays m _ m.lines (set_value (nat_eq u) m.fed (stream ++ piece)) is (subst (Stays m.shared) (sym (state stream None whole end)) stays)
+        let stays = run_stays m.shared (map (item_action u) (more stream)) is.alone (keep_items u (more stream)) in
+        world_state_stays m _ m.lines (set_value (nat_eq u) m.fed (stream ++ piece)) is (subst (Stays m.shared) (sym (state stream None whole end)) stays)
         is.lines_alone (λ s. refl) (set_alone (nat_eq u) (stream ++ piece) m.fed is.fed_alone) (whole_set (nat_eq u) (stream ++ piece) end m.fed is.whole)
         (λ w. set_there (nat_eq w) (nat_eq u) (stream ++ piece) m.fed)
     split stream found (Some r) end =
         let whole = whole_found (nat_eq u) m.fed stream is.whole found in
-        let stays = run_stays m.shared (map (item_due u) (more stream)) is.alone (keep_items u (more stream)) in
+        let stays = run_stays m.shared (map (item_action u) (more stream)) is.alone (keep_items u (more stream)) in
         subst (λ T. Belongs (record { shared = T; lines = m.lines; fed = remove_entry (nat_eq u) m.fed })) (sym (state stream (Some r) whole end))
-        (hung_belongs m (run_dues m.shared (map (item_due u) (more stream))) u is stays)
+        (hung_belongs m (run_actions m.shared (map (item_action u) (more stream))) u is stays)
 
     by : (o : Option (List ℕ)) → lookup (nat_eq u) m.fed ≡ o
-        → Belongs (record { shared = state_after m.shared (pairs_of (full_deeds m.shared (heard_due u piece (is_some (slot_of u m.shared.subs)) o))); lines = m.lines; fed = fed_more u piece m.fed o })
+        → Belongs (record { shared = state_after m.shared (pairs_of (full_effects m.shared (heard_action u piece (is_some (slot_of u m.shared.subs)) o))); lines = m.lines; fed = fed_more u piece m.fed o })
     by None e = is
     by (Some stream) e = split stream e (break_in (stream ++ piece)) refl
 
 -- ---- events by their names
 
-quiet_belongs : (m : Moment) (e : GatewayEvent) → Belongs m → KeepsKeys e → KeepsSessions e → Belongs (record { shared = shared_step m.shared e; lines = m.lines; fed = m.fed })
+quiet_belongs : (m : WorldState) (e : GatewayEvent) → Belongs m → KeepsKeys e → KeepsSessions e → Belongs (record { shared = shared_step m.shared e; lines = m.lines; fed = m.fed })
 quiet_belongs m e is keys sessions =
-    moment_stays m (shared_step m.shared e) m.lines m.fed is (stays_step m.shared e is.alone keys sessions) is.lines_alone (λ s. refl) is.fed_alone is.whole (λ u. refl)
+    world_state_stays m (shared_step m.shared e) m.lines m.fed is (stays_step m.shared e is.alone keys sessions) is.lines_alone (λ s. refl) is.fed_alone is.whole (λ u. refl)
 
 -- lines that are where they belong
 abbrev LinesBelong : List (ℕ × SourceLinkPast) → Pmus → Type 0
@@ -713,7 +713,7 @@ left_lines lines pmus left k is other less = by (registered.has_source left k) r
     by false none = (Alone-removed (nat_eq k) lines is.0, λ s. ap is_some (lookup-removed s k lines is.0) ∙ goes none s (nat_eq s k) refl)
 
 -- an event that changes keys and no session
-keys_belong : (m : Moment) (e : GatewayEvent) (lines : List (ℕ × SourceLinkPast)) → Belongs m → KeepsSessions e → LinesBelong lines (shared_step m.shared e).pmus
+keys_belong : (m : WorldState) (e : GatewayEvent) (lines : List (ℕ × SourceLinkPast)) → Belongs m → KeepsSessions e → LinesBelong lines (shared_step m.shared e).pmus
     → Belongs (record { shared = shared_step m.shared e; lines = lines; fed = m.fed })
 keys_belong m e lines is sessions so = record {
   alone = Alone-next m.shared e (full_answer m.shared e) is.alone;
@@ -724,7 +724,7 @@ keys_belong m e lines is sessions so = record {
   fed = λ u. is.fed u ∙ sym (sessions_kept m.shared e u is.alone sessions);
 }
 
-add_belongs : (m : Moment) (key : PmuKey) → Belongs m → Belongs (after_turn m (full_turn m (names (add_pmu key))))
+add_belongs : (m : WorldState) (key : PmuKey) → Belongs m → Belongs (after_turn m (full_turn m (names (add_pmu key))))
 add_belongs m key is = keys_belong m (add_pmu key) _ is tt (by (refusal m.shared (add_pmu key)))
   where
     by : (r : Option Refusal) → LinesBelong (lines_by m.lines m.shared (next m.shared (add_pmu key) (full_by r (tells (done 0 0)))) (add_pmu key) (is_done (full_by r (tells (done 0 0)))))
@@ -732,7 +732,7 @@ add_belongs m key is = keys_belong m (add_pmu key) _ is tt (by (refusal m.shared
     by None = added_lines m.lines m.shared.pmus key (is.lines_alone, is.lines)
     by (Some r) = (is.lines_alone, is.lines)
 
-drop_belongs : (m : Moment) (key : PmuKey) → Belongs m → Belongs (after_turn m (full_turn m (names (drop_pmu key))))
+drop_belongs : (m : WorldState) (key : PmuKey) → Belongs m → Belongs (after_turn m (full_turn m (names (drop_pmu key))))
 drop_belongs m key is = keys_belong m (drop_pmu key) _ is tt (by (refusal m.shared (drop_pmu key)))
   where
     lines : SharedMachine → List (ℕ × SourceLinkPast)
@@ -750,7 +750,7 @@ drop_belongs m key is = keys_belong m (drop_pmu key) _ is tt (by (refusal m.shar
     by (Some r) = left (private.refused r) true refl
 
 -- an event that changes a session and no key
-session_belongs : (m : Moment) (e : GatewayEvent) (fed : List (ℕ × List ℕ)) → Belongs m → KeepsKeys e → Alone fed → AllWhole fed
+session_belongs : (m : WorldState) (e : GatewayEvent) (fed : List (ℕ × List ℕ)) → Belongs m → KeepsKeys e → Alone fed → AllWhole fed
     → ((u : ℕ) → is_some (lookup (nat_eq u) fed) ≡ connected_in (own_of u (shared_step m.shared e)))
     → Belongs (record { shared = shared_step m.shared e; lines = m.lines; fed = fed })
 session_belongs m e fed is keys alone whole so = record {
@@ -763,7 +763,7 @@ session_belongs m e fed is keys alone whole so = record {
 }
 
 -- a session that ends where that is done
-ends_belong : (m : Moment) (e : GatewayEvent) (w : ℕ) (done_so : Bool) → Belongs m → KeepsKeys e → (done_so ≡ false → connected_in (own_of w m.shared) ≡ false)
+ends_belong : (m : WorldState) (e : GatewayEvent) (w : ℕ) (done_so : Bool) → Belongs m → KeepsKeys e → (done_so ≡ false → connected_in (own_of w m.shared) ≡ false)
     → ((u : ℕ) → connected_in (own_of u (shared_step m.shared e)) ≡ (if nat_eq u w then false else connected_in (own_of u m.shared)))
     → Belongs (record { shared = shared_step m.shared e; lines = m.lines; fed = (if done_so then remove_entry (nat_eq w) m.fed else m.fed) })
 ends_belong m e w true is keys none after =
@@ -780,7 +780,7 @@ ends_belong m e w false is keys none after =
     by u true same = subst (λ v. connected_in (own_of v m.shared) ≡ false) (sym (eqb-true u w same)) (none refl)
     by u false other = refl
 
-connect_belongs : (m : Moment) (w : ℕ) (done_so : Bool) → Belongs m → done_so ≡ (is_some (own_of w m.shared) && not (connected_in (own_of w m.shared)))
+connect_belongs : (m : WorldState) (w : ℕ) (done_so : Bool) → Belongs m → done_so ≡ (is_some (own_of w m.shared) && not (connected_in (own_of w m.shared)))
     → Belongs (record { shared = shared_step m.shared (asks w session.connect); lines = m.lines; fed = (if done_so then insert_entry nat_eq m.fed w [] else m.fed) })
 connect_belongs m w true is so =
     session_belongs m (asks w session.connect) (insert_entry nat_eq m.fed w []) is tt (insert_alone w [] m.fed is.fed_alone) (whole_insert w m.fed is.whole)
@@ -816,7 +816,7 @@ connect_belongs m w false is so =
 not_there : (S : SharedMachine) (w : ℕ) → is_some (slot_of w S.subs) ≡ false → connected_in (own_of w S) ≡ false
 not_there S w none = ap (λ o. connected_in (option_map (λ s. s.own) o)) (none_of (slot_of w S.subs) none)
 
-asks_belong : (m : Moment) (w : ℕ) (x : SubscriberEvent) → Belongs m → Belongs (after_turn m (full_turn m (names (asks w x))))
+asks_belong : (m : WorldState) (w : ℕ) (x : SubscriberEvent) → Belongs m → Belongs (after_turn m (full_turn m (names (asks w x))))
 asks_belong m w session.connect is = connect_belongs m w (is_done (full_answer m.shared (asks w session.connect))) is (connect_done m.shared w)
 asks_belong m w session.hangup is =
     ends_belong m (asks w session.hangup) w (is_done (full_answer m.shared (asks w session.hangup))) is tt
@@ -831,7 +831,7 @@ asks_belong m w (session.tick soc) is = quiet_belongs m (asks w (session.tick so
 asks_belong m w (session.command number word) is = quiet_belongs m (asks w (session.command number word)) is tt tt
 asks_belong m w (session.drain n) is = quiet_belongs m (asks w (session.drain n)) is tt tt
 
-named_belongs : (m : Moment) (e : GatewayEvent) → Belongs m → Belongs (after_turn m (full_turn m (names e)))
+named_belongs : (m : WorldState) (e : GatewayEvent) → Belongs m → Belongs (after_turn m (full_turn m (names e)))
 named_belongs m (add_pmu key) is = add_belongs m key is
 named_belongs m (drop_pmu key) is = drop_belongs m key is
 named_belongs m (add_sub w size bytes) is =
@@ -852,18 +852,18 @@ named_belongs m (standing w place) is = quiet_belongs m (standing w place) is tt
 
 -- ---- all inputs
 
-pub turn_belongs : (m : Moment) (f : Fact) → Belongs m → Belongs (after_turn m (full_turn m f))
+pub turn_belongs : (m : WorldState) (f : InputValue) → Belongs m → Belongs (after_turn m (full_turn m f))
 turn_belongs m (link_up s) is = up_belongs m s is
 turn_belongs m (pmu_bytes s piece) is = bytes_belong m s piece is
 turn_belongs m (sub_bytes u piece) is = heard_belongs m u piece is
 turn_belongs m (names e) is = named_belongs m e is
 
-all_belong : (m : Moment) (inputs : List Fact) → Belongs m → Belongs (after_turns m (full_turns m inputs))
+all_belong : (m : WorldState) (inputs : List InputValue) → Belongs m → Belongs (after_turns m (full_turns m inputs))
 all_belong m [] is = is
 all_belong m (f ∷ inputs) is = all_belong (after_turn m (full_turn m f)) inputs (turn_belongs m f is)
 
 pub opening_belongs : Belongs opening
 opening_belongs = record { alone = tt; lines_alone = tt; fed_alone = tt; whole = tt; lines = λ s. refl; fed = λ u. refl }
 
-pub belongs : (inputs : List Fact) → Belongs (moment_of inputs)
+pub belongs : (inputs : List InputValue) → Belongs (world_state_of inputs)
 belongs inputs = all_belong opening inputs opening_belongs

@@ -7,7 +7,7 @@ use Rattle.pg_gateway.specs.Views.{Seen, shared_step, shared_run, part, view, pr
 use Rattle.pg_gateway.proofs.SlotLaws.{Alone}
 use Rattle.pg_gateway.proofs.ViewLaws.{own-run}
 use Rattle.pg_gateway.proofs.RunLaws.{Alone-run, agreeing_parts}
-use Rattle.pg_serve.specs.Inputs.{Fact, Outcome}
+use Rattle.pg_serve.specs.Inputs.{InputValue, Outcome}
 use Rattle.pg_serve.specs.Shown.{WorldValue}
 use Rattle.pg_serve.specs.Full.{view_of, queue_of}
 use Rattle.pg_serve.specs.Headline.{OutcomesLossless, HasAnswered, Headline}
@@ -40,20 +40,20 @@ same_views u S T (x ∷ pairs) alone alone' own agree =
     (same_views u (shared_run S (mine_by x)) (shared_run T (other_by x)) pairs (Alone-run S (mine_by x) alone) (Alone-run T (other_by x) alone') own' agree.1)
     ∙ sym (view-append u T (other_by x) (other_of pairs))
 
-seen_alike : (u : ℕ) (inputs others : List Fact) → SeeAlike u inputs others → view_of u inputs ≡ view_of u others
+seen_alike : (u : ℕ) (inputs others : List InputValue) → SeeAlike u inputs others → view_of u inputs ≡ view_of u others
 seen_alike u inputs others see =
     ap (view u shared_opening) (sym see.mine)
     ∙ same_views u shared_opening shared_opening see.pairs tt tt refl see.agree
     ∙ ap (view u shared_opening) see.other
 
-served : (u : ℕ) (w v : WorldValue) (inputs others : List Fact) (told answers : List Outcome) → Headline w inputs told → Headline v others answers
+served : (u : ℕ) (w v : WorldValue) (inputs others : List InputValue) (told answers : List Outcome) → Headline w inputs told → Headline v others answers
     → view_of u inputs ≡ view_of u others → ServesAlike u w inputs told v others answers
 served u w v inputs others told answers first second same = record {
   queued = first.queued u ∙ ap (λ seen. queue_of (private_run None seen)) same ∙ sym (second.queued u);
   handed = first.handed u ∙ ap (handed_in None) same ∙ sym (second.handed u);
 }
 
-pub stands_beside : (w : WorldValue) (inputs : List Fact) (told : List Outcome) → OutcomesLossless told → HasAnswered w inputs told
+pub stands_beside : (w : WorldValue) (inputs : List InputValue) (told : List Outcome) → OutcomesLossless told → HasAnswered w inputs told
     → StandsBeside w inputs told
 stands_beside w inputs told lossless has = record {
   views = λ u v others answers answered whole same.

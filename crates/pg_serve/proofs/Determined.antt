@@ -20,43 +20,43 @@ use Rattle.pg_gateway.specs.Histories.{Legal, state_after}
 use Rattle.pg_gateway.specs.Views.{full_answer, full_answers, shared_step, shared_run}
 use Rattle.pg_gateway.specs.Laws.{events_of, answers_of}
 use Rattle.pg_gateway.proofs.AnswerLaws.{lossless_full}
-use Rattle.pg_serve.specs.Inputs.{Fact, link_up, pmu_bytes, sub_bytes, names}
-use Rattle.pg_serve.specs.Dues.{Due, posts, ignores_frame, closes, refuses, Deed, answered, ignored_frame, closed_at, refused, due_of, notes_of, pairs_of, told_due, link_due, close}
-use Rattle.pg_serve.specs.Moments.{SourceLinkPast, Moment, opening, Turn, Turns, ToldOf, Posts, Makes, LegalTurn, LegalTurns, after_turn, after_turns, all_outcomes, inputs_of, history_of, telling, lines_by, lines_named, has_source, new_source_link, gone_up, gives_all, fed_line, words_given, put_line, line_after, all_given}
-use Rattle.pg_serve.specs.Full.{full_deeds, told_more, told_dues, full_told, dues_of, full_turn, full_turns, moment_of, events_made, events_at, answers_made}
+use Rattle.pg_serve.specs.Inputs.{InputValue, link_up, pmu_bytes, sub_bytes, names}
+use Rattle.pg_serve.specs.Actions.{Action, posts, ignores_frame, closes, refuses, Effect, answered, ignored_frame, closed_at, refused, action_of, notes_of, pairs_of, told_action, link_action, close}
+use Rattle.pg_serve.specs.WorldStates.{SourceLinkPast, WorldState, opening, Turn, Turns, ToldOf, Posts, Makes, LegalTurn, LegalTurns, after_turn, after_turns, all_outcomes, inputs_of, history_of, telling, lines_by, lines_named, has_source, new_source_link, gone_up, gives_all, fed_line, words_given, put_line, line_after, all_given}
+use Rattle.pg_serve.specs.Full.{full_effects, told_more, told_actions, full_told, actions_of, full_turn, full_turns, world_state_of, events_made, events_at, answers_made}
 use Rattle.pg_serve.specs.Headline.{NotesLossless, OutcomesLossless}
 use Rattle.pg_shared.proofs.Opening.{no_frames}
 use Rattle.pg_serve.proofs.Lines.{told_gave}
 
--- ---- deeds
+-- ---- effects
 
-deeds_full : (S : SharedMachine) (deeds : List Deed) → Legal S (pairs_of deeds) → NotesLossless (notes_of deeds) → deeds ≡ full_deeds S (map due_of deeds)
-deeds_full S [] legal lossless = refl
-deeds_full S (answered e a ∷ deeds) legal lossless =
+effects_full : (S : SharedMachine) (effects : List Effect) → Legal S (pairs_of effects) → NotesLossless (notes_of effects) → effects ≡ full_effects S (map action_of effects)
+effects_full S [] legal lossless = refl
+effects_full S (answered e a ∷ effects) legal lossless =
     let is : a ≡ full_answer S e = lossless_full S e a legal.0 lossless.0 in
     ap₂ (λ b ds. answered e b ∷ ds) is
-    (deeds_full (shared_step S e) deeds (subst (λ b. Legal (next S e b) (pairs_of deeds)) is legal.1) lossless.1)
-deeds_full S (ignored_frame r ∷ deeds) legal lossless = ap (λ ds. ignored_frame r ∷ ds) (deeds_full S deeds legal lossless.1)
-deeds_full S (closed_at r ∷ deeds) legal lossless = ap (λ ds. closed_at r ∷ ds) (deeds_full S deeds legal lossless)
-deeds_full S (refused r ∷ deeds) legal lossless = ap (λ ds. refused r ∷ ds) (deeds_full S deeds legal lossless.1)
+    (effects_full (shared_step S e) effects (subst (λ b. Legal (next S e b) (pairs_of effects)) is legal.1) lossless.1)
+effects_full S (ignored_frame r ∷ effects) legal lossless = ap (λ ds. ignored_frame r ∷ ds) (effects_full S effects legal lossless.1)
+effects_full S (closed_at r ∷ effects) legal lossless = ap (λ ds. closed_at r ∷ ds) (effects_full S effects legal lossless)
+effects_full S (refused r ∷ effects) legal lossless = ap (λ ds. refused r ∷ ds) (effects_full S effects legal lossless.1)
 
 -- what is due tells no want of memory
-abbrev DueLossless : Due → Type 0
-DueLossless (posts e) = Unit {0}
-DueLossless (ignores_frame r) = r ≢ NoMemory
-DueLossless (closes r) = Unit {0}
-DueLossless (refuses r) = r ≢ NoMemory
+abbrev ActionLossless : Action → Type 0
+ActionLossless (posts e) = Unit {0}
+ActionLossless (ignores_frame r) = r ≢ NoMemory
+ActionLossless (closes r) = Unit {0}
+ActionLossless (refuses r) = r ≢ NoMemory
 
-abbrev DuesLossless : List Due → Type 0
-DuesLossless [] = Unit {0}
-DuesLossless (d ∷ dues) = DueLossless d × DuesLossless dues
+abbrev ActionsLossless : List Action → Type 0
+ActionsLossless [] = Unit {0}
+ActionsLossless (d ∷ actions) = ActionLossless d × ActionsLossless actions
 
-dues_lossless : (deeds : List Deed) → NotesLossless (notes_of deeds) → DuesLossless (map due_of deeds)
-dues_lossless [] h = tt
-dues_lossless (answered e a ∷ deeds) h = (tt, dues_lossless deeds h.1)
-dues_lossless (ignored_frame r ∷ deeds) h = (h.0, dues_lossless deeds h.1)
-dues_lossless (closed_at r ∷ deeds) h = (tt, dues_lossless deeds h)
-dues_lossless (refused r ∷ deeds) h = (h.0, dues_lossless deeds h.1)
+actions_lossless : (effects : List Effect) → NotesLossless (notes_of effects) → ActionsLossless (map action_of effects)
+actions_lossless [] h = tt
+actions_lossless (answered e a ∷ effects) h = (tt, actions_lossless effects h.1)
+actions_lossless (ignored_frame r ∷ effects) h = (h.0, actions_lossless effects h.1)
+actions_lossless (closed_at r ∷ effects) h = (tt, actions_lossless effects h)
+actions_lossless (refused r ∷ effects) h = (h.0, actions_lossless effects h.1)
 
 -- ---- what is told
 
@@ -64,7 +64,7 @@ number_plain : (r : Refusal) → r ≢ NoMemory → (number_of r == number_of No
 number_plain NoMemory h = absurd (h refl)
 number_plain r h = refl
 
-item_plain : (item : link.Item) → DueLossless (told_due item) → is_want item ≡ false
+item_plain : (item : link.Item) → ActionLossless (told_action item) → is_want item ≡ false
 item_plain (link.announces config) h = refl
 item_plain (link.measures m) h = refl
 item_plain (link.skips r) h = number_plain r h
@@ -72,7 +72,7 @@ item_plain (link.rejects_config r) h = number_plain r h
 item_plain (link.rejects_data r) h = number_plain r h
 item_plain link.passes_over h = refl
 
-items_plain : (items : List link.Item) (more : List Due) → DuesLossless (map told_due items ++ more) → list_any is_want items ≡ false
+items_plain : (items : List link.Item) (more : List Action) → ActionsLossless (map told_action items ++ more) → list_any is_want items ≡ false
 items_plain [] more h = refl
 items_plain (item ∷ items) more h = ap₂ (λ a b. a || b) (item_plain item h.0) (items_plain items more h.1)
 
@@ -196,70 +196,70 @@ full_named lines S T (x ∷ xs) full = full_by lines S T x.0 _ full
 
 -- ---- one turn
 
-abbrev turn : Fact → List Deed → List link.Item → Turn
-turn f deeds told = record { input = f; deeds = deeds; told = told }
+abbrev turn : InputValue → List Effect → List link.Item → Turn
+turn f effects told = record { input = f; effects = effects; told = told }
 
-fed_full : (m : Moment) (s : ℕ) (piece : List ℕ) (line : SourceLinkPast) (items : List link.Item) (dues : List Due) → AllFull m.lines → lookup (nat_eq s) m.lines ≡ Some line
-    → ToldOf piece (Some line) items dues → DuesLossless dues → IsFull (fed_line line piece items)
-fed_full m s piece line items dues full found makes lossless =
+fed_full : (m : WorldState) (s : ℕ) (piece : List ℕ) (line : SourceLinkPast) (items : List link.Item) (actions : List Action) → AllFull m.lines → lookup (nat_eq s) m.lines ≡ Some line
+    → ToldOf piece (Some line) items actions → ActionsLossless actions → IsFull (fed_line line piece items)
+fed_full m s piece line items actions full found makes lossless =
     full_fed line piece items (full_lookup (nat_eq s) m.lines line full found) makes.0
-    (items_plain items (close (break_in (line.link.stream ++ piece))) (subst DuesLossless makes.1 lossless))
+    (items_plain items (close (break_in (line.link.stream ++ piece))) (subst ActionsLossless makes.1 lossless))
 
-makes_full : (m : Moment) (f : Fact) (items : List link.Item) (dues : List Due) → AllFull m.lines → Makes m f items dues → DuesLossless dues
-    → (items ≡ full_told m f) × (dues ≡ dues_of m f)
-makes_full m (link_up s) items dues full makes lossless = makes
-makes_full m (pmu_bytes s piece) items dues full makes lossless = by (lookup (nat_eq s) m.lines) refl makes
+makes_full : (m : WorldState) (f : InputValue) (items : List link.Item) (actions : List Action) → AllFull m.lines → Makes m f items actions → ActionsLossless actions
+    → (items ≡ full_told m f) × (actions ≡ actions_of m f)
+makes_full m (link_up s) items actions full makes lossless = makes
+makes_full m (pmu_bytes s piece) items actions full makes lossless = by (lookup (nat_eq s) m.lines) refl makes
   where
-    by : (o : Option SourceLinkPast) → lookup (nat_eq s) m.lines ≡ o → ToldOf piece o items dues → (items ≡ told_more piece o) × (dues ≡ told_dues piece o)
+    by : (o : Option SourceLinkPast) → lookup (nat_eq s) m.lines ≡ o → ToldOf piece o items actions → (items ≡ told_more piece o) × (actions ≡ told_actions piece o)
     by None e none = none
     by (Some line) e some =
-        let is = told_only line piece items (full_lookup (nat_eq s) m.lines line full e) (fed_full m s piece line items dues full e some lossless) in
-        (is, some.1 ∙ ap (λ x. link_due x (break_in (line.link.stream ++ piece))) is)
-makes_full m (sub_bytes u piece) items dues full makes lossless = makes
-makes_full m (names e) items dues full makes lossless = (makes.0, by makes.1)
+        let is = told_only line piece items (full_lookup (nat_eq s) m.lines line full e) (fed_full m s piece line items actions full e some lossless) in
+        (is, some.1 ∙ ap (λ x. link_action x (break_in (line.link.stream ++ piece))) is)
+makes_full m (sub_bytes u piece) items actions full makes lossless = makes
+makes_full m (names e) items actions full makes lossless = (makes.0, by makes.1)
   where
-    by : Posts m.shared e dues → dues ≡ posts e ∷ []
+    by : Posts m.shared e actions → actions ≡ posts e ∷ []
     by (inl is) = is
-    by (inr want) = absurd ((subst DuesLossless want.0 lossless).0 refl)
+    by (inr want) = absurd ((subst ActionsLossless want.0 lossless).0 refl)
 
-turn_full : (m : Moment) (t : Turn) → AllFull m.lines → LegalTurn m t → NotesLossless (notes_of t.deeds) → t ≡ full_turn m t.input
+turn_full : (m : WorldState) (t : Turn) → AllFull m.lines → LegalTurn m t → NotesLossless (notes_of t.effects) → t ≡ full_turn m t.input
 turn_full m t full legal lossless =
-    let made = makes_full m t.input t.told (map due_of t.deeds) full legal.makes (dues_lossless t.deeds lossless) in
-    ap₂ (λ deeds told. turn t.input deeds told)
-    (deeds_full m.shared t.deeds legal.legal lossless ∙ ap (full_deeds m.shared) made.1) made.0
+    let made = makes_full m t.input t.told (map action_of t.effects) full legal.makes (actions_lossless t.effects lossless) in
+    ap₂ (λ effects told. turn t.input effects told)
+    (effects_full m.shared t.effects legal.legal lossless ∙ ap (full_effects m.shared) made.1) made.0
 
-lines_full : (m : Moment) (f : Fact) (deeds : List Deed) (told : List link.Item) → AllFull m.lines → Makes m f told (map due_of deeds) → DuesLossless (map due_of deeds)
-    → AllFull (after_turn m (turn f deeds told)).lines
-lines_full m (link_up s) deeds told full makes lossless = by (lookup (nat_eq s) m.lines)
+lines_full : (m : WorldState) (f : InputValue) (effects : List Effect) (told : List link.Item) → AllFull m.lines → Makes m f told (map action_of effects) → ActionsLossless (map action_of effects)
+    → AllFull (after_turn m (turn f effects told)).lines
+lines_full m (link_up s) effects told full makes lossless = by (lookup (nat_eq s) m.lines)
   where
     by : (o : Option SourceLinkPast) → AllFull (put_line s m.lines (all_given (line_after (link_up s) told o)))
     by None = full
     by (Some line) = full_set (nat_eq s) (gives_all (gone_up line)) (full_given (gone_up line) (full_gone line)) m.lines full
-lines_full m (pmu_bytes s piece) deeds told full makes lossless = by (lookup (nat_eq s) m.lines) refl makes
+lines_full m (pmu_bytes s piece) effects told full makes lossless = by (lookup (nat_eq s) m.lines) refl makes
   where
-    by : (o : Option SourceLinkPast) → lookup (nat_eq s) m.lines ≡ o → ToldOf piece o told (map due_of deeds)
+    by : (o : Option SourceLinkPast) → lookup (nat_eq s) m.lines ≡ o → ToldOf piece o told (map action_of effects)
         → AllFull (put_line s m.lines (all_given (line_after (pmu_bytes s piece) told o)))
     by None e none = full
     by (Some line) e some =
         full_set (nat_eq s) (gives_all (fed_line line piece told))
-        (full_given (fed_line line piece told) (fed_full m s piece line told (map due_of deeds) full e some lossless)) m.lines full
-lines_full m (sub_bytes u piece) deeds told full makes lossless = full
-lines_full m (names e) deeds told full makes lossless = full_named m.lines m.shared (state_after m.shared (pairs_of deeds)) (pairs_of deeds) full
+        (full_given (fed_line line piece told) (fed_full m s piece line told (map action_of effects) full e some lossless)) m.lines full
+lines_full m (sub_bytes u piece) effects told full makes lossless = full
+lines_full m (names e) effects told full makes lossless = full_named m.lines m.shared (state_after m.shared (pairs_of effects)) (pairs_of effects) full
 
 -- ---- all turns
 
-turns_full : (m : Moment) (ts : Turns) → AllFull m.lines → LegalTurns m ts → OutcomesLossless (all_outcomes m ts) → ts ≡ full_turns m (inputs_of ts)
+turns_full : (m : WorldState) (ts : Turns) → AllFull m.lines → LegalTurns m ts → OutcomesLossless (all_outcomes m ts) → ts ≡ full_turns m (inputs_of ts)
 turns_full m [] full legal lossless = refl
 turns_full m (t ∷ ts) full legal lossless =
     let is = turn_full m t full legal.0 lossless.0 in
-    let lines = lines_full m t.input t.deeds t.told full legal.0.makes (dues_lossless t.deeds lossless.0) in
+    let lines = lines_full m t.input t.effects t.told full legal.0.makes (actions_lossless t.effects lossless.0) in
     let rest = turns_full (after_turn m t) ts lines legal.1 lossless.1 in
     subst (λ x. t ∷ ts ≡ x ∷ full_turns (after_turn m x) (inputs_of ts)) is (ap (λ us. t ∷ us) rest)
 
-full_after : (m : Moment) (ts : Turns) → AllFull m.lines → LegalTurns m ts → OutcomesLossless (all_outcomes m ts) → AllFull (after_turns m ts).lines
+full_after : (m : WorldState) (ts : Turns) → AllFull m.lines → LegalTurns m ts → OutcomesLossless (all_outcomes m ts) → AllFull (after_turns m ts).lines
 full_after m [] full legal lossless = full
 full_after m (t ∷ ts) full legal lossless =
-    full_after (after_turn m t) ts (lines_full m t.input t.deeds t.told full legal.0.makes (dues_lossless t.deeds lossless.0)) legal.1 lossless.1
+    full_after (after_turn m t) ts (lines_full m t.input t.effects t.told full legal.0.makes (actions_lossless t.effects lossless.0)) legal.1 lossless.1
 
 pub lines_are_full : (ts : Turns) → LegalTurns opening ts → OutcomesLossless (all_outcomes opening ts) → AllFull (after_turns opening ts).lines
 lines_are_full ts legal lossless = full_after opening ts tt legal lossless
@@ -277,18 +277,18 @@ run-append : (S : SharedMachine) (h k : List (GatewayEvent × Answer)) → IsFul
 run-append S [] k full more = more
 run-append S (x ∷ xs) k full more = (full.0, run-append (next S x.0 x.1) xs k full.1 more)
 
-deeds_run : (S : SharedMachine) (dues : List Due) → IsFullRun S (pairs_of (full_deeds S dues))
-deeds_run S [] = tt
-deeds_run S (posts e ∷ dues) = (refl, deeds_run (shared_step S e) dues)
-deeds_run S (ignores_frame r ∷ dues) = deeds_run S dues
-deeds_run S (closes r ∷ dues) = deeds_run S dues
-deeds_run S (refuses r ∷ dues) = deeds_run S dues
+effects_run : (S : SharedMachine) (actions : List Action) → IsFullRun S (pairs_of (full_effects S actions))
+effects_run S [] = tt
+effects_run S (posts e ∷ actions) = (refl, effects_run (shared_step S e) actions)
+effects_run S (ignores_frame r ∷ actions) = effects_run S actions
+effects_run S (closes r ∷ actions) = effects_run S actions
+effects_run S (refuses r ∷ actions) = effects_run S actions
 
-history_run : (m : Moment) (inputs : List Fact) → IsFullRun m.shared (history_of (full_turns m inputs))
+history_run : (m : WorldState) (inputs : List InputValue) → IsFullRun m.shared (history_of (full_turns m inputs))
 history_run m [] = tt
 history_run m (f ∷ inputs) =
-    run-append m.shared (pairs_of (full_deeds m.shared (dues_of m f))) (history_of (full_turns (after_turn m (full_turn m f)) inputs))
-    (deeds_run m.shared (dues_of m f)) (history_run (after_turn m (full_turn m f)) inputs)
+    run-append m.shared (pairs_of (full_effects m.shared (actions_of m f))) (history_of (full_turns (after_turn m (full_turn m f)) inputs))
+    (effects_run m.shared (actions_of m f)) (history_run (after_turn m (full_turn m f)) inputs)
 
 run_answers : (S : SharedMachine) (h : List (GatewayEvent × Answer)) → IsFullRun S h → answers_of h ≡ full_answers S (events_of h)
 run_answers S [] full = refl
@@ -302,21 +302,21 @@ run_state S (x ∷ h) full =
     let same : next S x.0 x.1 ≡ shared_step S x.0 = ap (λ a. next S x.0 a) full.0 in
     ap (λ T. state_after T h) same ∙ run_state (shared_step S x.0) h (subst (λ T. IsFullRun T h) same full.1)
 
-pub state_is_full : (inputs : List Fact) → state_after shared_opening (history_of (full_turns opening inputs)) ≡ shared_run shared_opening (events_made inputs)
+pub state_is_full : (inputs : List InputValue) → state_after shared_opening (history_of (full_turns opening inputs)) ≡ shared_run shared_opening (events_made inputs)
 state_is_full inputs = run_state shared_opening (history_of (full_turns opening inputs)) (history_run opening inputs)
 
-pub answers_are_full : (inputs : List Fact) → answers_made inputs ≡ full_answers shared_opening (events_made inputs)
+pub answers_are_full : (inputs : List InputValue) → answers_made inputs ≡ full_answers shared_opening (events_made inputs)
 answers_are_full inputs = run_answers shared_opening (history_of (full_turns opening inputs)) (history_run opening inputs)
 
 -- ---- more inputs
 
-full_turns-append : (m : Moment) (is js : List Fact) → full_turns m (is ++ js) ≡ full_turns m is ++ full_turns (after_turns m (full_turns m is)) js
+full_turns-append : (m : WorldState) (is js : List InputValue) → full_turns m (is ++ js) ≡ full_turns m is ++ full_turns (after_turns m (full_turns m is)) js
 full_turns-append m [] js = refl
 full_turns-append m (f ∷ is) js = ap (λ ts. full_turn m f ∷ ts) (full_turns-append (after_turn m (full_turn m f)) is js)
 
-pub events-more : (inputs : List Fact) (f : Fact) → events_made (inputs ++ f ∷ []) ≡ events_made inputs ++ events_at inputs f
+pub events-more : (inputs : List InputValue) (f : InputValue) → events_made (inputs ++ f ∷ []) ≡ events_made inputs ++ events_at inputs f
 events-more inputs f =
-    let more = full_turn (moment_of inputs) f in
+    let more = full_turn (world_state_of inputs) f in
     ap (λ ts. events_of (history_of ts)) (full_turns-append opening inputs (f ∷ []))
-    ∙ ap events_of (flat_map-append (λ t. pairs_of t.deeds) (full_turns opening inputs) (more ∷ []) ∙ ap (λ pairs. history_of (full_turns opening inputs) ++ pairs) (append-nil (pairs_of more.deeds)))
-    ∙ map-append (λ (x : GatewayEvent × Answer). x.0) (history_of (full_turns opening inputs)) (pairs_of more.deeds)
+    ∙ ap events_of (flat_map-append (λ t. pairs_of t.effects) (full_turns opening inputs) (more ∷ []) ∙ ap (λ pairs. history_of (full_turns opening inputs) ++ pairs) (append-nil (pairs_of more.effects)))
+    ∙ map-append (λ (x : GatewayEvent × Answer). x.0) (history_of (full_turns opening inputs)) (pairs_of more.effects)

@@ -17,44 +17,44 @@ use Rattle.pg_gateway.specs.Histories.{Legal, state_after}
 use Rattle.pg_gateway.specs.Shown.{GatewayValue, GatewayShows, Goes}
 use Rattle.pg_shared.proofs.Opening.{state_after-append}
 use Rattle.pg_serve.specs.Inputs.{Noted, replied, ignored, closed}
-use Rattle.pg_serve.specs.Dues.{Due, posts, ignores_frame, closes, answered, ignored_frame, closed_at, due_of, note_of, notes_of, pairs_by, pairs_of, item_due, told_due, link_due, telling_so}
+use Rattle.pg_serve.specs.Actions.{Action, posts, ignores_frame, closes, answered, ignored_frame, closed_at, action_of, note_of, notes_of, pairs_by, pairs_of, item_action, told_action, link_action, telling_so}
 use Rattle.pg_serve.specs.Feeding.{Did, Tells, TellsAll, TakesPiece, Hears, HearsAll}
 
 pub Legal-append : (S : SharedMachine) (h k : List (GatewayEvent × Answer)) → Legal S h → Legal (state_after S h) k → Legal S (h ++ k)
 Legal-append S [] k legal more = more
 Legal-append S (x ∷ xs) k legal more = (legal.0, Legal-append (next S x.0 x.1) xs k legal.1 more)
 
--- ---- deeds
+-- ---- effects
 
 pub Did-none : (S : SharedMachine) (notes : List Noted) (g : GatewayValue) → GatewayShows g S → Did S [] notes notes g
-Did-none S notes g shows = record { deeds = []; are = refl; legal = tt; shows = shows; notes = sym (append-nil notes) }
+Did-none S notes g shows = record { effects = []; are = refl; legal = tt; shows = shows; notes = sym (append-nil notes) }
 
 pub Did-event : (S : SharedMachine) (e : GatewayEvent) (a : Answer) (before after : List Noted) (g h : GatewayValue) → GatewayShows g S → Goes g e a h
     → after ≡ before ++ replied a ∷ [] → Did S (posts e ∷ []) before after h
 Did-event S e a before after g h shows goes notes =
     let step = goes S shows in
-    record { deeds = answered e a ∷ []; are = refl; legal = (step.may, tt); shows = step.shows; notes = notes }
+    record { effects = answered e a ∷ []; are = refl; legal = (step.may, tt); shows = step.shows; notes = notes }
 
 pub Did-ignored : (S : SharedMachine) (r : Refusal) (before after : List Noted) (g : GatewayValue) → GatewayShows g S
     → after ≡ before ++ ignored r ∷ [] → Did S (ignores_frame r ∷ []) before after g
-Did-ignored S r before after g shows notes = record { deeds = ignored_frame r ∷ []; are = refl; legal = tt; shows = shows; notes = notes }
+Did-ignored S r before after g shows notes = record { effects = ignored_frame r ∷ []; are = refl; legal = tt; shows = shows; notes = notes }
 
 pub Did-closed : (S : SharedMachine) (r : Refusal) (before after : List Noted) (g : GatewayValue) → GatewayShows g S
     → after ≡ before ++ closed r ∷ [] → Did S (closes r ∷ []) before after g
-Did-closed S r before after g shows notes = record { deeds = closed_at r ∷ []; are = refl; legal = tt; shows = shows; notes = notes }
+Did-closed S r before after g shows notes = record { effects = closed_at r ∷ []; are = refl; legal = tt; shows = shows; notes = notes }
 
-pub Did-more : (S : SharedMachine) (ds es : List Due) (before mid after : List Noted) (g h : GatewayValue) (did : Did S ds before mid g)
-    → Did (state_after S (pairs_of did.deeds)) es mid after h → Did S (ds ++ es) before after h
+pub Did-more : (S : SharedMachine) (ds es : List Action) (before mid after : List Noted) (g h : GatewayValue) (did : Did S ds before mid g)
+    → Did (state_after S (pairs_of did.effects)) es mid after h → Did S (ds ++ es) before after h
 Did-more S ds es before mid after g h did more =
-    let pairs : pairs_of did.deeds ++ pairs_of more.deeds ≡ pairs_of (did.deeds ++ more.deeds) = sym (flat_map-append pairs_by did.deeds more.deeds) in
+    let pairs : pairs_of did.effects ++ pairs_of more.effects ≡ pairs_of (did.effects ++ more.effects) = sym (flat_map-append pairs_by did.effects more.effects) in
     record {
-      deeds = did.deeds ++ more.deeds;
-      are = map-append due_of did.deeds more.deeds ∙ ap₂ (λ x y. x ++ y) did.are more.are;
-      legal = subst (Legal S) pairs (Legal-append S (pairs_of did.deeds) (pairs_of more.deeds) did.legal more.legal);
+      effects = did.effects ++ more.effects;
+      are = map-append action_of did.effects more.effects ∙ ap₂ (λ x y. x ++ y) did.are more.are;
+      legal = subst (Legal S) pairs (Legal-append S (pairs_of did.effects) (pairs_of more.effects) did.legal more.legal);
       shows = subst (λ k. GatewayShows h (state_after S k)) pairs
-          (subst (GatewayShows h) (sym (state_after-append S (pairs_of did.deeds) (pairs_of more.deeds))) more.shows);
-      notes = more.notes ∙ ap (λ x. x ++ notes_of more.deeds) did.notes ∙ append_assoc before (notes_of did.deeds) (notes_of more.deeds)
-          ∙ ap (λ x. before ++ x) (sym (map-append note_of did.deeds more.deeds));
+          (subst (GatewayShows h) (sym (state_after-append S (pairs_of did.effects) (pairs_of more.effects))) more.shows);
+      notes = more.notes ∙ ap (λ x. x ++ notes_of more.effects) did.notes ∙ append_assoc before (notes_of did.effects) (notes_of more.effects)
+          ∙ ap (λ x. before ++ x) (sym (map-append note_of did.effects more.effects));
     }
 
 -- ---- a source's bytes
@@ -72,29 +72,29 @@ Tells-none S past notes g v shown shows = record { items = []; shows = subst (in
 
 -- more were told
 pub Tells-more : (S : SharedMachine) (past : LinkPast) (before mid after : List Noted) (g h : GatewayValue) (v w : Linking) (t : Tells S past before mid g v)
-    → Tells (state_after S (pairs_of t.did.deeds)) (telling_so past t.items) mid after h w → Tells S past before after h w
+    → Tells (state_after S (pairs_of t.did.effects)) (telling_so past t.items) mid after h w → Tells S past before after h w
 Tells-more S past before mid after g h v w t more = record {
   items = t.items ++ more.items;
   shows = subst (ingest.ShowsLink w) (so_more past t.items more.items) more.shows;
-  did = subst (λ ds. Did S ds before after h) (sym (map-append told_due t.items more.items))
-      (Did-more S (map told_due t.items) (map told_due more.items) before mid after g h t.did more.did);
+  did = subst (λ ds. Did S ds before after h) (sym (map-append told_action t.items more.items))
+      (Did-more S (map told_action t.items) (map told_action more.items) before mid after g h t.did more.did);
 }
 
 pub Tells-one : (S : SharedMachine) (past : LinkPast) (before mid after : List Noted) (g h : GatewayValue) (v w : Linking) (item : link.Item) (t : Tells S past before mid g v)
     → ingest.ShowsLink w (doing (telling_so past t.items) (tells item))
-    → Did (state_after S (pairs_of t.did.deeds)) (told_due item ∷ []) mid after h → Tells S past before after h w
+    → Did (state_after S (pairs_of t.did.effects)) (told_action item ∷ []) mid after h → Tells S past before after h w
 Tells-one S past before mid after g h v w item t shows did =
     Tells-more S past before mid after g h v w t (record { items = item ∷ []; shows = shows; did = did })
 
 pub TellsAll-more : (S : SharedMachine) (past : LinkPast) (broken : Option Refusal) (before mid after : List Noted) (g h : GatewayValue) (v w : Linking) (t : Tells S past before mid g v)
-    → TellsAll (state_after S (pairs_of t.did.deeds)) (telling_so past t.items) broken mid after h w → TellsAll S past broken before after h w
+    → TellsAll (state_after S (pairs_of t.did.effects)) (telling_so past t.items) broken mid after h w → TellsAll S past broken before after h w
 TellsAll-more S past broken before mid after g h v w t more = record {
   items = t.items ++ more.items;
   all = subst IsAllTold (so_more past t.items more.items) more.all;
   end = more.end;
   shows = subst (ingest.ShowsLink w) (so_more past t.items more.items) more.shows;
-  did = subst (λ ds. Did S ds before after h) (sym (map-append told_due t.items more.items))
-      (Did-more S (map told_due t.items) (map told_due more.items) before mid after g h t.did more.did);
+  did = subst (λ ds. Did S ds before after h) (sym (map-append told_action t.items more.items))
+      (Did-more S (map told_action t.items) (map told_action more.items) before mid after g h t.did more.did);
 }
 
 pub TellsAll-end : (S : SharedMachine) (past : LinkPast) (broken : Option Refusal) (before after : List Noted) (g : GatewayValue) (v w : Linking) (t : Tells S past before after g v)
@@ -106,13 +106,13 @@ pub told_of_all : (S : SharedMachine) (past : LinkPast) (broken : Option Refusal
     → TellsAll S past broken before after g v → Tells S past before after g v
 told_of_all S past broken before after g v t = record { items = t.items; shows = t.shows; did = t.did }
 
-pub ignored_due : (item : link.Item) (r : Refusal) → link.reason_of item ≡ Some r → told_due item ≡ ignores_frame r
-ignored_due (link.announces config) r h = absurd (cc)
-ignored_due (link.measures m) r h = absurd (cc)
-ignored_due (link.skips x) r h = let same : x ≡ r = cc in ap ignores_frame same
-ignored_due (link.rejects_config x) r h = let same : x ≡ r = cc in ap ignores_frame same
-ignored_due (link.rejects_data x) r h = let same : x ≡ r = cc in ap ignores_frame same
-ignored_due link.passes_over r h = let same : WrongType ≡ r = cc in ap ignores_frame same
+pub ignored_action : (item : link.Item) (r : Refusal) → link.reason_of item ≡ Some r → told_action item ≡ ignores_frame r
+ignored_action (link.announces config) r h = absurd (cc)
+ignored_action (link.measures m) r h = absurd (cc)
+ignored_action (link.skips x) r h = let same : x ≡ r = cc in ap ignores_frame same
+ignored_action (link.rejects_config x) r h = let same : x ≡ r = cc in ap ignores_frame same
+ignored_action (link.rejects_data x) r h = let same : x ≡ r = cc in ap ignores_frame same
+ignored_action link.passes_over r h = let same : WrongType ≡ r = cc in ap ignores_frame same
 
 -- a piece came
 pub Tells-fed : (S : SharedMachine) (past : LinkPast) (stream piece all : List ℕ) (before after : List Noted) (g : GatewayValue) (v w : Linking)
@@ -135,7 +135,7 @@ TakesPiece-whole S past before after g v t = record {
   items = t.items;
   all = t.all;
   shows = t.shows;
-  did = subst (λ ds. Did S ds before after g) (sym (append-nil (map told_due t.items)) ∙ ap (λ b. link_due t.items b) (sym t.end)) t.did;
+  did = subst (λ ds. Did S ds before after g) (sym (append-nil (map told_action t.items)) ∙ ap (λ b. link_action t.items b) (sym t.end)) t.did;
 }
 
 pub TakesPiece-broken : (S : SharedMachine) (past : LinkPast) (r : Refusal) (before mid after : List Noted) (g : GatewayValue) (v : Linking)
@@ -144,9 +144,9 @@ TakesPiece-broken S past r before mid after g v t notes = record {
   items = t.items;
   all = t.all;
   shows = t.shows;
-  did = subst (λ ds. Did S ds before after g) (ap (λ b. link_due t.items b) (sym t.end))
-      (Did-more S (map told_due t.items) (closes r ∷ []) before mid after g g t.did
-      (Did-closed (state_after S (pairs_of t.did.deeds)) r mid after g t.did.shows notes));
+  did = subst (λ ds. Did S ds before after g) (ap (λ b. link_action t.items b) (sym t.end))
+      (Did-more S (map told_action t.items) (closes r ∷ []) before mid after g g t.did
+      (Did-closed (state_after S (pairs_of t.did.effects)) r mid after g t.did.shows notes));
 }
 
 -- ---- a subscriber's bytes
@@ -157,31 +157,31 @@ Hears-none S u stream given notes g v shown shows =
     record { more = []; shows = subst (session.ShowsHearing v stream) (sym (append-nil given)) shows; did = Did-none S notes g shown }
 
 pub Hears-more : (S : SharedMachine) (u : ℕ) (stream : List ℕ) (given : List session.Item) (before mid after : List Noted) (g h : GatewayValue) (v w : Hearing)
-    → (t : Hears S u stream given before mid g v) → Hears (state_after S (pairs_of t.did.deeds)) u stream (given ++ t.more) mid after h w
+    → (t : Hears S u stream given before mid g v) → Hears (state_after S (pairs_of t.did.effects)) u stream (given ++ t.more) mid after h w
     → Hears S u stream given before after h w
 Hears-more S u stream given before mid after g h v w t more = record {
   more = t.more ++ more.more;
   shows = subst (session.ShowsHearing w stream) (append_assoc given t.more more.more) more.shows;
-  did = subst (λ ds. Did S ds before after h) (sym (map-append (item_due u) t.more more.more))
-      (Did-more S (map (item_due u) t.more) (map (item_due u) more.more) before mid after g h t.did more.did);
+  did = subst (λ ds. Did S ds before after h) (sym (map-append (item_action u) t.more more.more))
+      (Did-more S (map (item_action u) t.more) (map (item_action u) more.more) before mid after g h t.did more.did);
 }
 
 pub Hears-one : (S : SharedMachine) (u : ℕ) (stream : List ℕ) (given : List session.Item) (before mid after : List Noted) (g h : GatewayValue) (v w : Hearing) (item : session.Item)
     → (t : Hears S u stream given before mid g v) → session.ShowsHearing w stream ((given ++ t.more) ++ item ∷ [])
-    → Did (state_after S (pairs_of t.did.deeds)) (item_due u item ∷ []) mid after h → Hears S u stream given before after h w
+    → Did (state_after S (pairs_of t.did.effects)) (item_action u item ∷ []) mid after h → Hears S u stream given before after h w
 Hears-one S u stream given before mid after g h v w item t shows did =
     Hears-more S u stream given before mid after g h v w t (record { more = item ∷ []; shows = shows; did = did })
 
 pub HearsAll-more : (S : SharedMachine) (u : ℕ) (stream : List ℕ) (given : List session.Item) (broken : Option Refusal) (before mid after : List Noted) (g h : GatewayValue) (v w : Hearing)
-    → (t : Hears S u stream given before mid g v) → HearsAll (state_after S (pairs_of t.did.deeds)) u stream (given ++ t.more) broken mid after h w
+    → (t : Hears S u stream given before mid g v) → HearsAll (state_after S (pairs_of t.did.effects)) u stream (given ++ t.more) broken mid after h w
     → HearsAll S u stream given broken before after h w
 HearsAll-more S u stream given broken before mid after g h v w t more = record {
   more = t.more ++ more.more;
   all = sym (append_assoc given t.more more.more) ∙ more.all;
   end = more.end;
   shows = subst (session.ShowsHearing w stream) (append_assoc given t.more more.more) more.shows;
-  did = subst (λ ds. Did S ds before after h) (sym (map-append (item_due u) t.more more.more))
-      (Did-more S (map (item_due u) t.more) (map (item_due u) more.more) before mid after g h t.did more.did);
+  did = subst (λ ds. Did S ds before after h) (sym (map-append (item_action u) t.more more.more))
+      (Did-more S (map (item_action u) t.more) (map (item_action u) more.more) before mid after g h t.did more.did);
 }
 
 pub HearsAll-end : (S : SharedMachine) (u : ℕ) (stream : List ℕ) (given : List session.Item) (broken : Option Refusal) (before after : List Noted) (g : GatewayValue) (v w : Hearing)

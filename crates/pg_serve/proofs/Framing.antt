@@ -18,9 +18,9 @@ use Rattle.pg_ingest.specs.Items.{Item, measures, passes_over, known_after, anno
 use Rattle.pg_gateway.specs.GatewayEvents.{measure}
 use Rattle.pg_gateway.specs.Related.{Related}
 use Rattle.pg_gateway.proofs.RelatedLaws.{Both}
-use Rattle.pg_serve.specs.Dues.{posts, link_due}
-use Rattle.pg_serve.specs.Moments.{SourceLinkPast, gives_all, gone_up, fed_line}
-use Rattle.pg_serve.specs.Full.{told_more, told_dues}
+use Rattle.pg_serve.specs.Actions.{posts, link_action}
+use Rattle.pg_serve.specs.WorldStates.{SourceLinkPast, gives_all, gone_up, fed_line}
+use Rattle.pg_serve.specs.Full.{told_more, told_actions}
 use Rattle.pg_serve.specs.Framed.{announced_by}
 
 -- ---- what is told behind what was told before
@@ -118,15 +118,15 @@ line_fed a b piece items others h = record {
   known = known_fed a piece items ∙ ap₂ last_of h.known (now_alike a b piece h) ∙ sym (known_fed b piece others);
 }
 
-dues_alike : (a b : SourceLinkPast) (piece : List ℕ) → LineAlike a b → told_dues piece (Some a) ≡ told_dues piece (Some b)
-dues_alike a b piece h =
-    ap₂ link_due
+actions_alike : (a b : SourceLinkPast) (piece : List ℕ) → LineAlike a b → told_actions piece (Some a) ≡ told_actions piece (Some b)
+actions_alike a b piece h =
+    ap₂ link_action
     (more_is a piece ∙ ap reverse (now_alike a b piece h) ∙ sym (more_is b piece))
     (ap break_of ((frames_in-append a.link.stream piece).1 ∙ ap (λ r. rest_in (r ++ piece)) h.rest ∙ sym (frames_in-append b.link.stream piece).1))
 
-pub told_alike : (piece : List ℕ) (o p : Option SourceLinkPast) → Both LineAlike o p → told_dues piece o ≡ told_dues piece p
+pub told_alike : (piece : List ℕ) (o p : Option SourceLinkPast) → Both LineAlike o p → told_actions piece o ≡ told_actions piece p
 told_alike piece None None h = refl
-told_alike piece (Some a) (Some b) h = dues_alike a b piece h
+told_alike piece (Some a) (Some b) h = actions_alike a b piece h
 told_alike piece None (Some b) h = absurd h
 told_alike piece (Some a) None h = absurd h
 
@@ -176,9 +176,9 @@ no_break : break_of [] ≡ None
 no_break = refl
 
 pub frame_due : (line : SourceLinkPast) (config : Source) (frame : List ℕ) (m : Measurement) → rest_in line.link.stream ≡ [] → announced_by line.link ≡ Some config
-    → SpellsData frame config m → told_dues frame (Some line) ≡ posts (measure m) ∷ []
+    → SpellsData frame config m → told_actions frame (Some line) ≡ posts (measure m) ∷ []
 frame_due line config frame m none known spelled =
-    ap₂ link_due
+    ap₂ link_action
     (more_is line frame ∙ ap reverse (frame_told line.link.source config (announced_by line.link) (rest_in line.link.stream) frame m known none spelled))
     (ap break_of (rest_of_frame line.link.stream frame config m none spelled) ∙ no_break)
 

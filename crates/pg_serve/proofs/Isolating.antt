@@ -19,11 +19,11 @@ use Rattle.pg_gateway.proofs.RelatedLaws.{Related-lookup, Both}
 use Rattle.pg_gateway.proofs.ViewLaws.{own-run}
 use Rattle.pg_gateway.proofs.AnswerLaws.{handed-run}
 use Rattle.pg_gateway.proofs.RunLaws.{Alone-run, full_history, equal_states, equal_frames}
-use Rattle.pg_serve.specs.Inputs.{Fact, Outcome}
-use Rattle.pg_serve.specs.Dues.{Deed, answered, ignored_frame, closed_at, refused, notes_of, pairs_of}
-use Rattle.pg_serve.specs.Moments.{SourceLinkPast, Moment, opening, has_source, Turns, LegalTurns, after_turn, after_turns, all_outcomes, history_of}
+use Rattle.pg_serve.specs.Inputs.{InputValue, Outcome}
+use Rattle.pg_serve.specs.Actions.{Effect, answered, ignored_frame, closed_at, refused, notes_of, pairs_of}
+use Rattle.pg_serve.specs.WorldStates.{SourceLinkPast, WorldState, opening, has_source, Turns, LegalTurns, after_turn, after_turns, all_outcomes, history_of}
 use Rattle.pg_serve.specs.Shown.{SourceLinkShows, SessionShows, WorldValue, link_counted, session_counted}
-use Rattle.pg_serve.specs.Full.{full_turns, events_made, full_outcomes, handed_over, view_of, queue_of, moment_of, events_at, link_counts_of, session_counts_of, is_connected, InputsIsolate, SharedFrame}
+use Rattle.pg_serve.specs.Full.{full_turns, events_made, full_outcomes, handed_over, view_of, queue_of, world_state_of, events_at, link_counts_of, session_counts_of, is_connected, InputsIsolate, SharedFrame}
 use Rattle.pg_serve.specs.Headline.{NotesLossless, OutcomesLossless, HasAnswered, Headline}
 use Rattle.pg_serve.specs.OwnStates.{OwnShows, OwnStates}
 use Rattle.pg_shared.proofs.Opening.{state_after-append}
@@ -32,30 +32,30 @@ use Rattle.pg_serve.proofs.Determined.{IsFull, full_lookup, lines_are_full, turn
 use Rattle.pg_serve.proofs.Belonging.{belongs}
 use Rattle.pg_serve.proofs.Handing.{outputs_hand}
 
-history_state : (m : Moment) (ts : Turns) → state_after m.shared (history_of ts) ≡ (after_turns m ts).shared
+history_state : (m : WorldState) (ts : Turns) → state_after m.shared (history_of ts) ≡ (after_turns m ts).shared
 history_state m [] = refl
-history_state m (t ∷ ts) = state_after-append m.shared (pairs_of t.deeds) (history_of ts) ∙ history_state (after_turn m t) ts
+history_state m (t ∷ ts) = state_after-append m.shared (pairs_of t.effects) (history_of ts) ∙ history_state (after_turn m t) ts
 
-history_legal : (m : Moment) (ts : Turns) → LegalTurns m ts → Legal m.shared (history_of ts)
+history_legal : (m : WorldState) (ts : Turns) → LegalTurns m ts → Legal m.shared (history_of ts)
 history_legal m [] legal = tt
-history_legal m (t ∷ ts) legal = Legal-append m.shared (pairs_of t.deeds) (history_of ts) legal.0.legal (history_legal (after_turn m t) ts legal.1)
+history_legal m (t ∷ ts) legal = Legal-append m.shared (pairs_of t.effects) (history_of ts) legal.0.legal (history_legal (after_turn m t) ts legal.1)
 
 lossless-append : (xs ys : List Answer) → views.AllLossless xs → views.AllLossless ys → views.AllLossless (xs ++ ys)
 lossless-append [] ys h k = k
 lossless-append (x ∷ xs) ys h k = (h.0, lossless-append xs ys h.1 k)
 
-deeds_lossless : (deeds : List Deed) → NotesLossless (notes_of deeds) → views.AllLossless (answers_of (pairs_of deeds))
-deeds_lossless [] h = tt
-deeds_lossless (answered e a ∷ deeds) h = (h.0, deeds_lossless deeds h.1)
-deeds_lossless (ignored_frame r ∷ deeds) h = deeds_lossless deeds h.1
-deeds_lossless (closed_at r ∷ deeds) h = deeds_lossless deeds h
-deeds_lossless (refused r ∷ deeds) h = deeds_lossless deeds h.1
+effects_lossless : (effects : List Effect) → NotesLossless (notes_of effects) → views.AllLossless (answers_of (pairs_of effects))
+effects_lossless [] h = tt
+effects_lossless (answered e a ∷ effects) h = (h.0, effects_lossless effects h.1)
+effects_lossless (ignored_frame r ∷ effects) h = effects_lossless effects h.1
+effects_lossless (closed_at r ∷ effects) h = effects_lossless effects h
+effects_lossless (refused r ∷ effects) h = effects_lossless effects h.1
 
-turns_lossless : (m : Moment) (ts : Turns) → OutcomesLossless (all_outcomes m ts) → views.AllLossless (answers_of (history_of ts))
+turns_lossless : (m : WorldState) (ts : Turns) → OutcomesLossless (all_outcomes m ts) → views.AllLossless (answers_of (history_of ts))
 turns_lossless m [] h = tt
 turns_lossless m (t ∷ ts) h =
-    subst views.AllLossless (sym (map-append _ (pairs_of t.deeds) (history_of ts)))
-    (lossless-append (answers_of (pairs_of t.deeds)) (answers_of (history_of ts)) (deeds_lossless t.deeds h.0) (turns_lossless (after_turn m t) ts h.1))
+    subst views.AllLossless (sym (map-append _ (pairs_of t.effects) (history_of ts)))
+    (lossless-append (answers_of (pairs_of t.effects)) (answers_of (history_of ts)) (effects_lossless t.effects h.0) (turns_lossless (after_turn m t) ts h.1))
 
 own_shows : (o : Option SlotValue) (p : Option SubscriberSlot) → Both SlotShows o p → OwnShows o (option_map (λ s. s.own) p)
 own_shows None None b = tt
@@ -69,7 +69,7 @@ queue_own (Some v) (Some p) h = ap Some h.queue.same
 queue_own None (Some p) h = absurd h
 queue_own (Some v) None h = absurd h
 
-handed_made : (inputs : List Fact) (u : ℕ) → handed_over u inputs (full_outcomes inputs) ≡ handed_in None (view_of u inputs)
+handed_made : (inputs : List InputValue) (u : ℕ) → handed_over u inputs (full_outcomes inputs) ≡ handed_in None (view_of u inputs)
 handed_made inputs u =
     outputs_hand u inputs ∙ ap (handed_to u (events_made inputs)) (answers_are_full inputs) ∙ handed-run u shared_opening (events_made inputs) tt
 
@@ -99,10 +99,10 @@ some_map : {A B : Type 0} (f : A → B) (o : Option A) → is_some (option_map f
 some_map f None = refl
 some_map f (Some x) = refl
 
-shared_is : (inputs : List Fact) → (moment_of inputs).shared ≡ after (events_made inputs)
+shared_is : (inputs : List InputValue) → (world_state_of inputs).shared ≡ after (events_made inputs)
 shared_is inputs = sym (history_state opening (full_turns opening inputs)) ∙ state_is_full inputs
 
-pub owned : (w : WorldValue) (inputs : List Fact) (told : List Outcome) → OutcomesLossless told → HasAnswered w inputs told → OwnStates w inputs
+pub owned : (w : WorldValue) (inputs : List InputValue) (told : List Outcome) → OutcomesLossless told → HasAnswered w inputs told → OwnStates w inputs
 owned w inputs told lossless has =
     let turns = has.turns in
     let so = subst OutcomesLossless has.outcomes lossless in
@@ -118,7 +118,7 @@ owned w inputs told lossless has =
           (Related-lookup SlotShows (nat_eq u) w.gateway.subs (after_turns opening turns).shared.subs has.shows.shows.gateway.subs)));
     }
 
-pub isolated : (w : WorldValue) (inputs : List Fact) (told : List Outcome) → OutcomesLossless told → HasAnswered w inputs told → Headline w inputs told
+pub isolated : (w : WorldValue) (inputs : List InputValue) (told : List Outcome) → OutcomesLossless told → HasAnswered w inputs told → Headline w inputs told
 isolated w inputs told lossless has =
     let turns = has.turns in
     let so = subst OutcomesLossless has.outcomes lossless in
@@ -141,8 +141,8 @@ isolated w inputs told lossless has =
       outcomes = answered;
       links = links;
       sessions = sessions;
-      registered = λ s. ap is_some (links s) ∙ some_map _ (lookup (nat_eq s) (moment_of inputs).lines) ∙ there.lines s ∙ ap (λ S. has_source S s) (shared_is inputs);
-      connected = λ u. ap is_some (sessions u) ∙ some_map _ (lookup (nat_eq u) (moment_of inputs).fed) ∙ there.fed u
+      registered = λ s. ap is_some (links s) ∙ some_map _ (lookup (nat_eq s) (world_state_of inputs).lines) ∙ there.lines s ∙ ap (λ S. has_source S s) (shared_is inputs);
+      connected = λ u. ap is_some (sessions u) ∙ some_map _ (lookup (nat_eq u) (world_state_of inputs).fed) ∙ there.fed u
           ∙ ap (λ S. is_connected (own_of u S)) (shared_is inputs) ∙ ap is_connected (own-run u shared_opening (events_made inputs) tt);
     }
 
@@ -155,7 +155,7 @@ run-more S (e ∷ es) fs = run-more (shared_step S e) es fs
 own-more : (u : ℕ) (es fs : List GatewayEvent) → own_of u (after (es ++ fs)) ≡ private_run (own_of u (after es)) (view u (after es) fs)
 own-more u es fs = ap (own_of u) (run-more shared_opening es fs) ∙ own-run u (after es) fs (Alone-run shared_opening es tt)
 
-own_at : (u : ℕ) (inputs : List Fact) (f : Fact) (events : List GatewayEvent) → events_at inputs f ≡ events
+own_at : (u : ℕ) (inputs : List InputValue) (f : InputValue) (events : List GatewayEvent) → events_at inputs f ≡ events
     → own_of u (after (events_made (inputs ++ f ∷ []))) ≡ own_of u (after (events_made inputs ++ events))
 own_at u inputs f events is = ap (λ es. own_of u (after es)) (events-more inputs f ∙ ap (λ es. events_made inputs ++ es) is)
 

@@ -17,9 +17,9 @@ use Rattle.pg_gateway.specs.Shown.{GatewayValue}
 use Rattle.pg_shared.proofs.Opening.{no_frames, none_told}
 use Rattle.pg_serve.specs.declared.source_link.SourceLink.{SourceLink}
 use Rattle.pg_serve.specs.Inputs.{Outcome}
-use Rattle.pg_serve.specs.Dues.{words_due, frames_of, gave}
+use Rattle.pg_serve.specs.Actions.{words_due, frames_of, gave}
 use Rattle.pg_serve.specs.Feeding.{TakesPiece, GivesAll}
-use Rattle.pg_serve.specs.Moments.{SourceLinkPast, new_source_link, words_given, fed_line, telling}
+use Rattle.pg_serve.specs.WorldStates.{SourceLinkPast, new_source_link, words_given, fed_line, telling}
 use Rattle.pg_serve.specs.Shown.{SourceLinkShows, SessionShows}
 use Rattle.pg_serve.specs.Taking.{GoesUp, TakesBytes}
 

@@ -26,10 +26,10 @@ use Rattle.pg_gateway.specs.Related.{Related}
 use Rattle.pg_gateway.proofs.RelatedLaws.{Both, Related-length, Related-lookup, Related-set_value, Related-remove_entry}
 use Rattle.pg_gateway.proofs.SlotLaws.{owned, Alone, same-at_slot, same-broadcast, lookup-removed}
 use Rattle.pg_gateway.proofs.ViewLaws.{own-step, Alone-next}
-use Rattle.pg_serve.specs.Inputs.{Fact, link_up, pmu_bytes, sub_bytes, names}
-use Rattle.pg_serve.specs.Dues.{Due, posts, ignores_frame, closes, refuses, pairs_of, item_due, hang_up, session_due, link_due}
-use Rattle.pg_serve.specs.Moments.{SourceLinkPast, Moment, opening, is_done, new_source_link, lines_by, fed_by, put_line, put_fed, fed_more, gives_all, gone_up, fed_line, all_given, line_after, after_turn, history_of, heard_due, up_due}
-use Rattle.pg_serve.specs.Full.{full_deeds, told_more, told_dues, dues_of, full_turn, full_turns, view_of}
+use Rattle.pg_serve.specs.Inputs.{InputValue, link_up, pmu_bytes, sub_bytes, names}
+use Rattle.pg_serve.specs.Actions.{Action, posts, ignores_frame, closes, refuses, pairs_of, item_action, hang_up, session_action, link_action}
+use Rattle.pg_serve.specs.WorldStates.{SourceLinkPast, WorldState, opening, is_done, new_source_link, lines_by, fed_by, put_line, put_fed, fed_more, gives_all, gone_up, fed_line, all_given, line_after, after_turn, history_of, heard_action, up_action}
+use Rattle.pg_serve.specs.Full.{full_effects, told_more, told_actions, actions_of, full_turn, full_turns, view_of}
 use Rattle.pg_serve.specs.Others.{names_other, is_of_other, without_others, adds_by, adds_at, adds_in, NeighboursChangeNothing}
 use Rattle.pg_serve.proofs.Framing.{LineAlike, line_same, given_alike, line_up, line_fed, told_alike}
 use Rattle.pg_serve.proofs.Taking.{Related-insert}
@@ -376,63 +376,63 @@ view-append u S [] fs = refl
 view-append u S (e ∷ es) fs = ap (λ v. part u S e ++ v) (view-append u (shared_step S e) es fs) ∙ sym (append_assoc (part u S e) (view u (shared_step S e) es) (view u (shared_run (shared_step S e) es) fs))
 
 -- the events that are due
-abbrev pub posted : List Due → List GatewayEvent
+abbrev pub posted : List Action → List GatewayEvent
 posted [] = []
-posted (posts e ∷ dues) = e ∷ posted dues
-posted (ignores_frame r ∷ dues) = posted dues
-posted (closes r ∷ dues) = posted dues
-posted (refuses r ∷ dues) = posted dues
+posted (posts e ∷ actions) = e ∷ posted actions
+posted (ignores_frame r ∷ actions) = posted actions
+posted (closes r ∷ actions) = posted actions
+posted (refuses r ∷ actions) = posted actions
 
-pub events_posted : (S : SharedMachine) (dues : List Due) → events_of (pairs_of (full_deeds S dues)) ≡ posted dues
+pub events_posted : (S : SharedMachine) (actions : List Action) → events_of (pairs_of (full_effects S actions)) ≡ posted actions
 events_posted S [] = refl
-events_posted S (posts e ∷ dues) = ap (λ es. e ∷ es) (events_posted (shared_step S e) dues)
-events_posted S (ignores_frame r ∷ dues) = events_posted S dues
-events_posted S (closes r ∷ dues) = events_posted S dues
-events_posted S (refuses r ∷ dues) = events_posted S dues
+events_posted S (posts e ∷ actions) = ap (λ es. e ∷ es) (events_posted (shared_step S e) actions)
+events_posted S (ignores_frame r ∷ actions) = events_posted S actions
+events_posted S (closes r ∷ actions) = events_posted S actions
+events_posted S (refuses r ∷ actions) = events_posted S actions
 
-pub run_posted : (S : SharedMachine) (dues : List Due) → state_after S (pairs_of (full_deeds S dues)) ≡ shared_run S (posted dues)
+pub run_posted : (S : SharedMachine) (actions : List Action) → state_after S (pairs_of (full_effects S actions)) ≡ shared_run S (posted actions)
 run_posted S [] = refl
-run_posted S (posts e ∷ dues) = run_posted (shared_step S e) dues
-run_posted S (ignores_frame r ∷ dues) = run_posted S dues
-run_posted S (closes r ∷ dues) = run_posted S dues
-run_posted S (refuses r ∷ dues) = run_posted S dues
+run_posted S (posts e ∷ actions) = run_posted (shared_step S e) actions
+run_posted S (ignores_frame r ∷ actions) = run_posted S actions
+run_posted S (closes r ∷ actions) = run_posted S actions
+run_posted S (refuses r ∷ actions) = run_posted S actions
 
-abbrev pub made_from : Moment → List Fact → List GatewayEvent
+abbrev pub made_from : WorldState → List InputValue → List GatewayEvent
 made_from m inputs = events_of (history_of (full_turns m inputs))
 
-abbrev pub turned : Moment → Fact → Moment
+abbrev pub turned : WorldState → InputValue → WorldState
 turned m f = after_turn m (full_turn m f)
 
-pub view_turn : (u : ℕ) (m : Moment) (f : Fact) (inputs : List Fact)
-    → view u m.shared (made_from m (f ∷ inputs)) ≡ view u m.shared (posted (dues_of m f)) ++ view u (turned m f).shared (made_from (turned m f) inputs)
+pub view_turn : (u : ℕ) (m : WorldState) (f : InputValue) (inputs : List InputValue)
+    → view u m.shared (made_from m (f ∷ inputs)) ≡ view u m.shared (posted (actions_of m f)) ++ view u (turned m f).shared (made_from (turned m f) inputs)
 view_turn u m f inputs =
-    ap (view u m.shared) (map-append (λ (x : GatewayEvent × Answer). x.0) (pairs_of (full_deeds m.shared (dues_of m f))) (history_of (full_turns (turned m f) inputs))
-    ∙ ap (λ es. es ++ made_from (turned m f) inputs) (events_posted m.shared (dues_of m f)))
-    ∙ view-append u m.shared (posted (dues_of m f)) (made_from (turned m f) inputs)
-    ∙ ap (λ S. view u m.shared (posted (dues_of m f)) ++ view u S (made_from (turned m f) inputs)) (sym (run_posted m.shared (dues_of m f)))
+    ap (view u m.shared) (map-append (λ (x : GatewayEvent × Answer). x.0) (pairs_of (full_effects m.shared (actions_of m f))) (history_of (full_turns (turned m f) inputs))
+    ∙ ap (λ es. es ++ made_from (turned m f) inputs) (events_posted m.shared (actions_of m f)))
+    ∙ view-append u m.shared (posted (actions_of m f)) (made_from (turned m f) inputs)
+    ∙ ap (λ S. view u m.shared (posted (actions_of m f)) ++ view u S (made_from (turned m f) inputs)) (sym (run_posted m.shared (actions_of m f)))
 
 -- ---- what is due of a subscriber's bytes
 
-abbrev pub IsAt : ℕ → Due → Type 0
+abbrev pub IsAt : ℕ → Action → Type 0
 IsAt w (posts e) = (x : SubscriberEvent) × (e ≡ asks w x)
 IsAt w (ignores_frame r) = Unit {0}
 IsAt w (closes r) = Unit {0}
 IsAt w (refuses r) = Unit {0}
 
-abbrev pub AllAt : ℕ → List Due → Type 0
+abbrev pub AllAt : ℕ → List Action → Type 0
 AllAt w [] = Unit {0}
-AllAt w (d ∷ dues) = IsAt w d × AllAt w dues
+AllAt w (d ∷ actions) = IsAt w d × AllAt w actions
 
-at-append : (w : ℕ) (ds es : List Due) → AllAt w ds → AllAt w es → AllAt w (ds ++ es)
+at-append : (w : ℕ) (ds es : List Action) → AllAt w ds → AllAt w es → AllAt w (ds ++ es)
 at-append w [] es h k = k
 at-append w (d ∷ ds) es h k = (h.0, at-append w ds es h.1 k)
 
-at-drop : (w n : ℕ) (dues : List Due) → AllAt w dues → AllAt w (drop n dues)
-at-drop w zero dues h = h
+at-drop : (w n : ℕ) (actions : List Action) → AllAt w actions → AllAt w (drop n actions)
+at-drop w zero actions h = h
 at-drop w (suc n) [] h = tt
-at-drop w (suc n) (d ∷ dues) h = at-drop w n dues h.1
+at-drop w (suc n) (d ∷ actions) h = at-drop w n actions h.1
 
-at_items : (w : ℕ) (items : List Item) → AllAt w (map (item_due w) items)
+at_items : (w : ℕ) (items : List Item) → AllAt w (map (item_action w) items)
 at_items w [] = tt
 at_items w (commands c ∷ items) = ((session.command c.stream c.word, refl), at_items w items)
 at_items w (ignores r ∷ items) = (tt, at_items w items)
@@ -441,31 +441,31 @@ at_break : (w : ℕ) (broken : Option Refusal) → AllAt w (hang_up w broken)
 at_break w None = tt
 at_break w (Some r) = (tt, ((session.hangup, refl), tt))
 
-pub at_heard : (w : ℕ) (piece : List ℕ) (there : Bool) (o : Option (List ℕ)) → AllAt w (heard_due w piece there o)
+pub at_heard : (w : ℕ) (piece : List ℕ) (there : Bool) (o : Option (List ℕ)) → AllAt w (heard_action w piece there o)
 at_heard w piece there None = (tt, tt)
 at_heard w piece there (Some stream) =
-    at-drop w (length (session_due w stream)) (session_due w (stream ++ piece))
-    (at-append w (map (item_due w) (items_of (stream ++ piece))) (hang_up w (break_in (stream ++ piece))) (at_items w (items_of (stream ++ piece))) (at_break w (break_in (stream ++ piece))))
+    at-drop w (length (session_action w stream)) (session_action w (stream ++ piece))
+    (at-append w (map (item_action w) (items_of (stream ++ piece))) (hang_up w (break_in (stream ++ piece))) (at_items w (items_of (stream ++ piece))) (at_break w (break_in (stream ++ piece))))
 
 itself : (u : ℕ) → nat_eq u u ≡ true
 itself u = eq-eqb u u refl
 
-at_own : (u : ℕ) (dues : List Due) → AllAt u dues → AreOwn u (posted dues)
+at_own : (u : ℕ) (actions : List Action) → AllAt u actions → AreOwn u (posted actions)
 at_own u [] h = tt
-at_own u (posts e ∷ dues) h =
-    (subst (λ x. names_other u x ≡ false) (sym h.0.1) (ap not (itself u)), subst (λ x. (S : SharedMachine) → HasRoom x S) (sym h.0.1) (λ S. tt), at_own u dues h.1)
-at_own u (ignores_frame r ∷ dues) h = at_own u dues h.1
-at_own u (closes r ∷ dues) h = at_own u dues h.1
-at_own u (refuses r ∷ dues) h = at_own u dues h.1
+at_own u (posts e ∷ actions) h =
+    (subst (λ x. names_other u x ≡ false) (sym h.0.1) (ap not (itself u)), subst (λ x. (S : SharedMachine) → HasRoom x S) (sym h.0.1) (λ S. tt), at_own u actions h.1)
+at_own u (ignores_frame r ∷ actions) h = at_own u actions h.1
+at_own u (closes r ∷ actions) h = at_own u actions h.1
+at_own u (refuses r ∷ actions) h = at_own u actions h.1
 
-at_others : (u w : ℕ) (dues : List Due) → nat_eq u w ≡ false → AllAt w dues → AreOthers u (posted dues)
+at_others : (u w : ℕ) (actions : List Action) → nat_eq u w ≡ false → AllAt w actions → AreOthers u (posted actions)
 at_others u w [] apart h = tt
-at_others u w (posts e ∷ dues) apart h = (subst (λ x. names_other u x ≡ true) (sym h.0.1) (ap not apart), at_others u w dues apart h.1)
-at_others u w (ignores_frame r ∷ dues) apart h = at_others u w dues apart h.1
-at_others u w (closes r ∷ dues) apart h = at_others u w dues apart h.1
-at_others u w (refuses r ∷ dues) apart h = at_others u w dues apart h.1
+at_others u w (posts e ∷ actions) apart h = (subst (λ x. names_other u x ≡ true) (sym h.0.1) (ap not apart), at_others u w actions apart h.1)
+at_others u w (ignores_frame r ∷ actions) apart h = at_others u w actions apart h.1
+at_others u w (closes r ∷ actions) apart h = at_others u w actions apart h.1
+at_others u w (refuses r ∷ actions) apart h = at_others u w actions apart h.1
 
-pub told_own : (u : ℕ) (items : List link.Item) (broken : Option Refusal) → AreOwn u (posted (link_due items broken))
+pub told_own : (u : ℕ) (items : List link.Item) (broken : Option Refusal) → AreOwn u (posted (link_action items broken))
 told_own u [] None = tt
 told_own u [] (Some r) = tt
 told_own u (link.announces config ∷ items) broken = (refl, (λ S. tt), told_own u items broken)
@@ -524,9 +524,9 @@ remove_here u xs alone = lookup-removed u u xs alone ∙ rw (itself u) refl
 remove_apart : {V : Type 0} (u w : ℕ) (xs : List (ℕ × V)) → Alone xs → nat_eq u w ≡ false → lookup (nat_eq u) (remove_entry (nat_eq w) xs) ≡ lookup (nat_eq u) xs
 remove_apart u w xs alone apart = lookup-removed u w xs alone ∙ rw apart refl
 
--- ---- two moments that are alike for u
+-- ---- two states that are alike for u
 
-pub record AlikeMoments (u : ℕ) (m n : Moment) : Type 0 where
+pub record AlikeStates (u : ℕ) (m n : WorldState) : Type 0 where
   pub shared : Alike u m.shared n.shared
   pub lines : Related LineAlike m.lines n.lines
   pub fed : lookup (nat_eq u) m.fed ≡ lookup (nat_eq u) n.fed
@@ -588,16 +588,16 @@ other_lines u lines S T (who_waits us) done_so other = refl
 other_lines u lines S T (audit w index) done_so other = refl
 other_lines u lines S T (standing w place) done_so other = refl
 
-pub other_turn : (u : ℕ) (m n : Moment) (f : Fact) → AlikeMoments u m n → is_of_other u f ≡ true
-    → AlikeMoments u (turned m f) n × (view u m.shared (posted (dues_of m f)) ≡ [])
+pub other_turn : (u : ℕ) (m n : WorldState) (f : InputValue) → AlikeStates u m n → is_of_other u f ≡ true
+    → AlikeStates u (turned m f) n × (view u m.shared (posted (actions_of m f)) ≡ [])
 other_turn u m n (link_up s) alike other = absurd (cc)
 other_turn u m n (pmu_bytes s piece) alike other = absurd (cc)
 other_turn u m n (sub_bytes w piece) alike other =
-    let dues = dues_of m (sub_bytes w piece) in
+    let actions = actions_of m (sub_bytes w piece) in
     let apart = not_mine u w other in
-    let ran = others_alike u m.shared n.shared (posted dues) alike.shared (at_others u w dues apart (at_heard w piece (is_some (slot_of w m.shared.subs)) (lookup (nat_eq w) m.fed))) in (
+    let ran = others_alike u m.shared n.shared (posted actions) alike.shared (at_others u w actions apart (at_heard w piece (is_some (slot_of w m.shared.subs)) (lookup (nat_eq w) m.fed))) in (
       record {
-        shared = subst (λ S. Alike u S n.shared) (sym (run_posted m.shared dues)) ran.0;
+        shared = subst (λ S. Alike u S n.shared) (sym (run_posted m.shared actions)) ran.0;
         lines = alike.lines;
         fed = fed_apart u w piece m.fed (lookup (nat_eq w) m.fed) apart alike.first.fed_alone ∙ alike.fed;
         first = turn_belongs m (sub_bytes w piece) alike.first;
@@ -619,24 +619,24 @@ other_turn u m n (names e) alike other =
     )
 
 -- of an input that names no other
-abbrev Goes : ℕ → Moment → Moment → Fact → Type 0
-Goes u m n f = AlikeMoments u (turned m f) (turned n f) × (view u m.shared (posted (dues_of m f)) ≡ view u n.shared (posted (dues_of n f)))
+abbrev Goes : ℕ → WorldState → WorldState → InputValue → Type 0
+Goes u m n f = AlikeStates u (turned m f) (turned n f) × (view u m.shared (posted (actions_of m f)) ≡ view u n.shared (posted (actions_of n f)))
 
-turn_by_dues : (u : ℕ) (m n : Moment) (f : Fact) → Alike u m.shared n.shared → dues_of m f ≡ dues_of n f → AreOwn u (posted (dues_of m f))
-    → Alike u (state_after m.shared (pairs_of (full_deeds m.shared (dues_of m f)))) (state_after n.shared (pairs_of (full_deeds n.shared (dues_of n f))))
-    × (view u m.shared (posted (dues_of m f)) ≡ view u n.shared (posted (dues_of n f)))
-turn_by_dues u m n f alike same own =
-    let ran = run_alike u m.shared n.shared (posted (dues_of m f)) alike own in (
-      subst (λ S. Alike u S (state_after n.shared (pairs_of (full_deeds n.shared (dues_of n f))))) (sym (run_posted m.shared (dues_of m f)))
-          (subst (λ T. Alike u (shared_run m.shared (posted (dues_of m f))) T) (sym (run_posted n.shared (dues_of n f) ∙ ap (λ ds. shared_run n.shared (posted ds)) (sym same))) ran.0),
+turn_by_actions : (u : ℕ) (m n : WorldState) (f : InputValue) → Alike u m.shared n.shared → actions_of m f ≡ actions_of n f → AreOwn u (posted (actions_of m f))
+    → Alike u (state_after m.shared (pairs_of (full_effects m.shared (actions_of m f)))) (state_after n.shared (pairs_of (full_effects n.shared (actions_of n f))))
+    × (view u m.shared (posted (actions_of m f)) ≡ view u n.shared (posted (actions_of n f)))
+turn_by_actions u m n f alike same own =
+    let ran = run_alike u m.shared n.shared (posted (actions_of m f)) alike own in (
+      subst (λ S. Alike u S (state_after n.shared (pairs_of (full_effects n.shared (actions_of n f))))) (sym (run_posted m.shared (actions_of m f)))
+          (subst (λ T. Alike u (shared_run m.shared (posted (actions_of m f))) T) (sym (run_posted n.shared (actions_of n f) ∙ ap (λ ds. shared_run n.shared (posted ds)) (sym same))) ran.0),
       ran.1 ∙ ap (λ ds. view u n.shared (posted ds)) same,
     )
 
-up_own : (u : ℕ) (o : Option SourceLinkPast) → AreOwn u (posted (up_due o))
+up_own : (u : ℕ) (o : Option SourceLinkPast) → AreOwn u (posted (up_action o))
 up_own u None = tt
 up_own u (Some line) = tt
 
-bytes_own : (u : ℕ) (piece : List ℕ) (o : Option SourceLinkPast) → AreOwn u (posted (told_dues piece o))
+bytes_own : (u : ℕ) (piece : List ℕ) (o : Option SourceLinkPast) → AreOwn u (posted (told_actions piece o))
 bytes_own u piece None = tt
 bytes_own u piece (Some line) = told_own u (told_more piece (Some line)) (link.break_in (line.link.stream ++ piece))
 
@@ -649,11 +649,11 @@ fed_here u piece fed fed' (Some stream) e e' alone alone' = by (break_in (stream
     by None = set_here u stream (stream ++ piece) fed e ∙ sym (set_here u stream (stream ++ piece) fed' e')
     by (Some r) = remove_here u fed alone ∙ sym (remove_here u fed' alone')
 
-heard_own : (u : ℕ) (m n : Moment) (piece : List ℕ) → AlikeMoments u m n → Goes u m n (sub_bytes u piece)
+heard_own : (u : ℕ) (m n : WorldState) (piece : List ℕ) → AlikeStates u m n → Goes u m n (sub_bytes u piece)
 heard_own u m n piece alike =
     let f = sub_bytes u piece in
-    let same : dues_of m f ≡ dues_of n f = ap₂ (λ b o. heard_due u piece b o) (same_there u m.shared n.shared alike.shared.own) alike.fed in
-    let ran = turn_by_dues u m n f alike.shared same (at_own u (dues_of m f) (at_heard u piece (is_some (slot_of u m.shared.subs)) (lookup (nat_eq u) m.fed))) in (
+    let same : actions_of m f ≡ actions_of n f = ap₂ (λ b o. heard_action u piece b o) (same_there u m.shared n.shared alike.shared.own) alike.fed in
+    let ran = turn_by_actions u m n f alike.shared same (at_own u (actions_of m f) (at_heard u piece (is_some (slot_of u m.shared.subs)) (lookup (nat_eq u) m.fed))) in (
       record {
         shared = ran.0;
         lines = alike.lines;
@@ -666,7 +666,7 @@ heard_own u m n piece alike =
     )
 
 -- lines go on alike
-own_lines : (u : ℕ) (m n : Moment) (e : GatewayEvent) → AlikeMoments u m n → (shared_step m.shared e).pmus ≡ (shared_step n.shared e).pmus
+own_lines : (u : ℕ) (m n : WorldState) (e : GatewayEvent) → AlikeStates u m n → (shared_step m.shared e).pmus ≡ (shared_step n.shared e).pmus
     → Related LineAlike (lines_by m.lines m.shared (shared_step m.shared e) e (is_done (full_answer m.shared e)))
     (lines_by n.lines n.shared (shared_step n.shared e) e (is_done (full_answer n.shared e)))
 own_lines u m n (add_pmu key) alike after =
@@ -726,10 +726,10 @@ end_here u fed fed' false false same alone alone' e = e
 end_here u fed fed' true false same alone alone' e = absurd (cc)
 end_here u fed fed' false true same alone alone' e = absurd (cc)
 
-abbrev FedAlike : ℕ → Moment → Moment → GatewayEvent → Type 0
+abbrev FedAlike : ℕ → WorldState → WorldState → GatewayEvent → Type 0
 FedAlike u m n e = lookup (nat_eq u) (fed_by m.fed e (is_done (full_answer m.shared e))) ≡ lookup (nat_eq u) (fed_by n.fed e (is_done (full_answer n.shared e)))
 
-fed_asked : (u : ℕ) (m n : Moment) (x : SubscriberEvent) → AlikeMoments u m n → FedAlike u m n (asks u x)
+fed_asked : (u : ℕ) (m n : WorldState) (x : SubscriberEvent) → AlikeStates u m n → FedAlike u m n (asks u x)
 fed_asked u m n session.connect alike =
     connect_here u m.fed n.fed (is_done (full_answer m.shared (asks u session.connect))) (is_done (full_answer n.shared (asks u session.connect)))
     (connect_done m.shared u ∙ ap (λ o. is_some o && not (connected_in o)) alike.shared.own ∙ sym (connect_done n.shared u)) alike.fed
@@ -746,12 +746,12 @@ fed_asked u m n (session.tick soc) alike = alike.fed
 fed_asked u m n (session.command number word) alike = alike.fed
 fed_asked u m n (session.drain k) alike = alike.fed
 
-fed_dropped : (u : ℕ) (m n : Moment) → AlikeMoments u m n → FedAlike u m n (drop_sub u)
+fed_dropped : (u : ℕ) (m n : WorldState) → AlikeStates u m n → FedAlike u m n (drop_sub u)
 fed_dropped u m n alike =
     end_here u m.fed n.fed (is_done (full_answer m.shared (drop_sub u))) (is_done (full_answer n.shared (drop_sub u)))
     (drop_done m.shared u ∙ same_there u m.shared n.shared alike.shared.own ∙ sym (drop_done n.shared u)) alike.first.fed_alone alike.other.fed_alone alike.fed
 
-fed_named : (u : ℕ) (m n : Moment) (e : GatewayEvent) → AlikeMoments u m n → names_other u e ≡ false → FedAlike u m n e
+fed_named : (u : ℕ) (m n : WorldState) (e : GatewayEvent) → AlikeStates u m n → names_other u e ≡ false → FedAlike u m n e
 fed_named u m n (add_pmu key) alike own = alike.fed
 fed_named u m n (drop_pmu key) alike own = alike.fed
 fed_named u m n (add_sub w size bytes) alike own = alike.fed
@@ -767,14 +767,14 @@ fed_named u m n (who_waits us) alike own = alike.fed
 fed_named u m n (audit w index) alike own = alike.fed
 fed_named u m n (standing w place) alike own = alike.fed
 
-abbrev pub RoomFor : Fact → SharedMachine → Type 0
+abbrev pub RoomFor : InputValue → SharedMachine → Type 0
 RoomFor (link_up s) S = Unit {0}
 RoomFor (pmu_bytes s piece) S = Unit {0}
 RoomFor (sub_bytes u piece) S = Unit {0}
 RoomFor (names e) S = HasRoom e S
 
 -- a line that goes up or is fed
-up_alike : (o p : Option SourceLinkPast) → Both LineAlike o p → up_due o ≡ up_due p
+up_alike : (o p : Option SourceLinkPast) → Both LineAlike o p → up_action o ≡ up_action p
 up_alike None None h = refl
 up_alike (Some a) (Some b) h = refl
 up_alike None (Some b) h = absurd h
@@ -800,11 +800,11 @@ lines_fed s piece xs ys (Some a) (Some b) h lines =
 lines_fed s piece xs ys None (Some b) h lines = absurd h
 lines_fed s piece xs ys (Some a) None h lines = absurd h
 
-pub own_turn : (u : ℕ) (m n : Moment) (f : Fact) → AlikeMoments u m n → is_of_other u f ≡ false → RoomFor f m.shared → RoomFor f n.shared → Goes u m n f
+pub own_turn : (u : ℕ) (m n : WorldState) (f : InputValue) → AlikeStates u m n → is_of_other u f ≡ false → RoomFor f m.shared → RoomFor f n.shared → Goes u m n f
 own_turn u m n (link_up s) alike own room room' =
     let f = link_up s in
     let there = Related-lookup LineAlike (nat_eq s) m.lines n.lines alike.lines in
-    let ran = turn_by_dues u m n f alike.shared (up_alike (lookup (nat_eq s) m.lines) (lookup (nat_eq s) n.lines) there) (up_own u (lookup (nat_eq s) m.lines)) in (
+    let ran = turn_by_actions u m n f alike.shared (up_alike (lookup (nat_eq s) m.lines) (lookup (nat_eq s) n.lines) there) (up_own u (lookup (nat_eq s) m.lines)) in (
       record {
         shared = ran.0;
         lines = lines_up s m.lines n.lines (lookup (nat_eq s) m.lines) (lookup (nat_eq s) n.lines) there alike.lines;
@@ -817,7 +817,7 @@ own_turn u m n (link_up s) alike own room room' =
 own_turn u m n (pmu_bytes s piece) alike own room room' =
     let f = pmu_bytes s piece in
     let there = Related-lookup LineAlike (nat_eq s) m.lines n.lines alike.lines in
-    let ran = turn_by_dues u m n f alike.shared (told_alike piece (lookup (nat_eq s) m.lines) (lookup (nat_eq s) n.lines) there)
+    let ran = turn_by_actions u m n f alike.shared (told_alike piece (lookup (nat_eq s) m.lines) (lookup (nat_eq s) n.lines) there)
     (bytes_own u piece (lookup (nat_eq s) m.lines)) in (
       record {
         shared = ran.0;
@@ -930,14 +930,14 @@ length_run S (e ∷ es) =
     let rest = length_run (shared_step S e) es in
     omega (arith, one, rest)
 
-at_adds : (w : ℕ) (dues : List Due) → AllAt w dues → adds_all (posted dues) ≡ 0
+at_adds : (w : ℕ) (actions : List Action) → AllAt w actions → adds_all (posted actions) ≡ 0
 at_adds w [] h = refl
-at_adds w (posts e ∷ dues) h = let none : adds_by e ≡ 0 = ap adds_by h.0.1 in let rest = at_adds w dues h.1 in omega (arith, none, rest)
-at_adds w (ignores_frame r ∷ dues) h = at_adds w dues h.1
-at_adds w (closes r ∷ dues) h = at_adds w dues h.1
-at_adds w (refuses r ∷ dues) h = at_adds w dues h.1
+at_adds w (posts e ∷ actions) h = let none : adds_by e ≡ 0 = ap adds_by h.0.1 in let rest = at_adds w actions h.1 in omega (arith, none, rest)
+at_adds w (ignores_frame r ∷ actions) h = at_adds w actions h.1
+at_adds w (closes r ∷ actions) h = at_adds w actions h.1
+at_adds w (refuses r ∷ actions) h = at_adds w actions h.1
 
-told_adds : (items : List link.Item) (broken : Option Refusal) → adds_all (posted (link_due items broken)) ≡ 0
+told_adds : (items : List link.Item) (broken : Option Refusal) → adds_all (posted (link_action items broken)) ≡ 0
 told_adds [] None = refl
 told_adds [] (Some r) = refl
 told_adds (link.announces config ∷ items) broken = let rest = told_adds items broken in omega (arith, rest)
@@ -947,26 +947,26 @@ told_adds (link.rejects_config r ∷ items) broken = told_adds items broken
 told_adds (link.rejects_data r ∷ items) broken = told_adds items broken
 told_adds (link.passes_over ∷ items) broken = told_adds items broken
 
-dues_add : (m : Moment) (f : Fact) → adds_all (posted (dues_of m f)) ≡ adds_at f
-dues_add m (link_up s) = by (lookup (nat_eq s) m.lines)
+actions_add : (m : WorldState) (f : InputValue) → adds_all (posted (actions_of m f)) ≡ adds_at f
+actions_add m (link_up s) = by (lookup (nat_eq s) m.lines)
   where
-    by : (o : Option SourceLinkPast) → adds_all (posted (up_due o)) ≡ 0
+    by : (o : Option SourceLinkPast) → adds_all (posted (up_action o)) ≡ 0
     by None = refl
     by (Some line) = refl
-dues_add m (pmu_bytes s piece) = by (lookup (nat_eq s) m.lines)
+actions_add m (pmu_bytes s piece) = by (lookup (nat_eq s) m.lines)
   where
-    by : (o : Option SourceLinkPast) → adds_all (posted (told_dues piece o)) ≡ 0
+    by : (o : Option SourceLinkPast) → adds_all (posted (told_actions piece o)) ≡ 0
     by None = refl
     by (Some line) = told_adds (told_more piece (Some line)) (link.break_in (line.link.stream ++ piece))
-dues_add m (sub_bytes w piece) = at_adds w (dues_of m (sub_bytes w piece)) (at_heard w piece (is_some (slot_of w m.shared.subs)) (lookup (nat_eq w) m.fed))
-dues_add m (names e) = omega arith
+actions_add m (sub_bytes w piece) = at_adds w (actions_of m (sub_bytes w piece)) (at_heard w piece (is_some (slot_of w m.shared.subs)) (lookup (nat_eq w) m.fed))
+actions_add m (names e) = omega arith
 
-pub length_turn : (m : Moment) (f : Fact) → length (turned m f).shared.subs ≤ length m.shared.subs + adds_at f
+pub length_turn : (m : WorldState) (f : InputValue) → length (turned m f).shared.subs ≤ length m.shared.subs + adds_at f
 length_turn m f =
-    let dues = dues_of m f in
-    let run = length_run m.shared (posted dues) in
-    let count = dues_add m f in
-    subst (λ S. length S.subs ≤ length m.shared.subs + adds_at f) (sym (run_posted m.shared dues)) (omega (arith, run, count))
+    let actions = actions_of m f in
+    let run = length_run m.shared (posted actions) in
+    let count = actions_add m f in
+    subst (λ S. length S.subs ≤ length m.shared.subs + adds_at f) (sym (run_posted m.shared actions)) (omega (arith, run, count))
 
 less : (n : ℕ) → n + 1 ≤ 64 → nat_le 64 n ≡ false
 less n h = by (nat_le 64 n) refl
@@ -991,7 +991,7 @@ has_room (who_waits us) S others h = tt
 has_room (audit u index) S others h = tt
 has_room (standing u place) S others h = tt
 
-pub room_for : (f : Fact) (S : SharedMachine) (others : ℕ) → length S.subs + (adds_at f + others) ≤ 64 → RoomFor f S
+pub room_for : (f : InputValue) (S : SharedMachine) (others : ℕ) → length S.subs + (adds_at f + others) ≤ 64 → RoomFor f S
 room_for (link_up s) S others h = tt
 room_for (pmu_bytes s piece) S others h = tt
 room_for (sub_bytes u piece) S others h = tt
@@ -999,7 +999,7 @@ room_for (names e) S others h = has_room e S others h
 
 -- ---- all inputs
 
-views_alike : (u : ℕ) (inputs : List Fact) (m n : Moment) → AlikeMoments u m n → length m.shared.subs + adds_in inputs ≤ 64
+views_alike : (u : ℕ) (inputs : List InputValue) (m n : WorldState) → AlikeStates u m n → length m.shared.subs + adds_in inputs ≤ 64
     → length n.shared.subs + adds_in (without_others u inputs) ≤ 64
     → view u m.shared (made_from m inputs) ≡ view u n.shared (made_from n (without_others u inputs))
 views_alike u [] m n alike room room' = refl
@@ -1009,7 +1009,7 @@ views_alike u (f ∷ inputs) m n alike room room' = by (is_of_other u f) refl (v
     grown h = let one = length_turn m f in omega (arith, one, h)
 
     by : (b : Bool) → is_of_other u f ≡ b
-        → ((m n : Moment) → AlikeMoments u m n → length m.shared.subs + adds_in inputs ≤ 64 → length n.shared.subs + adds_in (without_others u inputs) ≤ 64
+        → ((m n : WorldState) → AlikeStates u m n → length m.shared.subs + adds_in inputs ≤ 64 → length n.shared.subs + adds_in (without_others u inputs) ≤ 64
         → view u m.shared (made_from m inputs) ≡ view u n.shared (made_from n (without_others u inputs)))
         → view u m.shared (made_from m (f ∷ inputs)) ≡ view u n.shared (made_from n (without_others u (f ∷ inputs)))
     by true is rest =
@@ -1027,7 +1027,7 @@ views_alike u (f ∷ inputs) m n alike room room' = by (is_of_other u f) refl (v
         ∙ ap₂ (λ v w. v ++ w) ran.1 (rest (turned m f) (turned n f) ran.0 (grown room) (omega (arith, one, room_left)))
         ∙ sym (view_turn u n f (without_others u inputs)) ∙ ap (λ fs. view u n.shared (made_from n fs)) (sym left)
 
-fewer : (u : ℕ) (inputs : List Fact) → adds_in (without_others u inputs) ≤ adds_in inputs
+fewer : (u : ℕ) (inputs : List InputValue) → adds_in (without_others u inputs) ≤ adds_in inputs
 fewer u [] = omega arith
 fewer u (f ∷ inputs) = by (is_of_other u f) (fewer u inputs)
   where
@@ -1036,9 +1036,9 @@ fewer u (f ∷ inputs) = by (is_of_other u f) (fewer u inputs)
     by true h = omega (arith, h)
     by false h = omega (arith, h)
 
-view_without : (u : ℕ) (inputs : List Fact) → adds_in inputs ≤ 64 → view_of u inputs ≡ view_of u (without_others u inputs)
+view_without : (u : ℕ) (inputs : List InputValue) → adds_in inputs ≤ 64 → view_of u inputs ≡ view_of u (without_others u inputs)
 view_without u inputs room =
-    let alike : AlikeMoments u opening opening = record {
+    let alike : AlikeStates u opening opening = record {
       shared = record { pmus = refl; tick = refl; own = refl; alone = tt; alone' = tt };
       lines = tt;
       fed = refl;

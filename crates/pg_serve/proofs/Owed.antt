@@ -12,7 +12,7 @@ use Rattle.pg_ingest.specs.Commands.{Act, asks, told_in, is_accepted, owes_confi
 use Rattle.pg_ingest.specs.Linking.{Linking}
 use Rattle.pg_ingest.specs.Shown as ingest
 use Rattle.pg_ingest.specs.Shown.{LinkPast, word_due, command_due, commanding}
-use Rattle.pg_serve.specs.Dues.{words_due, frames_of, gave}
+use Rattle.pg_serve.specs.Actions.{words_due, frames_of, gave}
 use Rattle.pg_serve.specs.Feeding.{GivesAll}
 
 abbrev words_by : Bool → Bool → List Word

@@ -6,7 +6,7 @@ use Rattle.pg_gateway.specs.GatewayEvents.{GatewayEvent, measure}
 use Rattle.pg_gateway.specs.State.{SharedMachine, opening as shared_opening, refusal}
 use Rattle.pg_gateway.specs.Views.{part, shared_run}
 use Rattle.pg_gateway.specs.Laws.{AgreeOn}
-use Rattle.pg_serve.specs.Inputs.{Fact, Outcome}
+use Rattle.pg_serve.specs.Inputs.{InputValue, Outcome}
 use Rattle.pg_serve.specs.Shown.{WorldValue, queue_shown}
 use Rattle.pg_serve.specs.Others.{adds_in}
 use Rattle.pg_serve.specs.Framed.{SameButUngranted}
@@ -56,25 +56,25 @@ Agree u S T [] = Unit {0}
 Agree u S T (x ∷ pairs) = AgreeAt u S T x × Agree u (shared_run S (mine_by x)) (shared_run T (other_by x)) pairs
 
 -- The events that two lists of inputs make lie side by side so that they agree on what u is to see.
-pub record SeeAlike (u : ℕ) (inputs others : List Fact) : Type 0 where
+pub record SeeAlike (u : ℕ) (inputs others : List InputValue) : Type 0 where
   pub pairs : List Beside
   pub mine : mine_of pairs ≡ events_made inputs
   pub other : other_of pairs ≡ events_made others
   pub agree : Agree u shared_opening shared_opening pairs
 
 -- A subscriber's queue shows the same in both worlds, and both handed it the same.
-pub record ServesAlike (u : ℕ) (w : WorldValue) (inputs : List Fact) (told : List Outcome)
-    (v : WorldValue) (others : List Fact) (answers : List Outcome) : Type 0 where
+pub record ServesAlike (u : ℕ) (w : WorldValue) (inputs : List InputValue) (told : List Outcome)
+    (v : WorldValue) (others : List InputValue) (answers : List Outcome) : Type 0 where
   pub queued : queue_shown u w ≡ queue_shown u v
   pub handed : handed_over u inputs told ≡ handed_over u others answers
 
 -- Beside any other world that has answered without a loss and without want of memory: a subscriber whose view of both is
 -- the same is served alike; and so is one that sees both alike but for blocks of shared frames that it is not granted. So it is
 -- where the inputs are the same but for the bytes of such blocks, and add subscribers at most 64 times.
-pub record StandsBeside (w : WorldValue) (inputs : List Fact) (told : List Outcome) : Type 0 where
-  pub views : (u : ℕ) (v : WorldValue) (others : List Fact) (answers : List Outcome) → HasAnswered v others answers → OutcomesLossless answers
+pub record StandsBeside (w : WorldValue) (inputs : List InputValue) (told : List Outcome) : Type 0 where
+  pub views : (u : ℕ) (v : WorldValue) (others : List InputValue) (answers : List Outcome) → HasAnswered v others answers → OutcomesLossless answers
       → view_of u inputs ≡ view_of u others → ServesAlike u w inputs told v others answers
-  pub frames : (u : ℕ) (v : WorldValue) (others : List Fact) (answers : List Outcome) → HasAnswered v others answers → OutcomesLossless answers
+  pub frames : (u : ℕ) (v : WorldValue) (others : List InputValue) (answers : List Outcome) → HasAnswered v others answers → OutcomesLossless answers
       → SeeAlike u inputs others → ServesAlike u w inputs told v others answers
-  pub bytes : (u : ℕ) (v : WorldValue) (others : List Fact) (answers : List Outcome) → HasAnswered v others answers → OutcomesLossless answers
+  pub bytes : (u : ℕ) (v : WorldValue) (others : List InputValue) (answers : List Outcome) → HasAnswered v others answers → OutcomesLossless answers
       → adds_in inputs ≤ 64 → SameButUngranted u inputs others → ServesAlike u w inputs told v others answers

@@ -14,16 +14,16 @@ use Rattle.pg_ingest.specs.Items.{announced_last, told_back}
 use Rattle.pg_ingest.specs.Shown.{LinkPast}
 use Rattle.pg_gateway.specs.GatewayEvents.{measure}
 use Rattle.pg_gateway.specs.State.{own_of}
-use Rattle.pg_serve.specs.Inputs.{Fact, pmu_bytes}
-use Rattle.pg_serve.specs.Moments.{SourceLinkPast, Moment, opening, after_turn}
-use Rattle.pg_serve.specs.Full.{full_turn, moment_of, events_at}
+use Rattle.pg_serve.specs.Inputs.{InputValue, pmu_bytes}
+use Rattle.pg_serve.specs.WorldStates.{SourceLinkPast, WorldState, opening, after_turn}
+use Rattle.pg_serve.specs.Full.{full_turn, world_state_of, events_at}
 
 -- the configuration that a link's source announced last, by all frames of its connection
 abbrev pub announced_by : LinkPast → Option Source
 announced_by past = announced_last (told_back past.source (reverse (frames_in past.stream)))
 
--- At this moment the source has a link, its bytes end where a frame ends, and it announced this configuration last.
-pub record Awaits (m : Moment) (source : ℕ) (config : Source) : Type 0 where
+-- At this state the source has a link, its bytes end where a frame ends, and it announced this configuration last.
+pub record Awaits (m : WorldState) (source : ℕ) (config : Source) : Type 0 where
   pub line : SourceLinkPast
   pub found : lookup (nat_eq source) m.lines ≡ Some line
   pub between : rest_in line.link.stream ≡ []
@@ -32,8 +32,8 @@ pub record Awaits (m : Moment) (source : ℕ) (config : Source) : Type 0 where
 -- A data frame with a right check, by the configuration of its link, is one event: the measurement that its bytes spell. And this has
 -- just the frame's blocks.
 pub record FramesAreEvents : Type 0 where
-  pub events : (inputs : List Fact) (source : ℕ) (config : Source) (frame : List ℕ) (m : Measurement)
-      → Awaits (moment_of inputs) source config → SpellsData frame config m → events_at inputs (pmu_bytes source frame) ≡ measure m ∷ []
+  pub events : (inputs : List InputValue) (source : ℕ) (config : Source) (frame : List ℕ) (m : Measurement)
+      → Awaits (world_state_of inputs) source config → SpellsData frame config m → events_at inputs (pmu_bytes source frame) ≡ measure m ∷ []
   pub blocks : (config : Source) (frame : List ℕ) (m : Measurement) (spelled : SpellsData frame config m) (i : ℕ)
       → block_of m i ≡ slice_index_or spelled.blocks i []
 
@@ -44,9 +44,9 @@ abbrev pub is_granted : Option Model → PmuKey → Bool
 is_granted None key = false
 is_granted (Some p) key = has_key p.grants key
 
--- At this moment both are data frames by the configuration of the source's link, and they differ in nothing but blocks of PMUs that u
+-- At this state both are data frames by the configuration of the source's link, and they differ in nothing but blocks of PMUs that u
 -- is not granted: SOC, quality and numerator are the same, and so is the block of each PMU that it is granted.
-pub record DifferUngranted (u : ℕ) (m : Moment) (source : ℕ) (config : Source) (frame another : List ℕ) : Type 0 where
+pub record DifferUngranted (u : ℕ) (m : WorldState) (source : ℕ) (config : Source) (frame another : List ℕ) : Type 0 where
   pub awaits : Awaits m source config
   pub mine : Measurement
   pub other : Measurement
@@ -61,29 +61,29 @@ pub record DifferUngranted (u : ℕ) (m : Moment) (source : ℕ) (config : Sourc
 -- an input to each of two worlds
 pub data Given : Type 0 where
   -- the same to both
-  same : Fact → Given
+  same : InputValue → Given
   -- a data frame of a source, by this configuration: these bytes to the one, those to the other
   frames : ℕ → Source → List ℕ → List ℕ → Given
 
-abbrev pub mine_at : Given → Fact
+abbrev pub mine_at : Given → InputValue
 mine_at (same f) = f
 mine_at (frames source config frame another) = pmu_bytes source frame
 
-abbrev pub other_at : Given → Fact
+abbrev pub other_at : Given → InputValue
 other_at (same f) = f
 other_at (frames source config frame another) = pmu_bytes source another
 
-abbrev pub DifferAt : ℕ → Moment → Given → Type 0
+abbrev pub DifferAt : ℕ → WorldState → Given → Type 0
 DifferAt u m (same f) = Unit {0}
 DifferAt u m (frames source config frame another) = DifferUngranted u m source config frame another
 
--- So they differ one after another, from this moment of the one world.
-abbrev pub DifferFrom : ℕ → Moment → List Given → Type 0
+-- So they differ one after another, from this state of the one world.
+abbrev pub DifferFrom : ℕ → WorldState → List Given → Type 0
 DifferFrom u m [] = Unit {0}
 DifferFrom u m (x ∷ xs) = DifferAt u m x × DifferFrom u (after_turn m (full_turn m (mine_at x))) xs
 
 -- Two lists of inputs that are the same, but for the bytes of data frames which differ in blocks that u is not granted.
-pub record SameButUngranted (u : ℕ) (inputs others : List Fact) : Type 0 where
+pub record SameButUngranted (u : ℕ) (inputs others : List InputValue) : Type 0 where
   pub given : List Given
   pub mine : map mine_at given ≡ inputs
   pub other : map other_at given ≡ others

@@ -16,27 +16,27 @@ use Rattle.pg_gateway.specs.GatewayEvents.{GatewayEvent, add_pmu, drop_pmu, add_
 use Rattle.pg_gateway.specs.State.{SharedMachine, opening as shared_opening, slot_of, own_of, refusal}
 use Rattle.pg_gateway.specs.Views.{Seen, full_answer, shared_step, view, Handed, handed_out}
 use Rattle.pg_gateway.specs.Laws.{after, events_of, answers_of, AgreeOn}
-use Rattle.pg_serve.specs.Inputs.{Fact, link_up, pmu_bytes, sub_bytes, names, Noted, replied, ignored, closed, Outcome}
-use Rattle.pg_serve.specs.Dues.{Due, posts, ignores_frame, closes, refuses, Deed, answered, ignored_frame, closed_at, refused, pairs_of, link_due}
-use Rattle.pg_serve.specs.Moments.{SourceLinkPast, Moment, opening, Turn, Turns, after_turn, after_turns, all_outcomes, history_of, heard_due, up_due}
+use Rattle.pg_serve.specs.Inputs.{InputValue, link_up, pmu_bytes, sub_bytes, names, Noted, replied, ignored, closed, Outcome}
+use Rattle.pg_serve.specs.Actions.{Action, posts, ignores_frame, closes, refuses, Effect, answered, ignored_frame, closed_at, refused, pairs_of, link_action}
+use Rattle.pg_serve.specs.WorldStates.{SourceLinkPast, WorldState, opening, Turn, Turns, after_turn, after_turns, all_outcomes, history_of, heard_action, up_action}
 
 -- ---- the turn that an input is
 
-abbrev pub full_deed : SharedMachine → Due → Deed
-full_deed S (posts e) = answered e (full_answer S e)
-full_deed S (ignores_frame r) = ignored_frame r
-full_deed S (closes r) = closed_at r
-full_deed S (refuses r) = refused r
+abbrev pub full_effect : SharedMachine → Action → Effect
+full_effect S (posts e) = answered e (full_answer S e)
+full_effect S (ignores_frame r) = ignored_frame r
+full_effect S (closes r) = closed_at r
+full_effect S (refuses r) = refused r
 
-abbrev pub after_due : SharedMachine → Due → SharedMachine
-after_due S (posts e) = shared_step S e
-after_due S (ignores_frame r) = S
-after_due S (closes r) = S
-after_due S (refuses r) = S
+abbrev pub after_action : SharedMachine → Action → SharedMachine
+after_action S (posts e) = shared_step S e
+after_action S (ignores_frame r) = S
+after_action S (closes r) = S
+after_action S (refuses r) = S
 
-abbrev pub full_deeds : SharedMachine → List Due → List Deed
-full_deeds S [] = []
-full_deeds S (d ∷ ds) = full_deed S d ∷ full_deeds (after_due S d) ds
+abbrev pub full_effects : SharedMachine → List Action → List Effect
+full_effects S [] = []
+full_effects S (d ∷ ds) = full_effect S d ∷ full_effects (after_action S d) ds
 
 -- what is told of a source's bytes more by a piece
 abbrev pub told_more : List ℕ → Option SourceLinkPast → List link.Item
@@ -44,51 +44,51 @@ told_more piece None = []
 told_more piece (Some line) =
     drop (length (told_of line.link.source line.link.stream)) (told_of line.link.source (line.link.stream ++ piece))
 
-abbrev pub full_told : Moment → Fact → List link.Item
+abbrev pub full_told : WorldState → InputValue → List link.Item
 full_told m (link_up s) = []
 full_told m (pmu_bytes s piece) = told_more piece (lookup (nat_eq s) m.lines)
 full_told m (sub_bytes u piece) = []
 full_told m (names e) = []
 
-abbrev pub told_dues : List ℕ → Option SourceLinkPast → List Due
-told_dues piece None = up_due None
-told_dues piece (Some line) = link_due (told_more piece (Some line)) (break_in (line.link.stream ++ piece))
+abbrev pub told_actions : List ℕ → Option SourceLinkPast → List Action
+told_actions piece None = up_action None
+told_actions piece (Some line) = link_action (told_more piece (Some line)) (break_in (line.link.stream ++ piece))
 
 -- what an input makes, by looking back over the bytes that came before
-abbrev pub dues_of : Moment → Fact → List Due
-dues_of m (link_up s) = up_due (lookup (nat_eq s) m.lines)
-dues_of m (pmu_bytes s piece) = told_dues piece (lookup (nat_eq s) m.lines)
-dues_of m (sub_bytes u piece) = heard_due u piece (is_some (slot_of u m.shared.subs)) (lookup (nat_eq u) m.fed)
-dues_of m (names e) = posts e ∷ []
+abbrev pub actions_of : WorldState → InputValue → List Action
+actions_of m (link_up s) = up_action (lookup (nat_eq s) m.lines)
+actions_of m (pmu_bytes s piece) = told_actions piece (lookup (nat_eq s) m.lines)
+actions_of m (sub_bytes u piece) = heard_action u piece (is_some (slot_of u m.shared.subs)) (lookup (nat_eq u) m.fed)
+actions_of m (names e) = posts e ∷ []
 
-abbrev pub full_turn : Moment → Fact → Turn
-full_turn m f = record { input = f; deeds = full_deeds m.shared (dues_of m f); told = full_told m f }
+abbrev pub full_turn : WorldState → InputValue → Turn
+full_turn m f = record { input = f; effects = full_effects m.shared (actions_of m f); told = full_told m f }
 
-abbrev pub full_turns : Moment → List Fact → Turns
+abbrev pub full_turns : WorldState → List InputValue → Turns
 full_turns m [] = []
 full_turns m (f ∷ fs) = full_turn m f ∷ full_turns (after_turn m (full_turn m f)) fs
 
--- the moment that inputs lead to
-abbrev pub moment_of : List Fact → Moment
-moment_of inputs = after_turns opening (full_turns opening inputs)
+-- the state that inputs lead to
+abbrev pub world_state_of : List InputValue → WorldState
+world_state_of inputs = after_turns opening (full_turns opening inputs)
 
 -- the events that the inputs make, and their answers
-abbrev pub events_made : List Fact → List GatewayEvent
+abbrev pub events_made : List InputValue → List GatewayEvent
 events_made inputs = events_of (history_of (full_turns opening inputs))
 
-abbrev pub answers_made : List Fact → List Answer
+abbrev pub answers_made : List InputValue → List Answer
 answers_made inputs = answers_of (history_of (full_turns opening inputs))
 
 -- the events that one input more makes
-abbrev pub events_at : List Fact → Fact → List GatewayEvent
-events_at inputs f = events_of (pairs_of (full_turn (moment_of inputs) f).deeds)
+abbrev pub events_at : List InputValue → InputValue → List GatewayEvent
+events_at inputs f = events_of (pairs_of (full_turn (world_state_of inputs) f).effects)
 
 -- all that a subscriber sees of the inputs
-abbrev pub view_of : ℕ → List Fact → List Seen
+abbrev pub view_of : ℕ → List InputValue → List Seen
 view_of u inputs = view u shared_opening (events_made inputs)
 
 -- what is answered to the inputs
-abbrev pub full_outcomes : List Fact → List Outcome
+abbrev pub full_outcomes : List InputValue → List Outcome
 full_outcomes inputs = all_outcomes opening (full_turns opening inputs)
 
 -- the input asks something for u, or is of its bytes
@@ -108,7 +108,7 @@ is_asked u (who_waits us) = false
 is_asked u (audit w index) = false
 is_asked u (standing w place) = false
 
-abbrev pub is_for : ℕ → Fact → Bool
+abbrev pub is_for : ℕ → InputValue → Bool
 is_for u (link_up s) = false
 is_for u (pmu_bytes s piece) = false
 is_for u (sub_bytes w piece) = nat_eq u w
@@ -121,23 +121,23 @@ handed_note (ignored r) = []
 handed_note (closed r) = []
 
 -- what the outputs of these inputs hand to u
-abbrev pub handed_at : ℕ → Fact → List Noted → List Handed
+abbrev pub handed_at : ℕ → InputValue → List Noted → List Handed
 handed_at u f notes = if is_for u f then flat_map handed_note notes else []
 
-abbrev pub handed_over : ℕ → List Fact → List Outcome → List Handed
+abbrev pub handed_over : ℕ → List InputValue → List Outcome → List Handed
 handed_over u [] outcomes = []
 handed_over u (f ∷ inputs) [] = []
 handed_over u (f ∷ inputs) (o ∷ outcomes) = handed_at u f o.notes ++ handed_over u inputs outcomes
 
 -- what a source's link counts: what is told of the bytes that it was given since it was made, where the source has a link
-abbrev pub link_counts_of : ℕ → List Fact → Option PmuStats
+abbrev pub link_counts_of : ℕ → List InputValue → Option PmuStats
 link_counts_of s inputs =
     option_map (λ line. link_stats (line.link.earlier ++ told_of line.link.source line.link.stream))
-    (lookup (nat_eq s) (moment_of inputs).lines)
+    (lookup (nat_eq s) (world_state_of inputs).lines)
 
 -- what a subscriber's session counts: what its bytes since its Connect make, where it has a session
-abbrev pub session_counts_of : ℕ → List Fact → Option PmuStats
-session_counts_of u inputs = option_map (λ stream. session_stats (items_of stream)) (lookup (nat_eq u) (moment_of inputs).fed)
+abbrev pub session_counts_of : ℕ → List InputValue → Option PmuStats
+session_counts_of u inputs = option_map (λ stream. session_stats (items_of stream)) (lookup (nat_eq u) (world_state_of inputs).fed)
 
 -- what of a private gateway its queue's readers show
 abbrev pub queue_of : Option Model → Option Queue
@@ -148,20 +148,20 @@ is_connected p = option_map_or (λ p. p.connected) p false
 
 -- Two lists of inputs that give a subscriber equal views leave it alike, queue the same for it and hand it the same.
 pub record InputsIsolate : Type 0 where
-  pub states : (u : ℕ) (is js : List Fact) → view_of u is ≡ view_of u js
+  pub states : (u : ℕ) (is js : List InputValue) → view_of u is ≡ view_of u js
       → own_of u (after (events_made is)) ≡ own_of u (after (events_made js))
-  pub queued : (u : ℕ) (is js : List Fact) → view_of u is ≡ view_of u js
+  pub queued : (u : ℕ) (is js : List InputValue) → view_of u is ≡ view_of u js
       → queue_of (own_of u (after (events_made is))) ≡ queue_of (own_of u (after (events_made js)))
-  pub handed : (u : ℕ) (is js : List Fact) → view_of u is ≡ view_of u js
+  pub handed : (u : ℕ) (is js : List InputValue) → view_of u is ≡ view_of u js
       → handed_over u is (full_outcomes is) ≡ handed_over u js (full_outcomes js)
 
 -- Of a frame of several PMUs a subscriber has its granted blocks alone. Where two worlds take inputs of which it sees the same,
 -- it goes on alike; so where these are bytes that make a measurement each, and the measurements agree on what it is granted.
 pub record SharedFrame : Type 0 where
-  pub parts : (u : ℕ) (is js : List Fact) (f g : Fact) → own_of u (after (events_made is)) ≡ own_of u (after (events_made js))
+  pub parts : (u : ℕ) (is js : List InputValue) (f g : InputValue) → own_of u (after (events_made is)) ≡ own_of u (after (events_made js))
       → view u (after (events_made is)) (events_at is f) ≡ view u (after (events_made js)) (events_at js g)
       → own_of u (after (events_made (is ++ f ∷ []))) ≡ own_of u (after (events_made (js ++ g ∷ [])))
-  pub frames : (u : ℕ) (is js : List Fact) (f g : Fact) (m n : Measurement)
+  pub frames : (u : ℕ) (is js : List InputValue) (f g : InputValue) (m n : Measurement)
       → own_of u (after (events_made is)) ≡ own_of u (after (events_made js))
       → events_at is f ≡ measure m ∷ [] → events_at js g ≡ measure n ∷ []
       → refusal (after (events_made is)) (measure m) ≡ None → refusal (after (events_made js)) (measure n) ≡ None

@@ -3,8 +3,8 @@ use Rattle.std.specs.Prelude.{◌≡◌, ◌≢◌, ℕ, is_some, List, [], ◌�
 use Rattle.pg_wire.specs.declared.refusal.Refusal.TheVariants.{NoMemory}
 use Rattle.pg_gateway.specs.Views.{private_run, handed_in, Lossless}
 use Rattle.pg_gateway.specs.Laws.{after}
-use Rattle.pg_serve.specs.Inputs.{Fact, Noted, replied, ignored, closed, Outcome}
-use Rattle.pg_serve.specs.Moments.{Turns, opening, all_outcomes, inputs_of, has_source}
+use Rattle.pg_serve.specs.Inputs.{InputValue, Noted, replied, ignored, closed, Outcome}
+use Rattle.pg_serve.specs.WorldStates.{Turns, opening, all_outcomes, inputs_of, has_source}
 use Rattle.pg_serve.specs.Shown.{WorldValue, queue_shown, link_counted, session_counted, ShowsTurns}
 use Rattle.pg_serve.specs.Full.{events_made, full_outcomes, handed_over, view_of, queue_of, is_connected, link_counts_of, session_counts_of}
 
@@ -20,7 +20,7 @@ OutcomesLossless [] = Unit {0}
 OutcomesLossless (o ∷ outcomes) = NotesLossless o.notes × OutcomesLossless outcomes
 
 -- The world may have taken these inputs since it was new, in one call or several, and answered so.
-pub record HasAnswered (w : WorldValue) (inputs : List Fact) (told : List Outcome) : Type 0 where
+pub record HasAnswered (w : WorldValue) (inputs : List InputValue) (told : List Outcome) : Type 0 where
   pub turns : Turns
   pub taken : inputs_of turns ≡ inputs
   pub outcomes : told ≡ all_outcomes opening turns
@@ -31,7 +31,7 @@ pub record HasAnswered (w : WorldValue) (inputs : List Fact) (told : List Outcom
 -- gateway hands out (bytes, frames begun, gaps). The outputs are the replies to the events that the inputs make, with the notes of what
 -- was ignored or closed. Links and sessions count what they were fed; a source has a link just where a PMU of it is registered, and a
 -- subscriber a session just where it is connected.
-pub record Headline (w : WorldValue) (inputs : List Fact) (told : List Outcome) : Type 0 where
+pub record Headline (w : WorldValue) (inputs : List InputValue) (told : List Outcome) : Type 0 where
   pub queued : (u : ℕ) → queue_shown u w ≡ queue_of (private_run None (view_of u inputs))
   pub handed : (u : ℕ) → handed_over u inputs told ≡ handed_in None (view_of u inputs)
   pub outcomes : told ≡ full_outcomes inputs

@@ -10,28 +10,28 @@ use Rattle.pg_serve.specs.declared.input.Note.{Note}
 use Rattle.pg_serve.specs.declared.input.Note.TheVariants as note
 use Rattle.pg_serve.specs.declared.input.Output.{Output}
 
-pub data Fact : Type 0 where
+pub data InputValue : Type 0 where
   -- a source's connection is up
-  link_up : ℕ → Fact
+  link_up : ℕ → InputValue
   -- bytes of a source came, and bytes of a subscriber
-  pmu_bytes : ℕ → List ℕ → Fact
-  sub_bytes : ℕ → List ℕ → Fact
+  pmu_bytes : ℕ → List ℕ → InputValue
+  sub_bytes : ℕ → List ℕ → InputValue
   -- the event of the input's name
-  names : GatewayEvent → Fact
+  names : GatewayEvent → InputValue
 
 -- what an input says
-abbrev pub fact : Input → Fact
-fact (input.LinkUp source) = link_up source
-fact (input.PmuBytes source bytes) = pmu_bytes source bytes.items
-fact (input.SubBytes u bytes) = sub_bytes u bytes.items
-fact (input.Connect u) = names (asks u session.connect)
-fact (input.Hangup u) = names (asks u session.hangup)
-fact (input.Drain u size) = names (asks u (session.drain size))
-fact (input.Tick soc) = names (tick soc)
-fact (input.Edit e) = names (edited e)
+abbrev pub input_value : Input → InputValue
+input_value (input.LinkUp source) = link_up source
+input_value (input.PmuBytes source bytes) = pmu_bytes source bytes.items
+input_value (input.SubBytes u bytes) = sub_bytes u bytes.items
+input_value (input.Connect u) = names (asks u session.connect)
+input_value (input.Hangup u) = names (asks u session.hangup)
+input_value (input.Drain u size) = names (asks u (session.drain size))
+input_value (input.Tick soc) = names (tick soc)
+input_value (input.Edit e) = names (edited e)
 
-abbrev pub facts : List Input → List Fact
-facts inputs = map fact inputs
+abbrev pub input_values : List Input → List InputValue
+input_values inputs = map input_value inputs
 
 pub data Noted : Type 0 where
   replied : Answer → Noted

@@ -1,8 +1,8 @@
 -- To be believed, in this order. The world: what it is handed and answers; what bytes make; the turns that its inputs are; what
 -- it shows of them; what holds of each subscriber; of neighbours; of the bytes of data frames; and beside another world.
 pub mod Inputs
-pub mod Dues
-pub mod Moments
+pub mod Actions
+pub mod WorldStates
 pub mod Shown
 pub mod Full
 pub mod Headline

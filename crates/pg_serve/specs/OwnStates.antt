@@ -5,7 +5,7 @@ use Rattle.pg_session.specs.Shown.{Model}
 use Rattle.pg_session.specs.Shown as session
 use Rattle.pg_gateway.specs.Views.{private_run}
 use Rattle.pg_gateway.specs.Shown.{SlotValue}
-use Rattle.pg_serve.specs.Inputs.{Fact}
+use Rattle.pg_serve.specs.Inputs.{InputValue}
 use Rattle.pg_serve.specs.Shown.{WorldValue}
 use Rattle.pg_serve.specs.Full.{view_of}
 
@@ -17,5 +17,5 @@ OwnShows None (Some p) = ⊥
 OwnShows (Some v) None = ⊥
 
 -- Each subscriber is what a private gateway makes of its view of the inputs alone.
-pub record OwnStates (w : WorldValue) (inputs : List Fact) : Type 0 where
+pub record OwnStates (w : WorldValue) (inputs : List InputValue) : Type 0 where
   pub own : (u : ℕ) → OwnShows (lookup (nat_eq u) w.gateway.subs) (private_run None (view_of u inputs))

@@ -10,7 +10,7 @@ use Rattle.pg_ingest.specs.Shown.{IsAllTold}
 use Rattle.pg_gateway.specs.Related.{Related}
 use Rattle.pg_gateway.specs.Shown.{GatewayValue, GatewayShows}
 use Rattle.pg_serve.specs.declared.source_link.SourceLink.{SourceLink}
-use Rattle.pg_serve.specs.Moments.{SourceLinkPast, Moment, opening, Turns, LegalTurns, after_turns}
+use Rattle.pg_serve.specs.WorldStates.{SourceLinkPast, WorldState, opening, Turns, LegalTurns, after_turns}
 
 -- What is kept of a world.
 pub record WorldValue : Type 0 where
@@ -52,7 +52,7 @@ pub record Holding : Type 0 where
 abbrev pub holding : WorldValue → Holding
 holding w = record { gateway = w.gateway; lines = w.lines; sessions = w.sessions }
 
-pub record MomentShows (h : Holding) (m : Moment) : Type 0 where
+pub record WorldStateShows (h : Holding) (m : WorldState) : Type 0 where
   pub gateway : GatewayShows h.gateway m.shared
   pub lines : Related SourceLinkShows h.lines m.lines
   pub sessions : Related SessionShows h.sessions m.fed
@@ -60,5 +60,5 @@ pub record MomentShows (h : Holding) (m : Moment) : Type 0 where
 -- The world may have taken these turns since it was new, and no call of `run` found no memory for its answer.
 pub record ShowsTurns (w : WorldValue) (turns : Turns) : Type 0 where
   pub legal : LegalTurns opening turns
-  pub shows : MomentShows (holding w) (after_turns opening turns)
+  pub shows : WorldStateShows (holding w) (after_turns opening turns)
   pub ready : w.failed ≡ false

@@ -11,7 +11,7 @@ ghost use Rattle.pg_gateway.specs.GatewayEvents.{gateway_event, measure, tells};
 ghost use Rattle.pg_gateway.specs.State.{SharedMachine};
 ghost use Rattle.pg_gateway.specs.Shown.{GatewayShows};
 ghost use Rattle.pg_serve.specs.Inputs.{noted, all_noted, replied, ignored, closed};
-ghost use Rattle.pg_serve.specs.Dues.{posts};
+ghost use Rattle.pg_serve.specs.Actions.{posts};
 ghost use Rattle.pg_serve.specs.Feeding.{Did, TellsAll, TakesPiece, GivesAll, HearsAll};
 
 use crate::input::Note;
@@ -97,7 +97,7 @@ fn post_measured(
     Ok(())
 }
 
-/// Posts the events of a source that are whole, and tells whether its bytes broke behind them.
+/// Posts the events of a source that are whole, and returns whether its bytes broke behind them.
 fn post_events(
     gateway: &mut Gateway,
     link: &mut Link,
@@ -184,7 +184,7 @@ pub(crate) fn give_commands(link: &mut Link, frames: &mut Vec<u8>) -> Result<(),
     Ok(())
 }
 
-/// Posts the commands of a subscriber that are whole, and tells whether its bytes broke behind them.
+/// Posts the commands of a subscriber that are whole, and returns whether its bytes broke behind them.
 fn post_commands(
     gateway: &mut Gateway,
     session: &mut Session,

@@ -1,7 +1,7 @@
 //! Lemmas about the world: contracts of functions that do nothing.
 ghost use Rattle.pg_serve.specs.Full.{InputsIsolate, SharedFrame, view_of};
 ghost use Rattle.std.specs.Prelude.{◌≡◌, ◌≤◌, ℕ, List};
-ghost use Rattle.pg_serve.specs.Inputs.{Fact};
+ghost use Rattle.pg_serve.specs.Inputs.{InputValue};
 ghost use Rattle.pg_serve.specs.Others.{adds_in, NeighboursChangeNothing};
 ghost use Rattle.pg_serve.specs.Framed.{FramesAreEvents, SameButUngranted};
 
@@ -32,5 +32,5 @@ pub fn frames_are_events()
 /// Two lists of inputs that are the same, but for the bytes of data frames which differ in blocks that a subscriber is not
 /// granted, give it equal views, where they add subscribers at most 64 times.
 pub fn ungranted_bytes_change_nothing()
-    ensures { (u : ℕ) (is js : List Fact) → adds_in is ≤ 64 → SameButUngranted u is js → view_of u is ≡ view_of u js }
+    ensures { (u : ℕ) (is js : List InputValue) → adds_in is ≤ 64 → SameButUngranted u is js → view_of u is ≡ view_of u js }
 {}

@@ -4,7 +4,7 @@ ghost use Rattle.std.specs.Prelude.{◌≡◌, [], true, false, IfOk};
 ghost use Rattle.pg_gateway.specs.State.{SharedMachine};
 ghost use Rattle.pg_gateway.specs.Shown.{GatewayShows};
 ghost use Rattle.pg_serve.specs.Inputs.{outcome};
-ghost use Rattle.pg_serve.specs.Moments.{SourceLinkPast, new_source_link};
+ghost use Rattle.pg_serve.specs.WorldStates.{SourceLinkPast, new_source_link};
 ghost use Rattle.pg_serve.specs.Shown.{SourceLinkShows};
 ghost use Rattle.pg_serve.specs.Taking.{GoesUp, TakesBytes};
 
@@ -42,7 +42,7 @@ impl SourceLink {
         Ok(commands_owed(alloc, &mut self.link)?)
     }
 
-    /// The source's bytes came: what they make, and what is to be sent, in place of what the output told.
+    /// The source's bytes came: what they make, and what is to be sent, in place of what the output held.
     pub(crate) fn take(
         &mut self,
         gateway: &mut Gateway,

@@ -5,8 +5,8 @@ ghost use Rattle.pg_serve.specs.Taking.{held, TakesInputs};
 ghost use Rattle.std.specs.Map.{lookup};
 ghost use Rattle.pg_gateway.specs.State.{SharedMachine, slot_of};
 ghost use Rattle.pg_gateway.specs.Shown.{GatewayShows};
-ghost use Rattle.pg_serve.specs.Moments.{absence};
-ghost use Rattle.pg_serve.specs.Inputs.{Fact, Outcome, fact, facts, outcome, outcomes};
+ghost use Rattle.pg_serve.specs.WorldStates.{absence};
+ghost use Rattle.pg_serve.specs.Inputs.{InputValue, Outcome, input_value, input_values, outcome, outcomes};
 ghost use Rattle.pg_serve.specs.Headline.{HasAnswered, OutcomesLossless, Headline};
 ghost use Rattle.pg_serve.specs.OwnStates.{OwnStates};
 ghost use Rattle.pg_serve.specs.Beside.{StandsBeside};
@@ -61,7 +61,7 @@ impl World {
 
     /// Takes the inputs, one after another, and answers each.
     ///
-    /// Where no answer since the world was new tells want of memory or a lost frame, each subscriber is what a private gateway
+    /// Where no answer since the world was new reports a want of memory or a lost frame, each subscriber is what a private gateway
     /// makes of its own view of all inputs; and beside any other world of which it sees the same, its queue shows the same and
     /// it was handed the same, however blocks of shared frames differ that it is not granted.
     ///
@@ -69,16 +69,16 @@ impl World {
     ///
     /// `NoMemory`, where there is none for an answer. From then on it answers that alone.
     pub fn run(&mut self, inputs: &[Input]) -> Result<Vec<Output>, Refusal>
-        ensures answers { IfOk result (λ outputs. (before : List Fact) (told : List Outcome) → HasAnswered self.old before told
-            → HasAnswered self.new (before ++ facts inputs.now) (told ++ outcomes outputs.items)) }
-        ensures isolates { IfOk result (λ outputs. (before : List Fact) (told : List Outcome) → HasAnswered self.old before told
+        ensures answers { IfOk result (λ outputs. (before : List InputValue) (told : List Outcome) → HasAnswered self.old before told
+            → HasAnswered self.new (before ++ input_values inputs.now) (told ++ outcomes outputs.items)) }
+        ensures isolates { IfOk result (λ outputs. (before : List InputValue) (told : List Outcome) → HasAnswered self.old before told
             → OutcomesLossless (told ++ outcomes outputs.items)
-            → Headline self.new (before ++ facts inputs.now) (told ++ outcomes outputs.items)) }
-        ensures own { IfOk result (λ outputs. (before : List Fact) (told : List Outcome) → HasAnswered self.old before told
-            → OutcomesLossless (told ++ outcomes outputs.items) → OwnStates self.new (before ++ facts inputs.now)) }
-        ensures beside { IfOk result (λ outputs. (before : List Fact) (told : List Outcome) → HasAnswered self.old before told
+            → Headline self.new (before ++ input_values inputs.now) (told ++ outcomes outputs.items)) }
+        ensures own { IfOk result (λ outputs. (before : List InputValue) (told : List Outcome) → HasAnswered self.old before told
+            → OutcomesLossless (told ++ outcomes outputs.items) → OwnStates self.new (before ++ input_values inputs.now)) }
+        ensures beside { IfOk result (λ outputs. (before : List InputValue) (told : List Outcome) → HasAnswered self.old before told
             → OutcomesLossless (told ++ outcomes outputs.items)
-            → StandsBeside self.new (before ++ facts inputs.now) (told ++ outcomes outputs.items)) }
+            → StandsBeside self.new (before ++ input_values inputs.now) (told ++ outcomes outputs.items)) }
         ensures stays { self.old.failed ≡ true → self.new ≡ self.old }
         ensures fails { OnErr result (self.new.failed ≡ true) }
         ensures failed { self.old.failed ≡ true → result ≡ Err Refusal.NoMemory }
@@ -94,25 +94,25 @@ impl World {
         Ok(outputs)
     }
 
-    /// Takes one input, and answers it in place of what the output told: for inputs that come one after another. Where the input is
+    /// Takes one input, and answers it in place of what the output held: for inputs that come one after another. Where the input is
     /// bytes of a source the memory of the output is kept.
     ///
     /// What `run` promises of its inputs and answers holds of these.
     ///
     /// # Errors
     ///
-    /// `NoMemory`, where there is none for an answer. From then on it answers that alone. The output then tells nothing of use.
+    /// `NoMemory`, where there is none for an answer. From then on it answers that alone. The output then has nothing of use.
     pub fn take(&mut self, input: &Input, output: &mut Output) -> Result<(), Refusal>
-        ensures answers { IfOk result (λ _. (before : List Fact) (told : List Outcome) → HasAnswered self.old before told
-            → HasAnswered self.new (before ++ fact input.now ∷ []) (told ++ outcome output.new ∷ [])) }
-        ensures isolates { IfOk result (λ _. (before : List Fact) (told : List Outcome) → HasAnswered self.old before told
+        ensures answers { IfOk result (λ _. (before : List InputValue) (told : List Outcome) → HasAnswered self.old before told
+            → HasAnswered self.new (before ++ input_value input.now ∷ []) (told ++ outcome output.new ∷ [])) }
+        ensures isolates { IfOk result (λ _. (before : List InputValue) (told : List Outcome) → HasAnswered self.old before told
             → OutcomesLossless (told ++ outcome output.new ∷ [])
-            → Headline self.new (before ++ fact input.now ∷ []) (told ++ outcome output.new ∷ [])) }
-        ensures own { IfOk result (λ _. (before : List Fact) (told : List Outcome) → HasAnswered self.old before told
-            → OutcomesLossless (told ++ outcome output.new ∷ []) → OwnStates self.new (before ++ fact input.now ∷ [])) }
-        ensures beside { IfOk result (λ _. (before : List Fact) (told : List Outcome) → HasAnswered self.old before told
+            → Headline self.new (before ++ input_value input.now ∷ []) (told ++ outcome output.new ∷ [])) }
+        ensures own { IfOk result (λ _. (before : List InputValue) (told : List Outcome) → HasAnswered self.old before told
+            → OutcomesLossless (told ++ outcome output.new ∷ []) → OwnStates self.new (before ++ input_value input.now ∷ [])) }
+        ensures beside { IfOk result (λ _. (before : List InputValue) (told : List Outcome) → HasAnswered self.old before told
             → OutcomesLossless (told ++ outcome output.new ∷ [])
-            → StandsBeside self.new (before ++ fact input.now ∷ []) (told ++ outcome output.new ∷ [])) }
+            → StandsBeside self.new (before ++ input_value input.now ∷ []) (told ++ outcome output.new ∷ [])) }
         ensures stays { self.old.failed ≡ true → (self.new ≡ self.old) × (output.new ≡ output.old) }
         ensures fails { OnErr result (self.new.failed ≡ true) }
         ensures failed { self.old.failed ≡ true → result ≡ Err Refusal.NoMemory }
@@ -181,7 +181,7 @@ impl World {
 
 /// Takes the inputs, one after another.
 fn run_all(core: &mut Core, inputs: &[Input]) -> Result<Vec<Output>, AllocError>
-    ensures takes { IfOk result (λ outputs. TakesInputs (held core.old) (facts inputs.now) (outcomes outputs.items) (held core.new)) }
+    ensures takes { IfOk result (λ outputs. TakesInputs (held core.old) (input_values inputs.now) (outcomes outputs.items) (held core.new)) }
 {
     let mut outputs = Vec::new(core.alloc);
     for input in inputs {

@@ -6,10 +6,10 @@ ghost use Rattle.pg_session.specs.Private as private;
 ghost use Rattle.pg_gateway.specs.GatewayEvents.{gateway_event, asks, add_pmu, drop_pmu, told, tells};
 ghost use Rattle.pg_gateway.specs.State.{SharedMachine, slot_of, refusal};
 ghost use Rattle.pg_gateway.specs.Shown.{GatewayShows};
-ghost use Rattle.pg_serve.specs.Moments.{Moment, has_source, new_source_link, is_done, absence};
+ghost use Rattle.pg_serve.specs.WorldStates.{WorldState, has_source, new_source_link, is_done, absence};
 ghost use Rattle.pg_shared.specs.Edits.{edited};
-ghost use Rattle.pg_serve.specs.Inputs.{fact, link_up, pmu_bytes, sub_bytes, names, noted, replied, outcome};
-ghost use Rattle.pg_serve.specs.Shown.{MomentShows, SourceLinkShows, SessionShows};
+ghost use Rattle.pg_serve.specs.Inputs.{input_value, link_up, pmu_bytes, sub_bytes, names, noted, replied, outcome};
+ghost use Rattle.pg_serve.specs.Shown.{WorldStateShows, SourceLinkShows, SessionShows};
 ghost use Rattle.pg_serve.specs.Taking.{held, Takes, TakesInput, Spares, Ends};
 
 use crate::edits::event_of;
@@ -64,9 +64,9 @@ fn refuse(alloc: Global, refusal: Refusal, output: &mut Output) -> Result<(), Al
 }
 
 impl Core {
-    /// Takes one input, and answers it in place of what the output told. For the bytes of a source the output's memory is kept.
+    /// Takes one input, and answers it in place of what the output held. For the bytes of a source the output's memory is kept.
     pub(crate) fn take(&mut self, input: &Input, output: &mut Output) -> Result<(), AllocError>
-        ensures takes { IfOk result (λ _. TakesInput (held self.old) (fact input.now) (outcome output.new) (held self.new)) }
+        ensures takes { IfOk result (λ _. TakesInput (held self.old) (input_value input.now) (outcome output.new) (held self.new)) }
     {
         self.keep_buffer(output);
         match input {
@@ -88,7 +88,7 @@ impl Core {
     /// ready for a data frame.
     #[inline(never)]
     fn answer_anew(&mut self, input: &Input, output: &mut Output) -> Result<(), AllocError>
-        ensures takes { IfOk result (λ _. TakesInput (held self.old) (fact input.now) (outcome output.new) (held self.new)) }
+        ensures takes { IfOk result (λ _. TakesInput (held self.old) (input_value input.now) (outcome output.new) (held self.new)) }
     {
         *output = self.take_other(input)?;
         Ok(())
@@ -96,7 +96,7 @@ impl Core {
 
     /// The answer to one input.
     fn take_other(&mut self, input: &Input) -> Result<Output, AllocError>
-        ensures takes { IfOk result (λ o. TakesInput (held self.old) (fact input.now) (outcome o) (held self.new)) }
+        ensures takes { IfOk result (λ o. TakesInput (held self.old) (input_value input.now) (outcome o) (held self.new)) }
     {
         match input {
             Input::LinkUp(source) => self.link_up(*source),
@@ -144,7 +144,7 @@ impl Core {
         Ok(output)
     }
 
-    /// The same, answered in place of what the output told.
+    /// The same, answered in place of what the output held.
     fn take_source(
         &mut self,
         source: PmuId,
@@ -207,8 +207,8 @@ impl Core {
     /// A subscriber connects, with this session.
     fn add_session(&mut self, sub: SubId, session: Session) -> Result<Output, AllocError>
         requires new { SessionShows session [] }
-        ensures takes { IfOk result (λ o. (m : Moment) → refusal m.shared (asks sub events.connect) ≡ None
-            → MomentShows (held self.old) m
+        ensures takes { IfOk result (λ o. (m : WorldState) → refusal m.shared (asks sub events.connect) ≡ None
+            → WorldStateShows (held self.old) m
             → Takes m (names (asks sub events.connect)) (outcome o) (held self.new)) }
     {
         match self.sessions.reserve(1) {
@@ -281,9 +281,9 @@ impl Core {
     /// A PMU of a new source is registered, with this line.
     fn add_line(&mut self, key: PmuKey, line: SourceLink) -> Result<Output, AllocError>
         requires new { SourceLinkShows line (new_source_link key.source) }
-        ensures takes { IfOk result (λ o. (m : Moment) → has_source m.shared key.source ≡ false
+        ensures takes { IfOk result (λ o. (m : WorldState) → has_source m.shared key.source ≡ false
             → refusal m.shared (add_pmu key) ≡ None
-            → MomentShows (held self.old) m
+            → WorldStateShows (held self.old) m
             → Takes m (names (add_pmu key)) (outcome o) (held self.new)) }
     {
         match self.lines.reserve(1) {

@@ -1,4 +1,4 @@
-//! Which worker serves whom.
+//! Which worker serves which sources or subscribers.
 
 ghost use Rattle.std.specs.Prelude.{◌≡◌, IfOk, Some, slice_get};
 ghost use mathlib.Core.List.{IsPrefix};
@@ -7,7 +7,7 @@ use pg_wire::Refusal;
 use std::alloc::Global;
 
 /// Sources or subscribers in the order in which they were given to a worker first: workers are taken in turn, and each
-/// number stays with its worker, so that what the worker is told of it comes in its order.
+/// number stays with its worker, so that the orders about it come to the worker in their order.
 #[derive(Drop)]
 pub struct Assignment {
     numbers: Vec<u16>,

@@ -1,4 +1,4 @@
-//! What the system's table tells of TCP connections.
+//! What the system's table says of TCP connections.
 
 use crate::mail::{Mailbox, PortOrder};
 use pg_limits::TcpRow;

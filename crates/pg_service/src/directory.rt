@@ -1,4 +1,4 @@
-//! Which sources have PMUs, and what workers are to be told after an edit.
+//! Which sources have PMUs, and what workers have to do after an edit.
 
 use crate::assignment::Assignment;
 use pg_gateway::{Edit, Reply};
@@ -12,7 +12,7 @@ const MOST: usize = 256;
 /// As many subscribers as a gateway has at most.
 const MOST_SUBS: usize = 64;
 
-/// What workers are to be told after an edit that was done.
+/// What workers have to do after an edit that was done.
 #[derive(Clone, Copy, Debug, PartialEq, Eq)]
 pub enum FollowUp {
     /// Nothing.
@@ -75,8 +75,8 @@ pub struct Directory {
     pub callers: Assignment,
     /// Which workers serve which subscribers.
     pub servers: Assignment,
-    keys: Vec<PmuKey>,
-    subs: Vec<SubId>,
+    pmus: Vec<PmuKey>,
+    subscribers: Vec<SubId>,
     // The frames that the ring of each holds, and its streams, in the same order.
     rings: Vec<(u16, u16)>,
 }
@@ -91,38 +91,38 @@ impl Directory {
         Ok(Directory {
             callers: Assignment::new(alloc),
             servers: Assignment::new(alloc),
-            keys: Vec::with_capacity(alloc, MOST)?,
-            subs: Vec::with_capacity(alloc, MOST_SUBS)?,
+            pmus: Vec::with_capacity(alloc, MOST)?,
+            subscribers: Vec::with_capacity(alloc, MOST_SUBS)?,
             rings: Vec::with_capacity(alloc, MOST_SUBS)?,
         })
     }
 
     /// The PMUs, in no order.
     pub fn pmus(&self) -> &[PmuKey] {
-        self.keys.as_slice()
+        self.pmus.as_slice()
     }
 
     /// The subscribers, in no order.
     pub fn subscribers(&self) -> &[SubId] {
-        self.subs.as_slice()
+        self.subscribers.as_slice()
     }
 
     /// Whether a PMU of this source is registered.
     pub fn has(&self, source: PmuId) -> bool {
-        self.keys.iter().any(|key| key.source == source)
+        self.pmus.iter().any(|key| key.source == source)
     }
 
     /// A PMU is not registered any more.
     fn drop_key(&mut self, reason: PmuKey) {
-        if let Some(place) = self.keys.iter().position(|key| *key == reason) {
-            self.keys.swap_remove(place);
+        if let Some(place) = self.pmus.iter().position(|key| *key == reason) {
+            self.pmus.swap_remove(place);
         }
     }
 
     /// A subscriber is there no more.
     fn drop_sub(&mut self, reason: SubId) {
-        if let Some(place) = self.subs.iter().position(|sub| *sub == reason) {
-            self.subs.swap_remove(place);
+        if let Some(place) = self.subscribers.iter().position(|sub| *sub == reason) {
+            self.subscribers.swap_remove(place);
             if place < self.rings.len() {
                 self.rings.swap_remove(place);
             }
@@ -131,7 +131,7 @@ impl Directory {
 
     /// A subscriber has one stream more, or one less.
     fn count_stream(&mut self, of: SubId, is_more: bool) {
-        let Some(place) = self.subs.iter().position(|sub| *sub == of) else {
+        let Some(place) = self.subscribers.iter().position(|sub| *sub == of) else {
             return;
         };
         if let Some((_, streams)) = self.rings.get_mut(place) {
@@ -148,7 +148,7 @@ impl Directory {
         least_room(self.rings.as_slice())
     }
 
-    /// Keeps what an edit changed that was answered so, and tells what workers are to be told.
+    /// Keeps what an edit changed that was answered so, and returns what workers have to do.
     ///
     /// # Errors
     ///
@@ -160,7 +160,7 @@ impl Directory {
         match change {
             Change::Adds(key) => {
                 let source = key.source;
-                self.keys.push(key)?;
+                self.pmus.push(key)?;
                 Ok(FollowUp::Renew(source))
             }
             Change::Drops(key) => {
@@ -173,7 +173,7 @@ impl Directory {
                 }
             }
             Change::Enters(sub, ring) => {
-                self.subs.push(sub)?;
+                self.subscribers.push(sub)?;
                 self.rings.push((ring, 0))?;
                 Ok(FollowUp::Nothing)
             }

@@ -13,7 +13,7 @@ use pg_shared::event_of;
 use pg_wire::Refusal;
 
 /// Posts the edits of a setup in their order, until one is refused, and keeps which PMUs are registered by them. It is for
-/// the time before any worker is there to be told.
+/// the time before any worker is there to get an order.
 ///
 /// # Errors
 ///

@@ -136,7 +136,7 @@ impl<'a, R: Wait + Clock + Eprint + Net> Logger<'a, R> {
         }
     }
 
-    /// Milliseconds since it was started, as far as the clock tells.
+    /// Milliseconds since it was started, as far as the clock says.
     fn now_ms(&self) -> u64 {
         match Instant::now(self.rt) {
             Ok(now) => {

@@ -1,4 +1,4 @@
-//! What workers are told while they run.
+//! The orders that workers get while they run.
 
 use crate::rules::ConnectionRules;
 use crate::targets::Dial;
@@ -15,7 +15,7 @@ use std::{io, mem};
 /// The token under which a worker is woken.
 pub(crate) const WAKE: Token = Token(usize::MAX);
 
-/// What a worker that calls sources is told.
+/// An order to a worker that calls sources.
 #[derive(Drop)]
 pub enum SourceOrder {
     /// This source is called from now on.
@@ -35,13 +35,13 @@ pub enum SourceOrder {
         /// The address that was found; `None` where the name has none, or no server answered.
         address: Option<SocketAddr>,
     },
-    /// Its worker tells at the board how its sources stand, in answer to this asking.
+    /// Its worker reports how its sources stand, in answer to this asking.
     Report(u64),
     /// So many events of its sources may make frames before those that were made are handed out.
     Room(u32),
 }
 
-/// What a worker that serves subscribers is told.
+/// An order to a worker that serves subscribers.
 #[derive(Drop)]
 pub enum PortOrder {
     /// This port is served from now on.
@@ -57,25 +57,25 @@ pub enum PortOrder {
     Bind {
         /// The subscriber.
         sub: SubId,
-        /// Who may connect, and how long who has is waited for.
+        /// The hosts that may connect, and how long a subscriber that connected is waited for.
         rules: ConnectionRules,
         /// Where.
         address: SocketAddr,
     },
     /// The ports that could not be bound are tried again at once.
     BindAgain,
-    /// The subscriber's port is closed, and who has connected hung up.
+    /// The subscriber's port is closed, and the subscriber that connected is hung up.
     Close(SubId),
-    /// Who has connected is hung up.
+    /// The subscriber that connected is hung up.
     HangUp(SubId),
     /// A stream that was on is defined anew with the same members, and goes on: once what waits for its subscriber is handed out, it is
     /// sent CFG-2 and the stream is started. Nothing is done where the subscriber did not start it in the connection that stands.
     Resume(SubId, StreamId),
-    /// Its worker tells at the board how its ports stand, in answer to this asking.
+    /// Its worker reports how its ports stand, in answer to this asking.
     Report(u64),
 }
 
-/// What one worker is told, by whichever thread, and how it is woken. Wakes that come together count as one.
+/// The orders to one worker, of whichever thread, and how it is woken. Wakes that come together count as one.
 #[derive(Drop)]
 pub struct Mailbox<O> {
     orders: Mutex<Vec<O>>,
@@ -144,7 +144,7 @@ impl<O: Drop> Mailbox<O> {
         self.is_awaited.store(true, Ordering::SeqCst);
     }
 
-    /// The worker ends the turn that it began last, and is told whether somebody waits for that.
+    /// The worker ends the turn that it began last, and learns whether somebody waits for that.
     pub fn end_turn(&self) -> bool {
         let begun = self.begun.load(Ordering::SeqCst);
         self.ended.store(begun, Ordering::SeqCst);

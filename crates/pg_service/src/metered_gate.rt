@@ -1,4 +1,4 @@
-//! A gate that tells what went through it.
+//! A gate that shows what went through it.
 
 ghost use Rattle.std.specs.Prelude.{◌≡◌, not, option_map, true, false};
 ghost use Rattle.std.specs.Option.{option_map_or};
@@ -246,7 +246,7 @@ impl<G: Gate> MeteredGate<G> {
         gate
     }
 
-    /// Counts an event, and tells whether it is to be refused.
+    /// Counts an event, and returns whether it is to be refused.
     #[inline(always)]
     fn refuses(&mut self, event: &Event) -> bool
         ensures gate { self.new.gate ≡ self.old.gate }

@@ -10,7 +10,7 @@ use std::rt::Clock;
 use std::time::{Duration, Instant};
 use std::{io, thread};
 
-/// How many sockets one wait tells of. The others come at the next one.
+/// How many sockets one wait reports. The others come at the next one.
 const EVENTS: usize = 256;
 
 /// How long a turn waits at most, so that no worker misses that it is to stop.
@@ -69,7 +69,7 @@ impl Poller {
         for event in self.events.iter() {
             match event.token() {
                 WAKE => self.is_woken = true,
-                // There is room for as many as one wait tells of.
+                // There is room for as many as one wait reports.
                 Token(place) => {
                     let _ = self.named.push(place);
                     if event.is_read_closed() || event.is_error() {

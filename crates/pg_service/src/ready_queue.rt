@@ -46,7 +46,7 @@ impl ReadyQueue {
         self.serving.reserve(places)
     }
 
-    /// Adds a place that is not among those that are ready, and tells whether there was room.
+    /// Adds a place that is not among those that are ready, and returns whether there was room.
     pub fn add(&mut self, place: usize) -> bool {
         self.ready.push(place).is_ok()
     }
@@ -83,7 +83,7 @@ impl ReadyQueue {
         self.due = sooner(self.due, due);
     }
 
-    /// Those that are ready are served from now on; who is added while they are waits for the next turn.
+    /// Those that are ready are served from now on; one that is added while they are waits for the next turn.
     pub fn begin(&mut self) {
         self.serving.clear();
         mem::swap(&mut self.ready, &mut self.serving);

@@ -1,9 +1,9 @@
-//! Who may connect as a subscriber, and for how long.
+//! The hosts that may connect as a subscriber, and for how long.
 
 use pg_limits::{Allow, OnChange};
 use std::time::Duration;
 
-/// Who may connect, and how long who has connected is waited for.
+/// The hosts that may connect, and how long a subscriber that connected is waited for.
 #[derive(Drop)]
 pub struct ConnectionRules {
     /// The hosts that may connect.

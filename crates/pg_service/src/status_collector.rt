@@ -1,4 +1,4 @@
-//! What workers tell of their sources and ports, to whoever asks.
+//! What workers report of their sources and ports, to whoever asks.
 
 use crate::connections::Connections;
 use crate::mail::{Mailbox, PortOrder, SourceOrder};
@@ -32,12 +32,12 @@ pub enum LinkState {
     Rests,
 }
 
-/// A source, as its worker tells of it.
+/// A source, as its worker reports it.
 #[derive(Drop)]
 pub struct SourceReport {
     /// The source.
     pub source: PmuId,
-    /// Where it is called, as its setup tells it, if it is called.
+    /// Where it is called, as its setup has it, if it is called.
     pub address: Option<String>,
     /// How its connection stands.
     pub reach: LinkState,
@@ -49,12 +49,12 @@ pub struct SourceReport {
     pub last: Option<Duration>,
 }
 
-/// A subscriber's port, as its worker tells of it.
+/// A subscriber's port, as its worker reports it.
 #[derive(Clone, Copy)]
 pub struct PortReport {
     /// The subscriber.
     pub sub: SubId,
-    /// Where it listens, as far as the system tells.
+    /// Where it listens, as far as the system says.
     pub address: Option<SocketAddr>,
     /// From where the subscriber is connected, if it is.
     pub peer: Option<SocketAddr>,
@@ -66,7 +66,7 @@ pub struct PortReport {
     pub gaps: u64,
 }
 
-/// What workers have told.
+/// What workers have reported.
 #[derive(Drop)]
 pub struct Reports {
     /// The sources of all workers that answered.
@@ -81,7 +81,7 @@ pub struct Reports {
 }
 
 impl Reports {
-    /// Nothing was told.
+    /// Nothing was reported.
     fn new(alloc: Global, asking: u64) -> Reports {
         Reports {
             sources: Vec::new(alloc),
@@ -93,7 +93,7 @@ impl Reports {
     }
 }
 
-/// Where workers tell how their sources and ports stand, when somebody asks. Who looks costs those who serve one order a
+/// Where workers report how their sources and ports stand, when somebody asks. A look costs those that serve one order a
 /// look, and no look costs nothing.
 #[derive(Drop)]
 pub struct StatusCollector {
@@ -212,13 +212,13 @@ impl StatusCollector {
         reports
     }
 
-    /// Puts these in the place of what was told.
+    /// Puts these in the place of what was reported.
     fn replace<R: Wait>(&self, rt: &R, new: Reports) -> Reports {
         let mut held = self.reports.lock(rt);
         mem::replace(&mut *held, new)
     }
 
-    /// Waits until so many workers have answered, and tells whether they have.
+    /// Waits until so many workers have answered, and returns whether they have.
     fn waits_for<R: Wait + Clock>(&self, rt: &R, workers: usize) -> bool {
         for _ in 0..LOOKS {
             let answers = self.reports.lock(rt).answers;
@@ -230,7 +230,7 @@ impl StatusCollector {
         false
     }
 
-    /// A worker tells of its sources, unless that asking is over. Where there is no memory for it, that is noted.
+    /// A worker reports its sources, unless that asking is over. Where there is no memory for it, that is noted.
     pub fn tell_sources<R: Wait>(
         &self,
         rt: &R,
@@ -250,7 +250,7 @@ impl StatusCollector {
         }
     }
 
-    /// A worker tells of its ports, unless that asking is over. Where there is no memory for it, that is noted.
+    /// A worker reports its ports, unless that asking is over. Where there is no memory for it, that is noted.
     pub fn tell_ports<R: Wait>(
         &self,
         rt: &R,

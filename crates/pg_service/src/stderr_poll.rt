@@ -10,8 +10,8 @@ use std::time::Duration;
 /// Standard error.
 const STANDARD_ERROR: i32 = 2;
 
-/// Tells whether standard error takes a line at once: a pipe that nobody reads, or a terminal that is held, would keep
-/// who writes there for ever. A file takes each.
+/// Returns whether standard error takes a line at once: a pipe that nobody reads, or a terminal that is held, would keep
+/// that writes there for ever. A file takes each.
 #[derive(Drop)]
 pub(crate) struct StderrPoll {
     poll: Poll,

@@ -15,12 +15,12 @@ pub struct WorkerHandles<'a> {
     pub resolver: &'a Resolver,
     /// Where it is noted what was met.
     pub journal: &'a Journal,
-    /// Where workers tell how their sources and ports stand.
+    /// Where workers report how their sources and ports stand.
     pub collector: &'a StatusCollector,
 }
 
 impl WorkerHandles<'_> {
-    /// Has a name looked up, and tells whether there was memory for it. Where there was none, that is noted.
+    /// Has a name looked up, and returns whether there was memory for it. Where there was none, that is noted.
     pub fn look_up<R: Wait>(&self, rt: &R, lookup: Lookup) -> bool {
         let is_asked = self.resolver.ask(rt, self.journal, lookup);
         if !is_asked {

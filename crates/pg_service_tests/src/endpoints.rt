@@ -1,4 +1,4 @@
-//! Subscribers over memory, with a clock that the test moves: which connection takes another's place, and which is hung up when.
+//! Subscribers over memory, with a clock that the test moves: what is handed out, and who is hung up when.
 use crate::asserts::same;
 use crate::frames::{
     COMMANDS_101, CONFIG_7, DATA_7, add_ring, after, data_of, gateway, source, subscriber,
@@ -74,30 +74,6 @@ fn enter(
     same(rt, admission, Admission::Accepted { replaced: false });
 }
 
-/// With `takeover` a connection takes the place of one that stands for 5 seconds, and no sooner; then its own 5 seconds begin.
-#[test]
-fn connections_that_replace_others(rt: HostRuntime) {
-    let alloc = rt.alloc();
-    let now = Instant::now(&rt).expect(&rt, "a clock");
-    let mut gate = MeteredGate::new(gateway(&rt, alloc));
-    let mut endpoint = SubscriberEndpoint::new(subscriber(&rt, 20), rules(true));
-    enter(&rt, alloc, &mut endpoint, &mut gate, now);
-    let busy = Admission::Refused {
-        refusal: Refusal::Busy,
-        replaced: false,
-    };
-    let replaces = Admission::Accepted { replaced: true };
-    for (millis, wanted) in [
-        (4_999, busy),
-        (5_000, replaces),
-        (9_999, busy),
-        (10_000, replaces),
-    ] {
-        let at = after(&rt, now, millis);
-        same(&rt, endpoint.admit(alloc, &mut gate, host(), at), wanted);
-    }
-}
-
 /// Where bytes wait and its socket takes none for `stall` seconds, it is hung up; each byte that is taken begins them anew.
 #[test]
 fn stalled_subscriber(rt: HostRuntime) {
@@ -129,31 +105,6 @@ fn stalled_subscriber(rt: HostRuntime) {
     same(&rt, reason, Some(Timeout::Stalled));
     assert!(rt; endpoint.connection().is_none());
     enter(&rt, alloc, &mut endpoint, &mut gate, start);
-}
-
-/// Where no byte went either way for `idle` seconds it is hung up.
-#[test]
-fn idle_subscriber(rt: HostRuntime) {
-    let alloc = rt.alloc();
-    let start = Instant::now(&rt).expect(&rt, "a clock");
-    let mut gate = MeteredGate::new(gateway(&rt, alloc));
-    hear(&rt, alloc, &mut gate);
-    let idle = ConnectionRules {
-        idle: Some(Duration::from_secs(5)),
-        ..rules(false)
-    };
-    let mut endpoint = SubscriberEndpoint::new(subscriber(&rt, 1), idle);
-    enter(&rt, alloc, &mut endpoint, &mut gate, start);
-    let mut out = writer(alloc, 0);
-    let at = after(&rt, start, 4_000);
-    endpoint.serve(&mut reader(&COMMANDS_101[..1], 1), &mut out, &mut gate, at);
-    assert!(rt;
-        endpoint
-            .expire(&mut gate, after(&rt, start, 8_999))
-            .is_none()
-    );
-    let reason = endpoint.expire(&mut gate, after(&rt, start, 9_000));
-    same(&rt, reason, Some(Timeout::Idle));
 }
 
 /// What waits is handed out in one turn, though a drain holds no more than 16,384 bytes: 700 frames of 26 bytes.

@@ -1,7 +1,8 @@
-//! Texts of the faults by which a script, or the answer to a line, ends.
+//! Texts of the errors by which a script, or the answer to a line, ends.
 
 use crate::asserts::same;
-use pg_replay::{Fault, NotPrinted};
+use pg_answers::NotPrinted;
+use pg_replay::Fault;
 use std::test::*;
 
 #[test]

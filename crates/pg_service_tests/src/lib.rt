@@ -11,8 +11,6 @@ mod errors;
 #[cfg(test)]
 mod frames;
 #[cfg(test)]
-mod layouts;
-#[cfg(test)]
 mod lines;
 #[cfg(test)]
 mod logging;
@@ -21,14 +19,8 @@ mod registering;
 #[cfg(test)]
 mod reloads;
 #[cfg(test)]
-mod setups;
-#[cfg(test)]
-mod sharing;
-#[cfg(test)]
 mod sources;
 #[cfg(test)]
 mod stamping;
-#[cfg(test)]
-mod timers;
 #[cfg(test)]
 mod waking;

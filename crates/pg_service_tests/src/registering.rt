@@ -1,4 +1,4 @@
-//! What workers are told after an edit.
+//! What workers have to do after an edit.
 use crate::asserts::same;
 use crate::frames::{key, source, subscriber};
 use pg_gateway::{Edit, Reply};
@@ -19,7 +19,7 @@ fn second(rt: &impl Abort) -> PmuKey {
     }
 }
 
-/// An edit that is refused tells workers nothing, and one that is done tells them this.
+/// An edit that is refused gives workers nothing to do, and one that is done gives them this.
 fn expect_told(rt: &(impl Abort + Eprint), registered: &mut Directory, edit: Edit, told: FollowUp) {
     let refused = Reply::Refused(Refusal::PmuExists);
     let after = registered

@@ -25,7 +25,7 @@ fn data(stream: u8) -> [u8; 18] {
     ]
 }
 
-/// A frame whose stream's CFG-2 went out tells its age: 250,000 microseconds after the second, seen half a second after it.
+/// A frame whose stream's CFG-2 went out shows its age: 250,000 microseconds after the second, seen half a second after it.
 #[test]
 fn an_age_is_counted_once_the_time_base_is_known(rt: HostRuntime) {
     let mut stamps = LatencyMeter::new();

@@ -12,7 +12,7 @@ ghost use Rattle.pg_session.specs.Filling.{are_all, filled};
 use crate::output::Output;
 use crate::stream::place_next;
 use pg_data::DataFrame;
-use pg_outcfg::{ConfigList, Front, Stamps, data_frame_at_once};
+use pg_outcfg::{ConfigList, HeadPrefix, StampCache, data_frame_at_once};
 use pg_stream::Definition;
 use pg_wire::PmuKey;
 use std::alloc::Global;
@@ -111,8 +111,8 @@ pub(crate) fn send_filled(
     slot: u64,
     frame: &DataFrame,
     order: &[Option<u8>],
-    front: &mut Front,
-    stamps: &mut Stamps,
+    prefix: &mut HeadPrefix,
+    stamps: &mut StampCache,
     output: &mut Output,
 )
     requires limits { IsWithinLimits definition.now }
@@ -131,7 +131,7 @@ pub(crate) fn send_filled(
     } else {
         let spare = output.take_spare(alloc);
         output.send(data_frame_at_once(
-            alloc, definition, slot, frame, order, front, stamps, spare,
+            alloc, definition, slot, frame, order, prefix, stamps, spare,
         ));
     }
 }

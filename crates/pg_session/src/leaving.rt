@@ -10,11 +10,11 @@ ghost use Rattle.pg_session.specs.Fields.{AreTimed};
 use crate::output::Output;
 use pg_align::Align;
 use pg_data::SharedBlock;
-use pg_outcfg::{ConfigList, Front, Stamps, data_frame_near};
+use pg_outcfg::{ConfigList, HeadPrefix, StampCache, data_frame_near};
 use pg_stream::Definition;
 use std::alloc::Global;
 
-/// Makes the frame of a slot that left, and sends it. Where a frame of the event was lost this one is not composed. `front` is
+/// Makes the frame of a slot that left, and sends it. Where a frame of the event was lost this one is not composed. `prefix` is
 /// that of the stream's last frame: this one mostly has the same.
 fn send_slot(
     alloc: Global,
@@ -22,8 +22,8 @@ fn send_slot(
     listed: &ConfigList,
     slot: u64,
     parts: &[Option<SharedBlock>],
-    front: &mut Front,
-    stamps: &mut Stamps,
+    prefix: &mut HeadPrefix,
+    stamps: &mut StampCache,
     output: &mut Output,
 )
     requires limits { IsWithinLimits definition.now }
@@ -37,7 +37,9 @@ fn send_slot(
         output.lose();
     } else {
         let spare = output.take_spare(alloc);
-        output.send(data_frame_near(alloc, definition, slot, listed, parts, front, stamps, spare));
+        output.send(data_frame_near(
+            alloc, definition, slot, listed, parts, prefix, stamps, spare,
+        ));
     }
 }
 
@@ -48,8 +50,8 @@ pub(crate) fn leave_all(
     definition: &Definition,
     listed: &ConfigList,
     align: &mut Align,
-    front: &mut Front,
-    stamps: &mut Stamps,
+    prefix: &mut HeadPrefix,
+    stamps: &mut StampCache,
     output: &mut Output,
 )
     requires limits { IsWithinLimits definition.now }
@@ -62,7 +64,7 @@ pub(crate) fn leave_all(
     ensures few { output.new.made + length align.new.slots ≤ output.old.made + length align.old.slots }
 {
     if align.is_leaving() {
-        leave_each(alloc, definition, listed, align, front, stamps, output);
+        leave_each(alloc, definition, listed, align, prefix, stamps, output);
     }
 }
 
@@ -73,8 +75,8 @@ fn leave_each(
     definition: &Definition,
     listed: &ConfigList,
     align: &mut Align,
-    front: &mut Front,
-    stamps: &mut Stamps,
+    prefix: &mut HeadPrefix,
+    stamps: &mut StampCache,
     output: &mut Output,
 )
     requires limits { IsWithinLimits definition.now }
@@ -88,7 +90,7 @@ fn leave_each(
 {
     while let Some(left) = align.leave_next() {
         send_slot(
-            alloc, definition, listed, left.slot, left.parts, front, stamps, output,
+            alloc, definition, listed, left.slot, left.parts, prefix, stamps, output,
         );
     }
 }
@@ -99,8 +101,8 @@ pub(crate) fn flush_all(
     definition: &Definition,
     listed: &ConfigList,
     align: &mut Align,
-    front: &mut Front,
-    stamps: &mut Stamps,
+    prefix: &mut HeadPrefix,
+    stamps: &mut StampCache,
     output: &mut Output,
 )
     requires limits { IsWithinLimits definition.now }
@@ -114,7 +116,7 @@ pub(crate) fn flush_all(
 {
     while let Some(left) = align.flush_next() {
         send_slot(
-            alloc, definition, listed, left.slot, left.parts, front, stamps, output,
+            alloc, definition, listed, left.slot, left.parts, prefix, stamps, output,
         );
     }
 }

@@ -122,7 +122,7 @@ impl Session {
         self.deframer.room()
     }
 
-    /// Takes the next piece of the subscriber's bytes, which is no longer than `room` tells. Behind a break it is dropped.
+    /// Takes the next piece of the subscriber's bytes, which is no longer than `room` says. Behind a break it is dropped.
     pub fn feed(&mut self, piece: &[u8])
         requires { length self.old.bytes.held + length piece.now ≤ 65535 }
         ensures state { self.new ≡ heard self.old piece.now }
@@ -132,8 +132,8 @@ impl Session {
         self.deframer.feed(piece);
     }
 
-    /// Reads once, at most `most` bytes and no more than `room` tells: the next piece of the subscriber's bytes. Behind a break it is
-    /// dropped. It tells how many bytes came, 0 only where the reader has ended, or the reader's error, and then nothing has
+    /// Reads once, at most `most` bytes and no more than `room` says: the next piece of the subscriber's bytes. Behind a break it is
+    /// dropped. It returns how many bytes came, 0 only where the reader has ended, or the reader's error, and then nothing has
     /// changed.
     pub fn read_from<R: Read>(&mut self, reader: &mut R, most: usize) -> io::Result<usize>
         requires some { 0 < most }

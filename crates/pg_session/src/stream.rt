@@ -36,7 +36,7 @@ use crate::standing::{StreamStanding, count_effective};
 use circular_buffer::HeapCircularBuffer;
 use pg_align::Align;
 use pg_data::{DataFrame, SharedBlock};
-use pg_outcfg::{ConfigList, Front, OutCfg, Stamps, header};
+use pg_outcfg::{ConfigList, HeadPrefix, OutCfg, StampCache, header};
 use pg_stream::Definition;
 use pg_wire::{PmuKey, Refusal, StreamId};
 use std::alloc::Global;
@@ -46,7 +46,7 @@ use std::sync::Arc;
 /// The most members of a stream.
 const MOST_MEMBERS: usize = 32;
 
-/// A stream: its definition, its open slots, and the count of changes of the CFG-1 list since its definition. `front` is that of
+/// A stream: its definition, its open slots, and the count of changes of the CFG-1 list since its definition. `prefix` is that of
 /// its last data frame, a good guess for the next one, or of none where its effective members have changed since. `guess` is the index of
 /// the member whose block is expected next.
 #[derive(Drop)]
@@ -54,7 +54,7 @@ pub(crate) struct Stream {
     definition: Definition,
     align: Align,
     changes: OutCfg,
-    front: Front,
+    prefix: HeadPrefix,
     guess: usize,
     layouts: Layouts,
 }
@@ -208,7 +208,7 @@ impl Stream {
             definition,
             align,
             changes: OutCfg::new(),
-            front: Front::new(),
+            prefix: HeadPrefix::new(),
             guess: 0,
             layouts,
         })
@@ -270,7 +270,7 @@ impl Stream {
     }
 
     /// The CFG-1 list is about to change. Where that changes the stream's effective blocks, its open slots all leave by the
-    /// list as it is. `counts` tells whether the list itself changes.
+    /// list as it is. `counts` says whether the list itself changes.
     pub fn reshape<'a>(
         &mut self,
         alloc: Global,
@@ -294,11 +294,11 @@ impl Stream {
                 &self.definition,
                 listed,
                 &mut self.align,
-                &mut self.front,
-                &mut Stamps::new(),
+                &mut self.prefix,
+                &mut StampCache::new(),
                 output,
             );
-            self.front = Front::new();
+            self.prefix = HeadPrefix::new();
             let members = self.definition.members.as_slice();
             let mut effective = [false; MOST_MEMBERS];
             let effective = &mut effective[..members.len()];
@@ -324,8 +324,8 @@ impl Stream {
                 &self.definition,
                 listed,
                 &mut self.align,
-                &mut self.front,
-                &mut Stamps::new(),
+                &mut self.prefix,
+                &mut StampCache::new(),
                 output,
             );
         }
@@ -340,7 +340,7 @@ impl Stream {
         frame: &DataFrame,
         places: &[usize],
         blocks: &mut HeapCircularBuffer<SharedBlock>,
-        stamps: &mut Stamps,
+        stamps: &mut StampCache,
         output: &mut Output,
     )
         requires on { self.old.slots.is_on ≡ true }
@@ -380,7 +380,7 @@ impl Stream {
                     &self.definition,
                     listed,
                     &mut self.align,
-                    &mut self.front,
+                    &mut self.prefix,
                     stamps,
                     output,
                 );
@@ -398,7 +398,7 @@ impl Stream {
     /// Whether those blocks of a data frame leave no slot open behind them, where it is on: no slot is open, and they are no member's,
     /// or those of all members for a slot that is not late. It asks for no copies then.
     #[inline(always)]
-    pub fn is_filled(&self, frame: &DataFrame, places: &[usize], stamps: &mut Stamps) -> bool
+    pub fn is_filled(&self, frame: &DataFrame, places: &[usize], stamps: &mut StampCache) -> bool
         requires on { self.now.slots.is_on ≡ true }
         requires places { All (λ i. i < length frame.now.config.parts) places.now }
         ensures { result ≡ fills self.now frame.now.soc frame.now.quality frame.now.frac (samples_at frame.now places.now) }
@@ -419,7 +419,7 @@ impl Stream {
 
     /// The slot of a data frame, if it is not late and not past the end of time.
     #[inline(always)]
-    fn slot_for(&self, frame: &DataFrame, stamps: &mut Stamps) -> Option<u64>
+    fn slot_for(&self, frame: &DataFrame, stamps: &mut StampCache) -> Option<u64>
         ensures some { IfSome result (λ slot. slot_at self.now.definition.rate (resolution frame.now.config) frame.now.soc frame.now.frac ≡ Ok slot) }
         ensures timed { IfSome result (λ slot. slot / self.now.definition.rate < 2 ^ 32) }
         ensures value { is_some result ≡ can_leave self.now.slots.last (slot_at self.now.definition.rate (resolution frame.now.config) frame.now.soc frame.now.frac) }
@@ -438,7 +438,7 @@ impl Stream {
         listed: &ConfigList,
         frame: &DataFrame,
         places: &[usize],
-        stamps: &mut Stamps,
+        stamps: &mut StampCache,
         output: &mut Output,
     )
         requires on { self.old.slots.is_on ≡ true }
@@ -507,7 +507,7 @@ impl Stream {
         frame: &DataFrame,
         place: usize,
         blocks: &mut HeapCircularBuffer<SharedBlock>,
-        stamps: &mut Stamps,
+        stamps: &mut StampCache,
         output: &mut Output,
     )
         requires on { self.old.slots.is_on ≡ true }
@@ -543,7 +543,7 @@ impl Stream {
         frame: &DataFrame,
         place: usize,
         blocks: &mut HeapCircularBuffer<SharedBlock>,
-        stamps: &mut Stamps,
+        stamps: &mut StampCache,
         output: &mut Output,
     )
         requires on { self.old.slots.is_on ≡ true }
@@ -579,7 +579,7 @@ impl Stream {
                     &self.definition,
                     listed,
                     &mut self.align,
-                    &mut self.front,
+                    &mut self.prefix,
                     stamps,
                     output,
                 );
@@ -596,7 +596,7 @@ impl Stream {
         listed: &ConfigList,
         frame: &DataFrame,
         place: usize,
-        stamps: &mut Stamps,
+        stamps: &mut StampCache,
         output: &mut Output,
     )
         requires on { self.old.slots.is_on ≡ true }
@@ -636,7 +636,7 @@ impl Stream {
         slot: u64,
         frame: &DataFrame,
         order: &[Option<u8>],
-        stamps: &mut Stamps,
+        stamps: &mut StampCache,
         output: &mut Output,
     )
         requires none_open { self.old.slots.slots ≡ [] }
@@ -657,7 +657,7 @@ impl Stream {
             slot,
             frame,
             order,
-            &mut self.front,
+            &mut self.prefix,
             stamps,
             output,
         );

@@ -23,7 +23,7 @@ use crate::standing::StreamStanding;
 use crate::stream::Stream;
 use circular_buffer::HeapCircularBuffer;
 use pg_data::{DataFrame, SharedBlock};
-use pg_outcfg::{ConfigList, Stamps};
+use pg_outcfg::{ConfigList, StampCache};
 use std::alloc::Global;
 
 /// The CFG-1 list is about to change: each stream whose effective blocks change is flushed by the list as it is.
@@ -79,7 +79,7 @@ pub(crate) fn measure_all(
     on: u8,
     streams: &mut [Stream],
     blocks: &mut HeapCircularBuffer<SharedBlock>,
-    stamps: &mut Stamps,
+    stamps: &mut StampCache,
     output: &mut Output,
 )
     requires places { All (λ i. i < length frame.now.config.parts) places.now }
@@ -113,7 +113,7 @@ pub(crate) fn measure_all_filled(
     places: &[usize],
     on: u8,
     streams: &mut [Stream],
-    stamps: &mut Stamps,
+    stamps: &mut StampCache,
     output: &mut Output,
 )
     requires places { All (λ i. i < length frame.now.config.parts) places.now }
@@ -145,7 +145,7 @@ pub(crate) fn measure_all_one(
     on: u8,
     streams: &mut [Stream],
     blocks: &mut HeapCircularBuffer<SharedBlock>,
-    stamps: &mut Stamps,
+    stamps: &mut StampCache,
     output: &mut Output,
 )
     requires place { place < length frame.now.config.parts }
@@ -189,7 +189,7 @@ pub(crate) fn are_filled(
     places: &[usize],
     on: u8,
     streams: &[Stream],
-    stamps: &mut Stamps,
+    stamps: &mut StampCache,
 ) -> bool
     requires places { All (λ i. i < length frame.now.config.parts) places.now }
     requires on { AreOn on streams.now }

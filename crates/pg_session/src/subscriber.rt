@@ -36,7 +36,7 @@ use pg_command::Command;
 use pg_config::{PmuConfig, SourceConfig};
 use pg_data::{DataFrame, SharedBlock};
 use pg_entitle::Grants;
-use pg_outcfg::{ConfigList, Stamps};
+use pg_outcfg::{ConfigList, StampCache};
 use pg_ring::{OutQueue, RingBytes, RingSize};
 use pg_stream::{Definition, check_definition};
 use pg_wire::{PmuKey, Refusal, StreamId};
@@ -360,7 +360,7 @@ impl Subscriber {
             PrivateEvent::Revoke(key) => self.revoke(key, lost),
             PrivateEvent::Announce(config, places) => self.announce(config, places, lost),
             PrivateEvent::Measure(frame, places) => {
-                self.measure(frame, places, lost, &mut Stamps::new())
+                self.measure(frame, places, lost, &mut StampCache::new())
             }
             PrivateEvent::Define(definition) => self.define(definition, lost),
             PrivateEvent::Remove(stream) => self.remove(stream, lost),
@@ -383,7 +383,7 @@ impl Subscriber {
         &mut self,
         frame: &Arc<DataFrame>,
         places: &[usize],
-        stamps: &mut Stamps,
+        stamps: &mut StampCache,
     ) -> Result<(), Refusal>
         requires places { ArePlaces (length (arc_value frame.now).config.parts) places.now }
         requires held { AreHeld self.old.own.grants self.old.own.listed (samples_at (arc_value frame.now) places.now) }
@@ -410,7 +410,7 @@ impl Subscriber {
         &mut self,
         frame: &Arc<DataFrame>,
         place: usize,
-        stamps: &mut Stamps,
+        stamps: &mut StampCache,
     ) -> Result<(), Refusal>
         requires place { place < length (arc_value frame.now).config.parts }
         requires held { AreHeld self.old.own.grants self.old.own.listed (samples_at (arc_value frame.now) (place ∷ [])) }
@@ -445,7 +445,7 @@ impl Subscriber {
         &mut self,
         frame: &Arc<DataFrame>,
         places: &[usize],
-        stamps: &mut Stamps,
+        stamps: &mut StampCache,
     ) -> Result<(), Refusal>
         requires places { ArePlaces (length (arc_value frame.now).config.parts) places.now }
         requires held { AreHeld self.old.own.grants self.old.own.listed (samples_at (arc_value frame.now) places.now) }
@@ -471,7 +471,7 @@ impl Subscriber {
         frame: &Arc<DataFrame>,
         places: &[usize],
         lost: bool,
-        stamps: &mut Stamps,
+        stamps: &mut StampCache,
     ) -> PrivateReply
         requires places { ArePlaces (length (arc_value frame.now).config.parts) places.now }
         requires held { AreHeld self.old.own.grants self.old.own.listed (samples_at (arc_value frame.now) places.now) }
@@ -499,7 +499,7 @@ impl Subscriber {
         frame: &Arc<DataFrame>,
         place: usize,
         lost: bool,
-        stamps: &mut Stamps,
+        stamps: &mut StampCache,
     ) -> PrivateReply
         requires place { place < length (arc_value frame.now).config.parts }
         requires held { AreHeld self.old.own.grants self.old.own.listed (samples_at (arc_value frame.now) (place ∷ [])) }
@@ -521,7 +521,7 @@ impl Subscriber {
         frame: &DataFrame,
         place: usize,
         lost: bool,
-        stamps: &mut Stamps,
+        stamps: &mut StampCache,
     ) -> PrivateReply
         requires place { place < length frame.now.config.parts }
         requires held { AreHeld self.old.own.grants self.old.own.listed (samples_at frame.now (place ∷ [])) }
@@ -553,7 +553,7 @@ impl Subscriber {
         frame: &DataFrame,
         places: &[usize],
         lost: bool,
-        stamps: &mut Stamps,
+        stamps: &mut StampCache,
     ) -> PrivateReply
         requires places { ArePlaces (length frame.now.config.parts) places.now }
         requires held { AreHeld self.old.own.grants self.old.own.listed (samples_at frame.now places.now) }
@@ -607,7 +607,7 @@ impl Subscriber {
         frame: &DataFrame,
         places: &[usize],
         lost: bool,
-        stamps: &mut Stamps,
+        stamps: &mut StampCache,
     ) -> PrivateReply
         requires places { ArePlaces (length frame.now.config.parts) places.now }
         requires held { AreHeld self.old.own.grants self.old.own.listed (samples_at frame.now places.now) }

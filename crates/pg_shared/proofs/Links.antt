@@ -14,7 +14,8 @@ use Rattle.pg_ingest.specs.declared.run.End.{End}
 use Rattle.pg_ingest.specs.Items.{Item, AreTold}
 use Rattle.pg_ingest.specs.Commands.{asks, tells, told_in}
 use Rattle.pg_ingest.specs.Linking.{Linking}
-use Rattle.pg_ingest.specs.Shown.{LinkPast, ShowsLink, told_before}
+use Rattle.pg_ingest.specs.Shown.{LinkPast, ShowsLink, asked_again, told_before}
+use Rattle.pg_ingest.proofs.Again.{again_told, again_all_told}
 use Rattle.pg_ingest.specs.Runs.{Step, begins, reads, posts, stepping, after_steps, bytes_of, events_of, events_told, wires, event_posted}
 use Rattle.pg_ingest.specs.Served.{IsFresh, IsCall}
 use Rattle.pg_ingest.proofs.Known.{consumes_nil, consumes_more}
@@ -118,3 +119,18 @@ tells_more source v v' s t x r r' r'' before call =
           ∙ sym items
           ∙ ap (flat_map events_told) (sym (told_after past one.steps));
     }
+
+-- The source is asked again: what was told stays.
+pub tells_again : (source : ℕ) (v v' : Linking) (s t : Known Event Reply) (r r' : Option (List ℕ)) → HasTold source v s t r r'
+    → ((past : LinkPast) → ShowsLink v past → ShowsLink v' (asked_again past)) → HasTold source v' s t r r'
+tells_again source v v' s t r r' told again = record {
+  past = asked_again told.past;
+  shows = again told.past told.shows;
+  from = told.from;
+  all = again_all_told told.past told.all;
+  read = told.read;
+  since = told.since;
+  seen = told.seen;
+  own = told.own;
+  events = told.events ∙ ap (flat_map events_told) (sym (again_told told.past));
+}

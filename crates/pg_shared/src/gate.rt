@@ -27,7 +27,7 @@ impl Named for Brand {
 }
 
 /// A gate that holds a seat of the shared gateway that N names, and posts at it. Contracts see it as its seat. What it
-/// tells of its posts is what stands at the seat's own places in the history. Each post may wait.
+/// says of its posts is what stands at the seat's own places in the history. Each post may wait.
 #[derive(Drop)]
 pub struct SharedGate<'a, R: Wait, N: Named> {
     gate: SeatGate<'a, R>,

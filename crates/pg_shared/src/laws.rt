@@ -12,7 +12,7 @@ ghost use Rattle.pg_gateway.specs.declared.event.Event.{Event};
 ghost use Rattle.pg_gateway.specs.declared.event.Reply.{Reply};
 ghost use Rattle.pg_ingest.specs.Linking.{Linking};
 ghost use Rattle.pg_ingest.specs.Runs.{wires};
-ghost use Rattle.pg_ingest.specs.Shown.{LinkPast, ShowsLink as ShowsPast};
+ghost use Rattle.pg_ingest.specs.Shown.{LinkPast, asked_again, ShowsLink as ShowsPast};
 ghost use Rattle.pg_ingest.specs.Served.{IsFresh, IsCall};
 ghost use Rattle.pg_shared.specs.Gates.{said_at};
 ghost use Rattle.pg_shared.specs.Onward.{own_in, GoesOn};
@@ -76,7 +76,7 @@ pub fn deliveries_agree()
 {}
 
 /// A call of `run_link` over a gate that holds a seat posts at the seat's own places just the events of the bytes that it
-/// reads. And so do all calls since the link was new or reset.
+/// reads. And so do all calls since the link was new or reset, whether or not its source was asked again between them.
 pub fn links_tell_on()
     ensures call { (end : End) (turns : ℕ) (s s' : Known Event Reply) (v v' : Linking) (r r' w w' : Option (List ℕ))
         → IsCall end turns v v' (wires r w (Some (said_at s.seen s.own)) (λ o. true)) (wires r' w' (Some (said_at s'.seen s'.own)) (λ o. true))
@@ -85,4 +85,6 @@ pub fn links_tell_on()
         → ShowsPast v past → IsFresh past → HasTold past.source v s s r r }
     ensures more { (source : ℕ) (v v' : Linking) (s t x : Known Event Reply) (r r' r'' : Option (List ℕ))
         → HasTold source v s t r r' → Tells v v' t x r' r'' → HasTold source v' s x r r'' }
+    ensures again { (source : ℕ) (v v' : Linking) (s t : Known Event Reply) (r r' : Option (List ℕ))
+        → HasTold source v s t r r' → ((past : LinkPast) → ShowsPast v past → ShowsPast v' (asked_again past)) → HasTold source v' s t r r' }
 {}

@@ -16,7 +16,7 @@ use std::sync::Wait;
 
 /// A gate that holds a seat of a shared gateway, and posts at it. Contracts see it as its seat.
 ///
-/// What it tells of its posts is what stands at the seat's own places in the history.
+/// What it says of its posts is what stands at the seat's own places in the history.
 #[derive(Drop)]
 pub struct SeatGate<'a, R: Wait> {
     rt: &'a R,

@@ -27,7 +27,7 @@ fn push_left<W: Write>(session: &mut Session, writer: &mut W) -> Option<End>
     cut
 }
 
-/// Posts the commands of a subscriber's frames that are whole, and tells whether its bytes broke behind them.
+/// Posts the commands of a subscriber's frames that are whole, and returns whether its bytes broke behind them.
 fn post_commands<G: Gate>(session: &mut Session, gate: &mut G) -> Option<Refusal>
     ensures ran { (r w : Option (List ℕ)) (due : Bool) → Turned None due due false session.old session.new r r w w (G.posts gate.old) (G.posts gate.new) }
     ensures given { HasGivenAll session.new }

@@ -55,7 +55,7 @@ impl Shared {
     ///
     /// It waits by parking, and what is promised holds if it returns. The reply is one that a gateway of one thread may give at
     /// the end of a legal history, which begins with all that the seat had seen, ends with this call, and has of the seat's own
-    /// calls exactly those that it made, each once, in their order. Where no answer of the history tells a loss or want of
+    /// calls exactly those that it made, each once, in their order. Where no answer of the history reports a loss or want of
     /// memory, what its drains hand to a subscriber is what a private gateway of that subscriber's view of the history hands
     /// out, and so is this reply where the event asks something for a subscriber.
     #[inline(always)]

@@ -11,7 +11,7 @@ use std::thread::{JoinHandle, Threads};
 
 /// What a thread does again and again.
 pub trait Work {
-    /// Does a part of the work, and tells whether more is to be done.
+    /// Does a part of the work, and returns whether more is to be done.
     fn turn(&mut self) -> bool;
 }
 

@@ -1,7 +1,8 @@
 -- The line to a source.
-use Rattle.std.specs.Prelude.{◌≡◌, ◌↔◌, ℕ, zero, suc, ℤ, Bool, true, false, IsTrue, Option, Some, None}
+use Rattle.std.specs.Prelude.{◌≡◌, ◌↔◌, ℕ, zero, suc, ℤ, Bool, true, false, is_some, IsTrue, Option, Some, None}
 use Rattle.pg_ingest.specs.declared.run.End.{End}
 use Rattle.pg_ingest.specs.declared.run.End.TheVariants.{Closed, Quiet, Stalled, Fault}
+use Rattle.pg_ingest.specs.Asked.{asking_again}
 use Rattle.pg_ingest.specs.Linking.{Linking, unfed}
 use Rattle.pg_ingest.specs.Runs.{Wires}
 use Rattle.pg_ingest.specs.Served.{IsCall}
@@ -21,6 +22,10 @@ pub record SourceState : Type 0 where
 -- Its link starts anew; its counters stay.
 abbrev pub unlinked : SourceState → SourceState
 unlinked l = record l { link = unfed l.link.source l.link.stats }
+
+-- Its link asks the source again, and keeps all else.
+abbrev pub questioned : SourceState → SourceState
+questioned l = record l { link = record l.link { asking = asking_again (is_some l.link.known) l.link.asking } }
 
 -- the line with another plan
 abbrev pub with_plan : Plan → SourceState → SourceState

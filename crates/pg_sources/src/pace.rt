@@ -5,14 +5,14 @@ use pg_service::{Mailbox, PortOrder, WorkerHandles};
 use std::alloc::Global;
 use std::time::{Duration, Instant};
 
-/// How many events may make frames where nobody has told.
+/// How many events may make frames where nobody has said.
 const ROOM: u32 = 16;
 
 /// How long it is waited at most that frames are handed out, in milliseconds: a worker that has ended, or that the machine gives
 /// no time, holds no source longer.
 const HOLD_MS: u64 = 100;
 
-/// How far the sources of a worker may be ahead of those who hand their frames out: a ring that holds them all drops none
+/// How far the sources of a worker may be ahead of those that hand their frames out: a ring that holds them all drops none
 /// but where its subscriber's socket takes none. What was made up to a mark is handed out once each worker that serves subscribers has ended
 /// a turn that it began behind the mark.
 #[derive(Drop)]

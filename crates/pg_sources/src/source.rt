@@ -7,13 +7,13 @@ ghost use Rattle.pg_audit.specs.Counting.{no_pmu_stats};
 ghost use Rattle.pg_ingest.specs.Linking.{unfed};
 ghost use Rattle.pg_ingest.specs.Runs.{wires};
 ghost use Rattle.pg_ingest.specs.Served.{IsCall};
-ghost use Rattle.pg_sources.specs.Connections.{Turned, check, hearing, settled, turn_after, unlinked, with_plan};
+ghost use Rattle.pg_sources.specs.Connections.{Turned, check, hearing, questioned, settled, turn_after, unlinked, with_plan};
 ghost use Rattle.pg_limits.specs.Plans.{asked, begun, called, due_by, ended, made, received, renewed, rested, sought};
 ghost use Rattle.pg_service.specs.Posts.{passes};
 
 use pg_gateway::Gate;
 use pg_ingest::{End, Link, run_link};
-use pg_limits::{Budget, CallPlan, Due};
+use pg_limits::{Action, Budget, CallPlan};
 use pg_service::{ClockCheck, GateStats, Guards, MeteredGate};
 use pg_wire::{PmuId, Refusal};
 use std::alloc::Global;
@@ -97,7 +97,7 @@ impl SourceConnection {
     }
 
     /// What is to be done by now.
-    pub fn due(&self, now: Instant) -> Due
+    pub fn due(&self, now: Instant) -> Action
         ensures { result ≡ due_by (instant_nanos now) self.now.plan }
     {
         self.plan.due(now)
@@ -131,11 +131,11 @@ impl SourceConnection {
         self.plan.received(now);
     }
 
-    /// It is asked again over its connection: the link starts anew, so that it owes command 5, and then command 2.
+    /// It is asked again over its connection: command 5 is owed, and then command 2. The bytes and the configuration of the link stay.
     pub fn ask_again(&mut self)
-        ensures { self.new ≡ with_plan (asked self.old.plan) (unlinked self.old) }
+        ensures { self.new ≡ with_plan (asked self.old.plan) (questioned self.old) }
     {
-        self.link.reset();
+        self.link.ask_again();
         self.plan.asked();
     }
 
@@ -163,7 +163,7 @@ impl SourceConnection {
         self.plan.rest();
     }
 
-    /// Serves its connection until the reader's budget is used up, or it would block, and tells what went through the gate
+    /// Serves its connection until the reader's budget is used up, or it would block, and returns what went through the gate
     /// meanwhile. `clock` is this machine's, in milliseconds since 1970-01-01 00:00 UTC, and `reference` what the times of measurements may be
     /// ahead of. Where the connection ended or failed, the link starts anew.
     pub fn serve<R: Read, W: Write, G: Gate>(
@@ -175,7 +175,7 @@ impl SourceConnection {
         clock: u64,
         reference: u64,
     ) -> (Turn, GateStats)
-        // It posts what its bytes tell and nothing else, but for the measurements that its guards do not take.
+        // It posts what its bytes say and nothing else, but for the measurements that its guards do not take.
         ensures turned { Turned (instant_nanos now) reader.new.left result.0 result.1 self.old self.new
             (wires (R.remaining reader.old.reader) (W.contents writer.old) (G.posts gate.old.gate) (passes (check self.old clock reference) (G.takes gate.old.gate)))
             (wires (R.remaining reader.new.reader) (W.contents writer.new) (G.posts gate.new.gate) (passes gate.new.check (G.takes gate.new.gate))) }

@@ -10,7 +10,7 @@ use mio::{Interest, Poll, Token};
 use pg_audit::PmuStats;
 use pg_config::SourceConfig;
 use pg_gateway::Gate;
-use pg_limits::{Budget, Clocks, Due, Phase, Portion, StopAfterShortRead, reference};
+use pg_limits::{Action, Budget, Clocks, Phase, Portion, StopAfterShortRead, reference};
 use pg_log::{ConfigChange, Detail, Entry, Journal, LogEvent, MOST_PMUS, Subject};
 use pg_service::{
     Address, Dial, GateStats, Guards, LinkState, Lookup, Mailbox, MeteredGate, Poller, PortOrder,
@@ -45,6 +45,8 @@ struct Source {
     dial: u64,
     found: Option<SocketAddr>,
     is_sought: bool,
+    // Where it was called last.
+    called: Option<SocketAddr>,
     stream: Option<TcpStream>,
     is_ready: bool,
     // Whether its connection has failed or it sends no more: then it is read until it has ended.
@@ -54,7 +56,7 @@ struct Source {
     config: Option<Arc<SourceConfig>>,
     // The bytes of its data frames, as of the last one; the shortest there is before one came.
     size: usize,
-    // What its link had counted when the log was told of it last.
+    // What its link had counted at its last entry in the log.
     told: PmuStats,
     // The measurements that were too far from the clock, and when the last event came that was not.
     far: u64,
@@ -87,7 +89,7 @@ pub struct SourceWorker<'a, R: Wait + Net + Clock, N: Named> {
     sources: Vec<Source>,
     // The places of sources that are served, and when a source is waited for no longer.
     queue: ReadyQueue,
-    // How far its sources may be ahead of those who hand their frames out.
+    // How far its sources may be ahead of those that hand their frames out.
     pace: Pace,
     clock: u64,
     // What the times of measurements may be ahead of, and the clock when the times of all sources were looked at last; those of its own
@@ -189,6 +191,7 @@ impl<'a, R: Wait + Net + Clock, N: Named> SourceWorker<'a, R, N> {
             dial,
             found: None,
             is_sought: false,
+            called: None,
             stream: None,
             is_ready: false,
             is_ending: false,
@@ -289,7 +292,7 @@ impl<'a, R: Wait + Net + Clock, N: Named> SourceWorker<'a, R, N> {
         self.sources.get_mut(place)
     }
 
-    /// Does what it was told.
+    /// Carries out its orders.
     fn obey_all(&mut self) {
         for order in self.mailbox.take(self.rt, self.alloc) {
             self.obey(order);
@@ -338,7 +341,7 @@ impl<'a, R: Wait + Net + Clock, N: Named> SourceWorker<'a, R, N> {
         }
     }
 
-    /// Tells at the board how its sources stand. One that it calls no longer may be another worker's by now, and is left out.
+    /// Reports how its sources stand. One that it calls no longer may be another worker's by now, and is left out.
     fn report(&self, asking: u64) {
         let mut told = Vec::new(self.alloc);
         for source in &self.sources {
@@ -412,13 +415,13 @@ impl<'a, R: Wait + Net + Clock, N: Named> SourceWorker<'a, R, N> {
         self.tell_clocks(clocks);
     }
 
-    /// Does what is due by now of the source at this place, and tells when something is due next.
+    /// Does what is due by now of the source at this place, and returns when something is due next.
     fn do_due_of(&mut self, place: usize) -> Option<Instant> {
         let source = self.sources.get_mut(place)?;
         let due = source.line.due(self.queue.now);
         let entry = match due {
-            Due::Nothing => None,
-            Due::Call => source.call(
+            Action::Nothing => None,
+            Action::Call => source.call(
                 self.rt,
                 self.alloc,
                 self.waiting.poll(),
@@ -427,7 +430,7 @@ impl<'a, R: Wait + Net + Clock, N: Named> SourceWorker<'a, R, N> {
                 self.handles,
                 self.queue.now,
             ),
-            Due::GiveUp => {
+            Action::GiveUp => {
                 let event = if source.awaits_address() {
                     LogEvent::NotFound
                 } else {
@@ -436,11 +439,11 @@ impl<'a, R: Wait + Net + Clock, N: Named> SourceWorker<'a, R, N> {
                 source.end(self.queue.now);
                 Some(source.entry(event, Detail::Nothing))
             }
-            Due::Silent => {
+            Action::Silent => {
                 source.end(self.queue.now);
                 Some(source.entry(LogEvent::Silent, Detail::Nothing))
             }
-            Due::Ask => {
+            Action::Ask => {
                 source.line.ask_again();
                 Some(source.entry(LogEvent::AskedAgain, Detail::Nothing))
             }
@@ -449,7 +452,7 @@ impl<'a, R: Wait + Net + Clock, N: Named> SourceWorker<'a, R, N> {
         if let Some(entry) = entry {
             self.handles.journal.tell(self.rt, entry);
         }
-        if due == Due::Ask {
+        if due == Action::Ask {
             // Its commands are written where it is served.
             self.mark(place);
         }
@@ -478,7 +481,7 @@ impl<'a, R: Wait + Net + Clock, N: Named> SourceWorker<'a, R, N> {
         self.looked = self.queue.now;
     }
 
-    /// Serves the source at this place, whose socket is ready or whose reads were used up, and wakes those who hand out the frames made.
+    /// Serves the source at this place, whose socket is ready or whose reads were used up, and wakes those that hand out the frames made.
     fn serve(&mut self, place: usize) {
         self.read_in(place);
         self.pace.wake(&self.handles);
@@ -534,7 +537,7 @@ impl<'a, R: Wait + Net + Clock, N: Named> SourceWorker<'a, R, N> {
         self.mark(place);
     }
 
-    /// Serves those that are ready. Those whose reads are used up are served again in the next turn, and so is who is left once as many
+    /// Serves those that are ready. Those whose reads are used up are served again in the next turn, and so is one that is left once as many
     /// frames are out as may be.
     fn serve_ready(&mut self) {
         self.queue.begin();
@@ -558,7 +561,7 @@ impl<'a, R: Wait + Net + Clock, N: Named> SourceWorker<'a, R, N> {
 }
 
 impl Source {
-    /// What is told of it.
+    /// What is reported of it.
     fn entry(&self, event: LogEvent, detail: Detail) -> Entry {
         Entry::new(event, Subject::Source(self.line.source()), detail)
     }
@@ -592,7 +595,7 @@ impl Source {
         })
     }
 
-    /// Keeps when it was heard and how far its clock is off, and tells whether its data are refused for that from now on, or no longer.
+    /// Keeps when it was heard and how far its clock is off, and returns whether its data are refused for that from now on, or no longer.
     fn note_seen(&mut self, seen: &GateStats, clock: u64, now: Instant) -> bool {
         if seen.events > seen.far {
             self.heard = Some(now);
@@ -609,7 +612,7 @@ impl Source {
         self.off.is_some() != was_off
     }
 
-    /// Tells what was met while it was served.
+    /// Reports what was met while it was served.
     fn tell_seen<R: Wait + Clock, G: Gate>(
         &mut self,
         rt: &R,
@@ -630,7 +633,7 @@ impl Source {
         }
     }
 
-    /// Tells of a configuration that was announced, if it is the first one of its connection or another than the last.
+    /// Reports a configuration that was announced, if it is the first one of its connection or another than the last.
     fn tell_config<R: Wait + Clock>(
         &mut self,
         rt: &R,
@@ -657,7 +660,7 @@ impl Source {
         self.config = Some(config);
     }
 
-    /// Tells for which reasons its frames were ignored since that was told last.
+    /// Reports for which reasons its frames were ignored since the last such report.
     fn tell_ignored<R: Wait + Clock>(&mut self, rt: &R, journal: &Journal) {
         let counted = *self.line.link().stats();
         for reason in REASONS {
@@ -790,20 +793,18 @@ impl Source {
         let both = Interest::READABLE | Interest::WRITABLE;
         self.has_announced = false;
         self.newest = None;
+        self.called = Some(address);
         let mut stream = match TcpStream::connect(rt, address) {
             Ok(stream) => stream,
             Err(error) => {
                 self.line.ended(now);
-                return self.entry(LogEvent::NotMade, Detail::of_error(&error));
+                let detail = Detail::of_call(Some(address), &error);
+                return self.entry(LogEvent::NotMade, detail);
             }
         };
-        if poll
-            .registry()
-            .register(&mut stream, Token(place), both)
-            .is_err()
-        {
+        if let Err(error) = poll.registry().register(&mut stream, Token(place), both) {
             self.line.ended(now);
-            return self.entry(LogEvent::SocketFault, Detail::Nothing);
+            return self.entry(LogEvent::SocketFault, Detail::of_error(&error));
         }
         self.stream = Some(stream);
         self.is_ending = false;
@@ -819,7 +820,7 @@ impl Source {
         };
         let failed = match stream.take_error() {
             Ok(None) => None,
-            Ok(Some(error)) | Err(error) => Some(Detail::of_error(&error)),
+            Ok(Some(error)) | Err(error) => Some(Detail::of_call(self.called, &error)),
         };
         if let Some(detail) = failed {
             self.end(now);
@@ -828,14 +829,12 @@ impl Source {
         if stream.peer_addr().is_err() {
             return None;
         }
-        let is_set = stream.set_nodelay(true).is_ok();
+        let option = stream.set_nodelay(true);
         self.line.made(now);
-        let event = if is_set {
-            LogEvent::Made
-        } else {
-            LogEvent::SocketFault
-        };
-        Some(self.entry(event, Detail::Nothing))
+        Some(match option {
+            Ok(()) => self.entry(LogEvent::Made, Detail::Nothing),
+            Err(error) => self.entry(LogEvent::NoDelayFault, Detail::of_error(&error)),
+        })
     }
 
     /// Ends the connection, or the call.
@@ -874,7 +873,7 @@ fn pmus_of(config: &SourceConfig) -> [u16; MOST_PMUS] {
     pmus
 }
 
-/// This machine's clock: milliseconds since 1970-01-01 00:00 UTC, as far as it tells.
+/// This machine's clock: milliseconds since 1970-01-01 00:00 UTC, as far as it is known.
 fn clock_ms<R: Clock>(rt: &R) -> Option<u64> {
     let now = SystemTime::now(rt).ok()?;
     let since = now.duration_since(SystemTime::UNIX_EPOCH).ok()?;

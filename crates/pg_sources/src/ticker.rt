@@ -69,7 +69,7 @@ fn soc_now<R: Clock>(rt: &R) -> Option<u32> {
 }
 
 impl<R: Wait + Clock, N: Named> Work for Ticker<'_, R, N> {
-    /// Waits for the next tick, and posts it with the current SOC. Where the clock tells none there is no tick.
+    /// Waits for the next tick, and posts it with the current SOC. Where the clock has none there is no tick.
     fn turn(&mut self) -> bool {
         thread::sleep(self.rt, self.wait);
         match soc_now(self.rt) {

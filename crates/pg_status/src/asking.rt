@@ -5,7 +5,7 @@ use std::alloc::Global;
 use std::io;
 use std::io::{BufRead, ErrorKind, Write};
 
-/// What one more client is told than may be connected: the refusal `Busy`, as a line.
+/// What one more client is sent than may be connected: the refusal `Busy`, as a line.
 pub const BUSY: &[u8] = b"refused 34 Busy\n";
 
 /// How the answer to a refused line begins.
@@ -36,8 +36,8 @@ enum Turn {
     Silent,
 }
 
-/// Sends lines, each once the one before it was answered, writes their answers, and tells how they were answered. Behind each
-/// goes the line `end`, whose answer tells that the one before it was answered. `quit` is answered by the end of the connection.
+/// Sends lines, each once the one before it was answered, writes their answers, and returns how they were answered. Behind each
+/// goes the line `end`, whose answer says that the one before it was answered. `quit` is answered by the end of the connection.
 ///
 /// # Errors
 ///
@@ -69,7 +69,7 @@ pub fn converse<B: BufRead, S: Write, W: Write>(
     Ok(answered)
 }
 
-/// Sends a line, and the mark behind it where its answer does not tell its end.
+/// Sends a line, and the mark behind it where its answer does not show its end.
 fn send<S: Write>(alloc: Global, sender: &mut S, line: &[u8]) -> io::Result<()> {
     let mut sent = Vec::from_slice(alloc, line)?;
     sent.push(b'\n')?;
@@ -78,7 +78,7 @@ fn send<S: Write>(alloc: Global, sender: &mut S, line: &[u8]) -> io::Result<()> 
         sent.push(b'\n')?;
     }
     match sender.write_all(&sent) {
-        // Who was hung up may still be told why.
+        // A client that was hung up may still get the reason.
         Err(error) if !is_end(error.kind()) => Err(error),
         _ => Ok(()),
     }

@@ -21,7 +21,7 @@ const PLAIN: &str = "text/plain; charset=utf-8";
 
 /// How far a connection is.
 #[derive(Clone, Copy, PartialEq, Eq)]
-enum Stage {
+enum ExchangeState {
     /// The head has not come whole.
     Hears,
     /// This was asked for, and is awaited.
@@ -62,7 +62,7 @@ enum Flow {
 #[derive(Drop)]
 pub struct HttpExchange {
     alloc: Global,
-    stage: Stage,
+    state: ExchangeState,
     head: Vec<u8>,
     reply: WriteBuffer,
     deadline: Deadline,
@@ -75,7 +75,7 @@ impl HttpExchange {
     pub fn new(alloc: Global, now: Instant) -> HttpExchange {
         HttpExchange {
             alloc,
-            stage: Stage::Hears,
+            state: ExchangeState::Hears,
             head: Vec::new(alloc),
             reply: WriteBuffer {
                 bytes: Vec::new(alloc),
@@ -99,15 +99,17 @@ impl HttpExchange {
         let told = "16 connections are open, the most possible: try again in a second.\n";
         let status = "503 Service Unavailable\r\nRetry-After: 1";
         exchange.reply.bytes = reply_with(alloc, status, PLAIN, told.as_bytes(), false)?;
-        exchange.stage = Stage::Sends;
+        exchange.state = ExchangeState::Sends;
         Ok(exchange)
     }
 
     /// For how long it has been idle: for none where it is not.
     pub fn idle(&self, now: Instant) -> Duration {
-        match self.stage {
-            Stage::Hears if self.head.is_empty() => now.saturating_duration_since(self.since),
-            Stage::Sent => now.saturating_duration_since(self.since),
+        match self.state {
+            ExchangeState::Hears if self.head.is_empty() => now.saturating_duration_since(
+                self.since,
+            ),
+            ExchangeState::Sent => now.saturating_duration_since(self.since),
             _ => Duration::ZERO,
         }
     }
@@ -131,14 +133,14 @@ impl HttpExchange {
         if flow == Flow::Failed {
             return Step::Gone;
         }
-        match self.stage {
-            Stage::Hears | Stage::Sent => match flow {
+        match self.state {
+            ExchangeState::Hears | ExchangeState::Sent => match flow {
                 Flow::Blocked => Step::Waits,
                 Flow::UsedUp => Step::More,
                 Flow::Ended | Flow::Failed => Step::Gone,
             },
-            Stage::Asks { shown, .. } => Step::Asks(shown),
-            Stage::Sends => self.send(writer, flow, now),
+            ExchangeState::Asks { shown, .. } => Step::Asks(shown),
+            ExchangeState::Sends => self.send(writer, flow, now),
         }
     }
 
@@ -148,11 +150,11 @@ impl HttpExchange {
     ///
     /// There is no memory: the connection is to be closed.
     pub fn answer(&mut self, body: &[u8]) -> Result<(), AllocError> {
-        let Stage::Asks { shown, is_head } = self.stage else {
+        let ExchangeState::Asks { shown, is_head } = self.state else {
             return Ok(());
         };
         self.reply.bytes = reply_with(self.alloc, "200 OK", kind_of(shown), body, is_head)?;
-        self.stage = Stage::Sends;
+        self.state = ExchangeState::Sends;
         Ok(())
     }
 
@@ -179,17 +181,17 @@ impl HttpExchange {
 
     /// Takes bytes of the head. What comes behind it is dropped.
     fn take(&mut self, bytes: &[u8]) -> Result<(), AllocError> {
-        if self.stage != Stage::Hears {
+        if self.state != ExchangeState::Hears {
             return Ok(());
         }
         let room = HEAD_BYTES.saturating_sub(self.head.len()).min(bytes.len());
         self.head.extend_from_slice(&bytes[..room])?;
         match read_request(self.head.as_slice()) {
             Request::Partial => {}
-            Request::Show { shown, is_head } => self.stage = Stage::Asks { shown, is_head },
+            Request::Show { shown, is_head } => self.state = ExchangeState::Asks { shown, is_head },
             Request::Deny { denial, is_head } => {
                 self.reply.bytes = refusal(self.alloc, denial, is_head)?;
-                self.stage = Stage::Sends;
+                self.state = ExchangeState::Sends;
             }
         }
         Ok(())
@@ -199,7 +201,7 @@ impl HttpExchange {
     fn send<W: Write>(&mut self, writer: &mut W, flow: Flow, now: Instant) -> Step {
         match self.reply.send(writer, TURNS) {
             Sending::Done => {
-                self.stage = Stage::Sent;
+                self.state = ExchangeState::Sent;
                 self.since = now;
                 if flow == Flow::Ended {
                     Step::Gone

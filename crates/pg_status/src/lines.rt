@@ -15,7 +15,7 @@ pub const END: &[u8] = b"end";
 /// What a line is for the connection that it came by.
 #[derive(Clone, Copy, PartialEq, Eq)]
 pub enum LineKind {
-    /// It is answered by who answers lines.
+    /// It is answered where lines are.
     Other,
     /// `end`: it is answered by `end`, once all lines before it were.
     End,

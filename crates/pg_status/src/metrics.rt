@@ -5,7 +5,7 @@ use crate::snapshot::{Call, Presence, Snapshot, SourceState, StreamState, Subscr
 use std::io;
 use std::io::Write;
 
-/// A number that is told of each source.
+/// A number that is reported of each source.
 #[derive(Clone, Copy)]
 enum SourceFigure {
     Up,
@@ -54,7 +54,7 @@ impl SourceFigure {
     }
 }
 
-/// A number that is told of each subscriber.
+/// A number that is reported of each subscriber.
 #[derive(Clone, Copy)]
 enum SubscriberFigure {
     Connected,
@@ -144,7 +144,7 @@ impl SubscriberFigure {
     }
 }
 
-/// A number that is told of each stream.
+/// A number that is reported of each stream.
 #[derive(Clone, Copy)]
 enum StreamFigure {
     On,

@@ -1,6 +1,6 @@
 //! The page.
 
-/// The page at `/`: one text of HTML without outside parts. It asks for `/state` each second, and tells where the
+/// The page at `/`: one text of HTML without outside parts. It asks for `/state` each second, and shows where the
 /// gateway is out of reach.
 pub fn page_text() -> &'static str {
     PAGE

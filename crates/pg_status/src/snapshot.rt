@@ -29,7 +29,7 @@ pub struct Ignored {
 pub struct SourceState {
     /// The source.
     pub source: PmuId,
-    /// Where it is called, as its setup tells it, if it is called.
+    /// Where it is called, as its setup has it, if it is called.
     pub address: Option<String>,
     /// How its connection stands.
     pub call: Call,

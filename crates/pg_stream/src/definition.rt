@@ -1,19 +1,19 @@
-//! What defines a stream, and within which limits (own rules).
+//! What defines a stream, and within which limits.
 ghost use Rattle.std.specs.Prelude.{◌≡◌, ◌≢◌, ◌↔◌, ◌<◌, ◌≤◌, IsTrue, IsOk, IfErr, All, AllPairs};
 ghost use Rattle.pg_stream.specs.Limits.{IsWithinLimits, HasNumbers, HasText, HasMembers, answer_to};
 
 use crate::lists::{HeaderText, Members};
 use pg_wire::{PmuKey, Refusal, StreamId};
 
-/// What defines an output stream of a subscriber (own rule). Its numbers may be any of their types:
-/// `check_definition` tells whether they are within the limits.
+/// What defines an output stream of a subscriber. Its numbers may be any of their types:
+/// `check_definition` says whether they are within the limits.
 #[derive(Debug, Drop)]
 pub struct Definition {
     /// The stream's number: the IDCODE of its frames and of the commands to it (C37.118.2, 6.2), 1 to 65534.
     pub stream: StreamId,
-    /// Slots, and so at most data frames, a second: 1 to 120. CFG-1 and CFG-2 tell it as DATA_RATE (C37.118.2, 6.4).
+    /// Slots, and so at most data frames, a second: 1 to 120. CFG-1 and CFG-2 carry it as DATA_RATE (C37.118.2, 6.4).
     pub rate: u8,
-    /// The resolution of its stamps, in parts of a second: from the rate to 2^24 - 1. CFG-1 and CFG-2 tell it as
+    /// The resolution of its stamps, in parts of a second: from the rate to 2^24 - 1. CFG-1 and CFG-2 carry it as
     /// TIME_BASE (C37.118.2, 6.4).
     pub base: u32,
     /// How many ticks a slot waits, from its first arrival on, for those that have not come: 0 to 60,000.
@@ -27,7 +27,7 @@ pub struct Definition {
     pub members: Members,
 }
 
-/// Whether a stream may be defined so (own rule): `Ok` exactly where the definition is within every limit.
+/// Whether a stream may be defined so: `Ok` exactly where the definition is within every limit.
 ///
 /// # Errors
 ///

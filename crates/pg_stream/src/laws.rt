@@ -4,7 +4,7 @@ ghost use Rattle.pg_stream.specs.declared.definition.Definition.{Definition};
 ghost use Rattle.pg_stream.specs.Limits.{IsWithinLimits, is_within_limits};
 ghost use Rattle.pg_stream.specs.Slots.{IsSlot, IsStamp, IsBefore, slot_at, stamp_at};
 
-/// The test of the limits tells exactly whether they are kept.
+/// The test of the limits says exactly whether they are kept.
 pub fn limits_are_tested()
     ensures tested { (definition : Definition) → IsTrue (is_within_limits definition) ↔ IsWithinLimits definition }
 {}

@@ -1,4 +1,4 @@
-//! Slots and stamps (own rules; SOC and FRACSEC are those of C37.118.2, 6.2).
+//! Slots and stamps (SOC and FRACSEC are those of C37.118.2, 6.2).
 //!
 //! A stream of a rate has so many slots in each second, the first of them on the second itself, and they are counted
 //! from 1970-01-01 00:00 UTC. A time goes to the nearest slot, and of two equally near to the later.
@@ -7,14 +7,14 @@ ghost use Rattle.pg_stream.specs.Slots.{IsSlot, IsStamp, slot_at, stamp_at};
 
 use pg_wire::Refusal;
 
-/// The slot of the time `soc + frac / base`, in a stream of `rate` slots a second (own rule): `soc` in seconds since
+/// The slot of the time `soc + frac / base`, in a stream of `rate` slots a second: `soc` in seconds since
 /// 1970-01-01 00:00 UTC, `frac` the numerator in the low 24 bits of FRACSEC (C37.118.2, 6.2), `base` the resolution in
 /// the TIME_BASE of the source. The rate is 1 to 120.
 ///
 /// # Errors
 ///
 /// First, `BadFraction` where the numerator is not below the resolution; then `TimeEnd` where the slot lies in a second
-/// past 2^32 - 1, which no SOC can tell.
+/// past 2^32 - 1, which no SOC can say.
 pub fn slot_of(rate: u8, base: u32, soc: u32, frac: u32) -> Result<u64, Refusal>
     requires rate { (1 ≤ rate) × (rate ≤ 120) }
     ensures slot { IfOk result (IsSlot rate base soc frac) }
@@ -39,7 +39,7 @@ pub fn slot_of(rate: u8, base: u32, soc: u32, frac: u32) -> Result<u64, Refusal>
     Ok(slot)
 }
 
-/// The stamp of a slot, in a stream of `rate` slots a second whose resolution is `base` (own rule): the SOC in seconds
+/// The stamp of a slot, in a stream of `rate` slots a second whose resolution is `base`: the SOC in seconds
 /// since 1970-01-01 00:00 UTC, and the numerator for the low 24 bits of FRACSEC (C37.118.2, 6.2), which is below the
 /// resolution. The rate is 1 to 120, the resolution from the rate to 2^24 - 1, and the slot's second at most 2^32 - 1.
 pub fn stamp_of(rate: u8, base: u32, slot: u64) -> (u32, u32)

@@ -13,7 +13,7 @@ pub(crate) enum Posted {
     /// CFG-2 is among the replies.
     Done,
     /// There is no such stream, or its subscriber is not connected.
-    CloseReason,
+    Refused,
     /// Too many replies wait, or there is no memory: it is to be posted again.
     Later,
 }
@@ -45,7 +45,7 @@ fn posted_by(reply: &Reply) -> Posted {
     match reply {
         Reply::Done { .. } => Posted::Done,
         Reply::Refused(Refusal::ReplyFull | Refusal::NoMemory) => Posted::Later,
-        _ => Posted::CloseReason,
+        _ => Posted::Refused,
     }
 }
 

@@ -47,7 +47,7 @@ pub enum ServeResult {
     /// Its reads or drains were used up: bytes may still wait.
     More,
     /// Its connection ended, and is to be closed.
-    CloseReason(CloseReason),
+    Closes(CloseReason),
 }
 
 /// A subscriber that has connected: its session, and how long it is waited for. It knows neither sockets nor clocks.
@@ -183,7 +183,7 @@ fn outcome_of(end: End, is_more: bool) -> ServeResult {
     match end {
         End::Quiet if is_more => ServeResult::More,
         End::Quiet | End::Stalled => ServeResult::Waits,
-        End::Closed | End::Fault(_) => ServeResult::CloseReason(CloseReason::Ended(end)),
+        End::Closed | End::Fault(_) => ServeResult::Closes(CloseReason::Ended(end)),
     }
 }
 

@@ -89,7 +89,7 @@ impl SubscriberEndpoint {
         self.sub
     }
 
-    /// Who has connected, if somebody has.
+    /// The subscriber that connected, if one has.
     pub fn connection(&self) -> Option<&SubscriberConnection>
         ensures { option_map (λ g. g.now) result ≡ self.now.connection }
     {
@@ -108,10 +108,10 @@ impl SubscriberEndpoint {
     ) -> Admission
         ensures sub { self.new.sub ≡ self.old.sub }
         ensures same { self.new ≡ record self.old { connection = self.new.connection } }
-        // Who may not connect changes nothing.
+        // A host that may not connect changes nothing.
         ensures foreign { (result ≡ Admission.Forbidden) ↔ (is_allowed (ipv4_bits host) self.old.allow ≡ false) }
         ensures unasked { result ≡ Admission.Forbidden → (G.posts gate.new ≡ G.posts gate.old) × (self.new ≡ self.old) }
-        // Who may is the subscriber's just where the gateway answers so; or there is no memory, and nothing changes.
+        // One that may is the subscriber's just where the gateway answers so; or there is no memory, and nothing changes.
         ensures admits { is_allowed (ipv4_bits host) self.old.allow ≡ true →
             ((result ≡ Admission.Refused Refusal.NoMemory false) × (G.posts gate.new ≡ G.posts gate.old) × (self.new ≡ self.old))
             ⊎ Admits (instant_nanos now) self.old self.new result (G.posts gate.old) (G.posts gate.new) }
@@ -155,7 +155,7 @@ impl SubscriberEndpoint {
         }
     }
 
-    /// Hangs up the connection that stands, if it gives way to a new one, and tells whether it does.
+    /// Hangs up the connection that stands, if it gives way to a new one, and returns whether it does.
     #[tactic(auto, using(crate::proofs::Own::own_nil))]
     fn make_room<G: Gate>(&mut self, gate: &mut G, now: Instant) -> bool
         ensures sub { self.new.sub ≡ self.old.sub }
@@ -168,7 +168,7 @@ impl SubscriberEndpoint {
         self.gives_way(now) && self.hang_up(gate)
     }
 
-    /// Hangs up who has connected, and tells whether somebody had.
+    /// Hangs up the subscriber that connected, and returns whether somebody had.
     #[tactic(auto, using(crate::proofs::Own::own_as, crate::proofs::Own::own_nil, crate::proofs::Own::own_more))]
     pub fn hang_up<G: Gate>(&mut self, gate: &mut G) -> bool
         ensures sub { self.new.sub ≡ self.old.sub }
@@ -188,7 +188,7 @@ impl SubscriberEndpoint {
         }
     }
 
-    /// Hangs up who has connected where it was waited for as long as it may be, and tells why.
+    /// Hangs up the subscriber that connected where it was waited for as long as it may be, and returns why.
     #[tactic(auto, using(crate::proofs::Own::own_as, crate::proofs::Own::own_nil, crate::proofs::Own::own_more))]
     pub fn expire<G: Gate>(&mut self, gate: &mut G, now: Instant) -> Option<Timeout>
         ensures sub { self.new.sub ≡ self.old.sub }
@@ -218,7 +218,7 @@ impl SubscriberEndpoint {
         self.rules.change
     }
 
-    /// Since this time none of the bytes that were sent to who has connected is acknowledged; `None` where all are.
+    /// Since this time none of the bytes that were sent to the subscriber that connected is acknowledged; `None` where all are.
     pub fn acknowledged(&mut self, since: Option<Instant>)
         ensures { self.new ≡ record self.old { connection = option_map (λ (v : Connected). record v { timers = acknowledging (option_map instant_nanos since) v.timers }) self.old.connection } }
     {
@@ -235,14 +235,14 @@ impl SubscriberEndpoint {
         }
     }
 
-    /// How long until who has connected is hung up, if nothing goes either way; `None` for ever.
+    /// How long until the subscriber that connected is hung up, if nothing goes either way; `None` for ever.
     pub fn left(&self, now: Instant) -> Option<Duration>
         ensures { option_map as_nanos result ≡ option_and_then (λ v. left_by (instant_nanos now) v.timers) self.now.connection }
     {
         self.connection.as_ref()?.timers().left(now)
     }
 
-    /// Serves who has connected. It is nobody's any more where the connection ended.
+    /// Serves the subscriber that connected. It is nobody's any more where the connection ended.
     #[tactic(auto, using(crate::proofs::Own::own_as, crate::proofs::Own::own_nil, crate::proofs::Own::own_more))]
     pub fn serve<R: Read, W: Write, G: Gate>(
         &mut self,
@@ -263,7 +263,7 @@ impl SubscriberEndpoint {
         self.leave(outcome)
     }
 
-    /// Hands out what waits for who has connected, unless its socket takes none now.
+    /// Hands out what waits for the subscriber that connected, unless its socket takes none now.
     #[tactic(auto, using(crate::proofs::Own::own_as, crate::proofs::Own::own_nil, crate::proofs::Own::own_more))]
     pub fn hand_out<W: Write, G: Gate>(
         &mut self,
@@ -286,12 +286,12 @@ impl SubscriberEndpoint {
         self.leave(outcome)
     }
 
-    /// Forgets who has connected where the connection ended.
+    /// Forgets the subscriber that connected where the connection ended.
     fn leave(&mut self, outcome: ServeResult) -> ServeResult
         ensures sub { self.new.sub ≡ self.old.sub }
         ensures same { self.new ≡ record self.old { connection = self.new.connection } }
     {
-        if let ServeResult::CloseReason(_) = outcome {
+        if let ServeResult::Closes(_) = outcome {
             self.connection = None;
         }
         outcome

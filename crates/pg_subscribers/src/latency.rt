@@ -28,7 +28,7 @@ const SOC_AT: usize = 6;
 
 const FRACSEC_AT: usize = 10;
 
-/// The ticks of FRACSEC and of TIME_BASE: the other byte tells the clock's quality.
+/// The ticks of FRACSEC and of TIME_BASE: the other byte is the clock's quality.
 const TICKS: u32 = 0x00ff_ffff;
 
 /// TIME_BASE of a stream.
@@ -38,9 +38,9 @@ struct Base {
     resolution: u32,
 }
 
-/// The frames that go out over a connection, of which each data frame tells its age: this machine's clock less the stamp,
+/// The frames that go out over a connection, of which each data frame shows its age: this machine's clock less the stamp,
 /// at the moment at which its head goes out. FRACSEC is read by the TIME_BASE of the stream's last CFG-2 that went out; before one did,
-/// its frames tell none, since nobody could read their stamps.
+/// its frames show none, since nobody could read their stamps.
 #[derive(Drop)]
 pub struct LatencyMeter {
     // The first bytes of the frame that goes out, how many of them have, and how many bytes behind them are to come.
@@ -121,7 +121,7 @@ impl LatencyMeter {
         rest
     }
 
-    /// The first of these bytes go out: what is left of a frame, or what is wanted of its head. It tells how many that were.
+    /// The first of these bytes go out: what is left of a frame, or what is wanted of its head. It returns how many that were.
     fn pass_some(&mut self, bytes: &[u8], clock: u64, ages: &mut Histogram) -> usize {
         if self.left > 0 {
             let size = self.left.min(bytes.len());
@@ -165,7 +165,7 @@ impl LatencyMeter {
         }
     }
 
-    /// Holds what is wanted of these bytes, and tells how many that were.
+    /// Holds what is wanted of these bytes, and returns how many that were.
     fn hold(&mut self, bytes: &[u8]) -> usize {
         let size = self.wanted().saturating_sub(self.held).min(bytes.len());
         let free = self.head.iter_mut().skip(self.held);
@@ -261,7 +261,7 @@ impl<R: Clock, W: Write> Write for LatencyWriter<'_, R, W> {
     }
 }
 
-/// This machine's clock: microseconds since 1970-01-01 00:00 UTC, as far as it tells.
+/// This machine's clock: microseconds since 1970-01-01 00:00 UTC, as far as it is known.
 fn clock_micros<R: Clock>(rt: &R) -> Option<u64> {
     let now = SystemTime::now(rt).ok()?;
     let since = now.duration_since(SystemTime::UNIX_EPOCH).ok()?;

@@ -43,7 +43,7 @@ const PASSES: u32 = 64;
 /// How soon it is tried again to bind a port, in milliseconds.
 const BIND_MS: u64 = 30_000;
 
-/// When it is tried again to accept, where the system could not: it does not name a listener twice for one who waits.
+/// When it is tried again to accept, where the system could not: it does not name a listener twice for one that waits.
 const RETRY_MS: u64 = 1_000;
 
 /// The port of a subscriber, where it connects, with its connection if there is one.
@@ -57,15 +57,15 @@ pub struct Port {
     is_asked: bool,
     // When it is tried again to accept, where the system could not; None where it could.
     retry: Option<Instant>,
-    // From where who has connected came, and since when somebody or nobody has; None before the port is served.
+    // From where the subscriber that connected came, and since when somebody or nobody has; None before the port is served.
     peer: Option<SocketAddr>,
     since: Option<Instant>,
     // The frames that were dropped before those that were handed out.
     gaps: u64,
-    // What goes out to who has connected.
+    // What goes out to the subscriber that connected.
     stamps: LatencyMeter,
-    // What who has connected knows of the layouts of its streams, and how many changes were done before its streams were asked about; None
-    // where they are to be asked about again.
+    // What the subscriber that connected knows of the layouts of its streams, and how many changes were done before its streams were asked
+    // about; None where they are to be asked about again.
     known: KnownLayouts,
     settled: Option<usize>,
     // The bytes that its socket took in the connection that stands, by now and when the table of connections was looked at last; whether it
@@ -85,7 +85,7 @@ struct Unbound {
     retry: Instant,
 }
 
-/// How who has connected is served.
+/// How the subscriber that connected is served.
 #[derive(Clone, Copy, PartialEq, Eq)]
 enum Way {
     /// Its socket is ready.
@@ -96,7 +96,7 @@ enum Way {
     GoOn,
 }
 
-/// What is left to do for who has connected once it was served.
+/// What is left to do for the subscriber that connected once it was served.
 #[derive(Clone, Copy, PartialEq, Eq)]
 struct Passed {
     // Whether more is to be done in the next turn.
@@ -172,7 +172,7 @@ impl Port {
     ///
     /// # Errors
     ///
-    /// That of the system, where it doesn't tell.
+    /// That of the system, where it doesn't say.
     pub fn address(&self) -> io::Result<SocketAddr> {
         self.listener.local_addr()
     }
@@ -188,14 +188,14 @@ pub struct PortWorker<'a, R: Wait + Net + Clock, N: Named> {
     gate: MeteredGate<SharedGate<'a, R, N>>,
     waiting: Poller,
     mailbox: &'a Mailbox<PortOrder>,
-    // Those who may wait until it has handed out what they made.
+    // Those that may wait until it has handed out what they made.
     sources: &'a [Mailbox<SourceOrder>],
     journal: &'a Journal,
     collector: &'a StatusCollector,
     ports: Vec<Option<Port>>,
     // The ports that could not be bound.
     unbound: Vec<Unbound>,
-    // The subscribers that are asked about, and then those of them for whom something waits; room for each port.
+    // The subscribers that are asked about, and then those of them for which something waits; room for each port.
     asked: Vec<SubId>,
     // How old the data frames were that its ports handed out.
     ages: Histogram,
@@ -291,7 +291,7 @@ impl<'a, R: Wait + Net + Clock, N: Named> PortWorker<'a, R, N> {
         }
     }
 
-    /// Does what it was told.
+    /// Carries out its orders.
     fn obey_all(&mut self) {
         for order in self.mailbox.take(self.rt, self.alloc) {
             self.obey(order);
@@ -377,7 +377,7 @@ impl<'a, R: Wait + Net + Clock, N: Named> PortWorker<'a, R, N> {
         }
     }
 
-    /// Tells at the board how its ports stand.
+    /// Reports how its ports stand.
     fn report(&self, asking: u64) {
         let mut told = Vec::new(self.alloc);
         for port in self.ports.iter().flatten() {
@@ -389,24 +389,22 @@ impl<'a, R: Wait + Net + Clock, N: Named> PortWorker<'a, R, N> {
             .tell_ports(self.rt, self.journal, asking, told, &self.ages);
     }
 
-    /// Serves this port too, and tells the log.
+    /// Serves this port too, and writes it to the log.
     fn open_told(&mut self, port: Port) {
         let subject = Subject::Subscriber(port.sub());
         let detail = match port.address() {
             Ok(address) => Detail::At(address),
             Err(_) => Detail::Nothing,
         };
-        let is_open = self.open(port).is_ok();
-        let event = if is_open {
-            LogEvent::Listening
-        } else {
-            LogEvent::SocketFault
+        let (event, detail) = match self.open(port) {
+            Ok(()) => (LogEvent::Listening, detail),
+            Err(error) => (LogEvent::NotServed, Detail::of_error(&error)),
         };
         self.journal
             .tell(self.rt, Entry::new(event, subject, detail));
     }
 
-    /// Serves the subscriber's port no longer, and hangs up who has connected there.
+    /// Serves the subscriber's port no longer, and hangs up the subscriber that connected there.
     fn close(&mut self, sub: SubId) {
         self.hang_up(sub);
         let mut is_closed = false;
@@ -423,7 +421,7 @@ impl<'a, R: Wait + Net + Clock, N: Named> PortWorker<'a, R, N> {
         }
     }
 
-    /// Hangs up who has connected as this subscriber.
+    /// Hangs up the subscriber that connected as this subscriber.
     fn hang_up(&mut self, sub: SubId) {
         for port in self.ports.iter_mut().flatten() {
             if port.is_of(sub) && port.endpoint.hang_up(&mut self.gate) {
@@ -506,7 +504,7 @@ impl<'a, R: Wait + Net + Clock, N: Named> PortWorker<'a, R, N> {
         }
     }
 
-    /// Serves the port at this place: who has connected, and then who wants to.
+    /// Serves the port at this place: the subscriber that connected, and then one that wants to.
     fn serve(&mut self, place: usize) {
         let Some(Some(port)) = self.ports.get_mut(place) else {
             return;
@@ -549,7 +547,7 @@ impl<'a, R: Wait + Net + Clock, N: Named> PortWorker<'a, R, N> {
         }
     }
 
-    /// Does what it was told, and hands out what waits.
+    /// Carries out its orders, and hands out what waits.
     fn pass(&mut self) {
         self.obey_all();
         self.look_at_connections();
@@ -557,7 +555,7 @@ impl<'a, R: Wait + Net + Clock, N: Named> PortWorker<'a, R, N> {
         self.tell_end();
     }
 
-    /// Asks for whom of those that have connected something waits.
+    /// Asks for which of those that have connected something waits.
     fn ask_who_waits(&mut self) {
         let mut asked = mem::replace(&mut self.asked, Vec::new(self.alloc));
         asked.clear();
@@ -572,7 +570,7 @@ impl<'a, R: Wait + Net + Clock, N: Named> PortWorker<'a, R, N> {
         }
     }
 
-    /// Tells those who wait for it that all that waited was handed out, but what sockets did not take.
+    /// Reports to those that wait for it that all that waited was handed out, but what sockets did not take.
     fn tell_end(&self) {
         if self.mailbox.end_turn() {
             for mailbox in self.sources {
@@ -581,7 +579,7 @@ impl<'a, R: Wait + Net + Clock, N: Named> PortWorker<'a, R, N> {
         }
     }
 
-    /// Hands out what waits to those that have connected. One call tells for whom something waits, in the order of the ports.
+    /// Hands out what waits to those that have connected. One call asks for which of them something waits, in the order of the ports.
     fn hand_out_all(&mut self) {
         self.ask_who_waits();
         let mut next = 0;
@@ -679,7 +677,7 @@ impl Port {
         self.unacknowledged = Unacknowledged::new();
     }
 
-    /// Looks in the table of connections whether bytes that were sent are not acknowledged, and tells whether some are not. What was written
+    /// Looks in the table of connections whether bytes that were sent are not acknowledged, and returns whether some are not. What was written
     /// since the last look counts from the next one on, as some of it may have been written behind the table.
     fn look<R: Wait>(&mut self, rt: &R, connections: &Connections, now: Instant) -> bool
         ensures sub { self.new.sub ≡ self.old.sub }
@@ -710,7 +708,7 @@ impl Port {
         }
     }
 
-    /// Serves who has connected, and tells whether more is to be done.
+    /// Serves the subscriber that connected, and returns whether more is to be done.
     fn serve<R: Wait + Clock, G: Gate>(
         &mut self,
         rt: &R,
@@ -727,7 +725,7 @@ impl Port {
         self.serve_all(rt, gate, changes, journal, ages, now, Way::Serve)
     }
 
-    /// Hands out what waits for who has connected, and tells whether more is to be done.
+    /// Hands out what waits for the subscriber that connected, and returns whether more is to be done.
     fn hand_out<R: Wait + Clock, G: Gate>(
         &mut self,
         rt: &R,
@@ -744,7 +742,7 @@ impl Port {
         self.serve_all(rt, gate, changes, journal, ages, now, Way::HandOut)
     }
 
-    /// Serves who has connected, again and again while what was drained is held back, and tells whether more is to be done.
+    /// Serves the subscriber that connected, again and again while what was drained is held back, and returns whether more is to be done.
     #[tactic(auto, using(crate::proofs::Own::own_nil, crate::proofs::Own::own_more, crate::proofs::Own::own_as))]
     fn serve_all<R: Wait + Clock, G: Gate>(
         &mut self,
@@ -773,7 +771,7 @@ impl Port {
         true
     }
 
-    /// Serves who has connected once. Where an edit or an announcement was begun since its streams were asked about, they are asked about
+    /// Serves the subscriber that connected once. Where an edit or an announcement was begun since its streams were asked about, they are asked about
     /// before a byte is written that was drained meanwhile: so no frame goes out that could be misread.
     #[tactic(auto, using(crate::proofs::Own::own_nil, crate::proofs::Own::own_more, crate::proofs::Own::own_as))]
     fn pass<R: Wait + Clock, G: Gate>(
@@ -816,7 +814,7 @@ impl Port {
         }
     }
 
-    /// Reads, drains and writes in this way, and tells also whether bytes were held back.
+    /// Reads, drains and writes in this way, and returns also whether bytes were held back.
     #[tactic(auto, using(crate::proofs::Own::own_nil, crate::proofs::Own::own_more, crate::proofs::Own::own_as))]
     fn write_once<R: Wait + Clock, G: Gate>(
         &mut self,
@@ -857,8 +855,8 @@ impl Port {
         Some((outcome, writer.inner.is_holding, writer.moved))
     }
 
-    /// Compares the layouts of the streams with those that who has connected knows, behind what was served; `settled` is how many changes were
-    /// done before that. It tells a stream for which who has connected is to be disconnected.
+    /// Compares the layouts of the streams with those that the subscriber that connected knows, behind what was served; `settled` is how many
+    /// changes were done before that. It returns a stream for which the subscriber that connected is to be disconnected.
     #[tactic(auto, using(crate::proofs::Own::own_nil))]
     fn compare<G: Gate>(
         &mut self,
@@ -883,8 +881,8 @@ impl Port {
         misread
     }
 
-    /// Asks about the streams, behind what was served; `settled` is how many changes were done before that. It tells a stream for which who has
-    /// connected is to be disconnected.
+    /// Asks about the streams, behind what was served; `settled` is how many changes were done before that. It returns a stream for which
+    /// the subscriber that connected is to be disconnected.
     fn ask<G: Gate>(
         &mut self,
         gate: &mut MeteredGate<G>,
@@ -906,7 +904,7 @@ impl Port {
         judged.misread
     }
 
-    /// Disconnects who has connected, since it could misread this stream.
+    /// Disconnects the subscriber that connected, since it could misread this stream.
     #[tactic(auto, using(crate::proofs::Own::own_as))]
     fn disconnect<R: Wait + Clock, G: Gate>(
         &mut self,
@@ -924,7 +922,7 @@ impl Port {
         journal.tell(rt, self.entry(LogEvent::Misread, Detail::OfStream(stream)));
     }
 
-    /// Posts what is due in the subscriber's name, one CFG-2 and one start at most, and tells whether something was posted.
+    /// Posts what is due in the subscriber's name, one CFG-2 and one start at most, and returns whether something was posted.
     #[tactic(auto, using(crate::proofs::Own::own_nil, crate::proofs::Own::own_more, crate::proofs::Own::own_as))]
     fn post_due<R: Wait + Clock, G: Gate>(
         &mut self,
@@ -957,7 +955,7 @@ impl Port {
         self.tell_switched(rt, &seen.switched, journal);
     }
 
-    /// Has a CFG-2 sent that is owed, and where nothing waits a stream go on; tells whether something was posted.
+    /// Has a CFG-2 sent that is owed, and where nothing waits a stream go on; returns whether something was posted.
     #[tactic(auto, using(crate::proofs::Own::own_nil, crate::proofs::Own::own_more, crate::proofs::Own::own_as))]
     fn send_and_resume<R: Wait + Clock, G: Gate>(
         &mut self,
@@ -977,7 +975,7 @@ impl Port {
         is_sent || is_resumed
     }
 
-    /// Has the CFG-2 of a stream put among the replies that is owed one, and tells whether it was.
+    /// Has the CFG-2 of a stream put among the replies that is owed one, and returns whether it was.
     #[tactic(auto, using(crate::proofs::Own::own_nil))]
     fn send_config<R: Wait + Clock, G: Gate>(
         &mut self,
@@ -1004,7 +1002,7 @@ impl Port {
         posted == Posted::Done
     }
 
-    /// Has a stream go on that was defined anew, behind its CFG-2, while nothing waits; tells whether one does.
+    /// Has a stream go on that was defined anew, behind its CFG-2, while nothing waits; returns whether one does.
     #[tactic(auto, using(crate::proofs::Own::own_nil, crate::proofs::Own::own_more))]
     fn resume_next<G: Gate>(&mut self, gate: &mut MeteredGate<G>) -> bool
         ensures sub { self.new.sub ≡ self.old.sub }
@@ -1022,18 +1020,18 @@ impl Port {
         };
         match post_resume(self.endpoint.sub(), stream, gate) {
             Posted::Done => self.known.resumed(&standing),
-            Posted::CloseReason => self.known.give_up(stream),
+            Posted::Refused => self.known.give_up(stream),
             Posted::Later => {}
         }
         true
     }
 
-    /// What is told of it.
+    /// What is reported of it.
     fn entry(&self, event: LogEvent, detail: Detail) -> Entry {
         Entry::new(event, Subject::Subscriber(self.endpoint.sub()), detail)
     }
 
-    /// Tells what was met while who has connected was served.
+    /// Reports what was met while the subscriber that connected was served.
     fn tell_seen<R: Wait + Clock>(&mut self, rt: &R, seen: &GateStats, journal: &Journal)
         ensures same { self.new ≡ self.old }
     {
@@ -1048,7 +1046,7 @@ impl Port {
         }
     }
 
-    /// Tells which streams were started and stopped.
+    /// Reports which streams were started and stopped.
     fn tell_switched<R: Wait + Clock>(&self, rt: &R, switched: &Switches, journal: &Journal) {
         for place in 0..STREAMS {
             let Some((stream, is_on)) = switched.at(place) else {
@@ -1063,7 +1061,7 @@ impl Port {
         }
     }
 
-    /// Closes the connection where it ended, and tells whether more is to be done.
+    /// Closes the connection where it ended, and returns whether more is to be done.
     fn leave<R: Wait + Clock>(
         &mut self,
         rt: &R,
@@ -1076,7 +1074,7 @@ impl Port {
         match outcome {
             ServeResult::Waits => false,
             ServeResult::More => true,
-            ServeResult::CloseReason(reason) => {
+            ServeResult::Closes(reason) => {
                 self.part(now);
                 let detail = match reason {
                     CloseReason::Ended(end) => ended(end),
@@ -1100,7 +1098,7 @@ impl Port {
         journal.tell(rt, self.entry(LogEvent::Replaced, detail));
     }
 
-    /// Accepts who wants to connect, and tells whether more may want to.
+    /// Accepts a subscriber that wants to connect, and returns whether more may want to.
     fn accept<R: Wait + Clock, G: Gate>(
         &mut self,
         rt: &R,
@@ -1156,13 +1154,15 @@ impl Port {
                 self.part(now);
                 let both = Interest::READABLE | Interest::WRITABLE;
                 let token = connected(place);
-                if poll.registry().register(&mut stream, token, both).is_err() {
+                if let Err(error) = poll.registry().register(&mut stream, token, both) {
                     self.endpoint.hang_up(gate);
-                    journal.tell(rt, self.entry(LogEvent::SocketFault, Detail::Nothing));
+                    let detail = Detail::of_error(&error);
+                    journal.tell(rt, self.entry(LogEvent::SocketFault, detail));
                     return;
                 }
-                if stream.set_nodelay(true).is_err() {
-                    journal.tell(rt, self.entry(LogEvent::SocketFault, Detail::Nothing));
+                if let Err(error) = stream.set_nodelay(true) {
+                    let detail = Detail::of_error(&error);
+                    journal.tell(rt, self.entry(LogEvent::NoDelayFault, detail));
                 }
                 self.stream = Some(stream);
                 self.peer = Some(address);

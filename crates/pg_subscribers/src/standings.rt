@@ -46,7 +46,7 @@ fn post_standing<G: Gate>(sub: SubId, place: u8, gate: &mut G) -> Option<FoundSt
     standing_in(&reply)
 }
 
-/// What is found of a stream by this reply, if it tells of one.
+/// What is found of a stream by this reply, if it has one.
 fn standing_in(reply: &Reply) -> Option<FoundStream> {
     match reply {
         Reply::Standing(standing) => match &standing.stream {

@@ -1,3 +1,3 @@
 -- Definitions that the contracts of the tools cite.
 pub mod Playing
-pub mod Asking
+pub mod Retrying

@@ -3,7 +3,7 @@ use Rattle.std.specs.Prelude.{◌≡◌, ℕ, ◌+◌, ◌-◌, Option, Some, No
 use Rattle.pg_command.specs.declared.word.Word.{Word}
 use Rattle.pg_command.specs.declared.word.Word.TheVariants.{StartData, StopData, SendHeader, SendCfgOne, SendCfgTwo, SendCfgThree, Extended}
 use Rattle.pg_tools.specs.declared.source.CommandEvent.{CommandEvent}
-use Rattle.pg_tools.specs.declared.source.CommandEvent.TheVariants.{Obeyed, Kept, Ignored, More, Broken}
+use Rattle.pg_tools.specs.declared.source.CommandEvent.TheVariants.{Obeyed, NotAnswered, Ignored, More, Broken}
 
 -- The last slot that is done with while data is on, after a command at the instant of a slot.
 abbrev pub sending_after : Option ℕ → Word → ℕ → Option ℕ
@@ -20,10 +20,10 @@ sending_after sending Extended slot = sending
 abbrev pub least_slot : ℕ → ℕ → ℕ → ℕ
 least_slot last end rate = if nat_lt (last + 1) (end - (rate - 1)) then end - (rate - 1) else last + 1
 
--- What is heard switches data on and off just where it is a command 1 or 2.
+-- What is event switches data on and off just where it is a command 1 or 2.
 abbrev pub IsAfter : CommandEvent → Option ℕ → Option ℕ → Type 0
 IsAfter (Obeyed word) old new = (slot : ℕ) × (new ≡ sending_after old word slot)
-IsAfter (Kept word) old new = (slot : ℕ) × (new ≡ sending_after old word slot)
+IsAfter (NotAnswered word) old new = (slot : ℕ) × (new ≡ sending_after old word slot)
 IsAfter (Ignored refusal) old new = new ≡ old
 IsAfter More old new = new ≡ old
 IsAfter (Broken refusal) old new = new ≡ old

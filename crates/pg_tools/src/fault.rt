@@ -1,5 +1,6 @@
 //! What ends a tool.
 
+use std::alloc::AllocError;
 use std::io;
 use std::net::SocketAddr;
 use thiserror::Error;
@@ -25,4 +26,10 @@ pub enum Fault {
     /// The system doesn't do what is needed, or memory ran out.
     #[error(transparent)]
     System(#[from] io::Error),
+}
+
+impl From<AllocError> for Fault {
+    fn from(error: AllocError) -> Fault {
+        Fault::System(io::Error::from(error))
+    }
 }

@@ -33,8 +33,8 @@ pub fn quantity_of(phasor: u8) -> Quantity {
     }
 }
 
-/// Whether the PMU at a place of the grid tells magnitude and angle, which each second one does; the others tell rectangular
-/// parts.
+/// Whether the PMU at a place of the grid reports polar phasors, as each second one does; the others report rectangular
+/// ones.
 pub fn is_polar(place: u8) -> bool {
     place % 2 == 1
 }
@@ -121,13 +121,13 @@ fn add_units(out: &mut Vec<u8>, settings: &Settings) -> Result<(), AllocError> {
     for phasor in 0..settings.channels.phasors {
         let unit = match quantity_of(phasor) {
             Quantity::Voltage => VOLT_UNIT,
-            // The top byte 1 tells of a current.
+            // The top byte 1 stands for a current.
             Quantity::Current => 0x0100_0000 + AMPERE_UNIT,
         };
         out.extend_from_slice(&unit.to_be_bytes())?;
     }
     for _ in 0..settings.channels.analogs {
-        // The top byte 1 tells of an effective value; a count is 1.
+        // The top byte 1 stands for an effective value; a count is 1.
         out.extend_from_slice(&[1, 0, 0, 1])?;
     }
     for _ in 0..settings.channels.digitals {

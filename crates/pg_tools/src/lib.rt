@@ -7,9 +7,8 @@ mod fault;
 mod layout;
 mod lines;
 mod measuring;
-mod moment;
-mod question;
 mod reading;
+mod retry;
 mod screen;
 mod settings;
 mod signal;
@@ -17,23 +16,24 @@ mod simulate_source;
 mod simulator;
 mod source;
 mod target;
+mod unix_time;
 mod watch_stream;
 mod watcher;
 mod wave;
 
 pub use fault::Fault;
 pub use measuring::add_measured;
-pub use moment::{MICROS, Moment, Rate};
-pub use question::{PATIENCE, Retry};
+pub use retry::{RETRY_TIMEOUT, Retry};
 pub use settings::{
-    BadOption, Channels, Faults, Nominal, Numbers, Settings, SimulateWords, address, number,
+    BadOption, Channels, Faults, Nominal, Numbers, Settings, SimulateArgs, address, number,
     read_settings,
 };
 pub use simulate_source::simulate;
-pub use simulator::{Happening, Simulator};
+pub use simulator::{Simulator, SimulatorEvent};
 pub use source::{CommandEvent, Source, SourceCounts};
 pub use target::Target;
+pub use unix_time::{Rate, TIME_BASE, UnixTime};
 pub use watch_stream::{
-    Observer, Style, WatchOptions, WatchWords, read_watched, watch, watch_before,
+    Observer, Style, WatchArgs, WatchOptions, read_watch_options, watch, watch_with,
 };
-pub use watcher::{Seen, Stamp, Tally, Trouble, Watcher};
+pub use watcher::{Stamp, Tally, Violation, WatchEvent, Watcher};

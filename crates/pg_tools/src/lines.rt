@@ -2,8 +2,8 @@
 
 ghost use Rattle.std.specs.Prelude.{◌≤◌};
 
-use crate::moment::Moment;
 use crate::reading::{Cell, Quality, Reading};
+use crate::unix_time::UnixTime;
 use crate::watcher::Watcher;
 use jiff_core::Timestamp;
 use jiff_fmt::temporal::DateTimePrinter;
@@ -12,9 +12,9 @@ use pg_data::DataFrame;
 use std::alloc::AllocError;
 use std::fmt;
 
-/// The instant of a frame in ISO 8601, to the microsecond.
+/// The time of a frame. Its text is ISO 8601, to the microsecond.
 #[derive(Clone, Copy)]
-pub struct Instant {
+pub struct FrameTime {
     /// Seconds since 1970-01-01 00:00 UTC.
     pub soc: u32,
     /// The numerator of the fraction.
@@ -23,19 +23,19 @@ pub struct Instant {
     pub base: u32,
 }
 
-impl Instant {
+impl FrameTime {
     /// When a frame was measured.
-    pub fn of(frame: &DataFrame) -> Instant {
-        Instant {
+    pub fn of(frame: &DataFrame) -> FrameTime {
+        FrameTime {
             soc: frame.soc,
             frac: frame.frac,
             base: frame.base(),
         }
     }
 
-    /// The same by its microseconds.
-    pub fn moment(self) -> Moment {
-        Moment::new(self.soc, self.micros() as u32)
+    /// The same in microseconds since 1970.
+    pub fn unix_time(self) -> UnixTime {
+        UnixTime::new(self.soc, self.micros() as u32)
     }
 
     /// The fraction in microseconds.
@@ -49,7 +49,7 @@ impl Instant {
     }
 }
 
-impl fmt::Display for Instant {
+impl fmt::Display for FrameTime {
     fn fmt<W: fmt::Write>(&self, f: &mut fmt::Formatter<W>) -> fmt::Result {
         let micros = self.micros();
         let second = self.soc;
@@ -66,7 +66,7 @@ impl fmt::Display for Instant {
     }
 }
 
-/// What is told where the configuration has no PMU: none of the stream's is granted and announced.
+/// What is shown where the configuration has no PMU: none of the stream's is granted and announced.
 pub const NO_PMU: &str = "no PMU yet";
 
 /// The heading of the lines of values: `time`, the time quality, and the channels of each PMU by their names.
@@ -94,7 +94,7 @@ pub fn write_heading(out: &mut String, config: &SourceConfig) -> Result<(), Allo
 
 /// The line of a frame: magnitudes in volts or amperes, angles in degrees. A value that is absent is left out.
 pub fn write_values(out: &mut String, frame: &DataFrame) -> Result<(), AllocError> {
-    let time = Instant::of(frame);
+    let time = FrameTime::of(frame);
     let quality = frame.quality;
     write!(out, "{time},{quality:02X}")?;
     for (i, part) in frame.config.parts.iter().enumerate() {
@@ -179,7 +179,7 @@ pub fn write_second(
         };
         return write!(out, "{why}; {troubles} troubles\n");
     };
-    let time = Instant::of(frame);
+    let time = FrameTime::of(frame);
     let quality = Quality(frame.quality);
     let delay = delay.unwrap_or(0);
     write!(

@@ -3,9 +3,9 @@
 ghost use Rattle.std.specs.Prelude.{◌≡◌, pos, negsuc, ◌≤ℤ◌};
 
 use crate::layout::{Quantity, add_word, is_polar, quantity_of};
-use crate::moment::Moment;
 use crate::settings::{Nominal, Settings};
 use crate::signal::{Grid, grid_at, part, turning};
+use crate::unix_time::UnixTime;
 use crate::wave::{UNIT, cosine, sine};
 use std::alloc::AllocError;
 
@@ -44,7 +44,7 @@ fn add_count(out: &mut Vec<u8>, value: i64) -> Result<(), AllocError> {
 pub fn add_measured(
     out: &mut Vec<u8>,
     settings: &Settings,
-    at: Moment,
+    at: UnixTime,
     pmu: u8,
 ) -> Result<(), AllocError> {
     let place = settings.place.wrapping_add(pmu);
@@ -83,8 +83,8 @@ fn add_polar(out: &mut Vec<u8>, phasor: Phasor) -> Result<(), AllocError> {
 }
 
 /// Phasor k of PMU i. Voltages stay within some percent of the nominal one; currents lag, and swing more.
-fn phasor_at(at: Moment, grid: &Grid, nominal: Nominal, pmu: u8, k: u8) -> Phasor {
-    let (nominal, lag, wander, swing) = match quantity_of(k) {
+fn phasor_at(at: UnixTime, grid: &Grid, nominal: Nominal, pmu: u8, k: u8) -> Phasor {
+    let (nominal, lag, drift, swing) = match quantity_of(k) {
         // 288.7 kV or 230.9 kV to earth, a count of 10 V.
         Quantity::Voltage => match nominal {
             Nominal::Sixty => (28_868, 0, 150, 300),
@@ -100,7 +100,7 @@ fn phasor_at(at: Moment, grid: &Grid, nominal: Nominal, pmu: u8, k: u8) -> Phaso
         // PMUs stand 4 degrees apart.
         .wrapping_add(u32::from(pmu).wrapping_mul(0x02D8_2D83));
     Phasor {
-        magnitude: part(wander, slow, UNIT)
+        magnitude: part(drift, slow, UNIT)
             .saturating_add(nominal)
             .saturating_sub(part(swing, grid.swing, UNIT)),
         turn: grid.turn.wrapping_sub(back),
@@ -108,7 +108,7 @@ fn phasor_at(at: Moment, grid: &Grid, nominal: Nominal, pmu: u8, k: u8) -> Phaso
 }
 
 /// Analog value k of PMU i: power in MW or Mvar, which goes up and down in five minutes and with the swing.
-fn analog_at(at: Moment, grid: &Grid, pmu: u8, k: u8) -> i64 {
+fn analog_at(at: UnixTime, grid: &Grid, pmu: u8, k: u8) -> i64 {
     let angle = turning(at, 300).wrapping_add(u32::from(pmu).wrapping_mul(0x3000_0000));
     let level = if k % 2 == 0 { 800 } else { 120 };
     part(level / 5, sine(angle), UNIT)
@@ -118,8 +118,8 @@ fn analog_at(at: Moment, grid: &Grid, pmu: u8, k: u8) -> i64 {
 }
 
 /// Digital word k of PMU i: the breaker changes each ten seconds, an alarm stands in each minute's first second, a trip in the
-/// second after it, and the last input tells the parity of the minute.
-fn digital_at(at: Moment, pmu: u8, k: u8) -> u16 {
+/// second after it, and the last input is the parity of the minute.
+fn digital_at(at: UnixTime, pmu: u8, k: u8) -> u16 {
     let soc = at.soc();
     let shifted = soc.wrapping_add(u32::from(pmu)).wrapping_add(u32::from(k));
     let breaker = u16::from(shifted / 10 % 2 == 0);

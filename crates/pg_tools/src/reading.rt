@@ -117,7 +117,7 @@ impl<'a> Reading<'a> {
         word_at(self.block, 0)
     }
 
-    /// The nominal frequency in Hz: 50 or 60, as FNOM tells.
+    /// The nominal frequency in Hz: 50 or 60, by FNOM.
     pub fn nominal(&self) -> u16 {
         let at = self.config.len().saturating_sub(4);
         if word_at(self.config, at) % 2 == 1 {

@@ -1,10 +1,10 @@
 //! The screen of `watch`: plain ANSI sequences, which move the cursor up and wipe the rest of a line, and nothing that would
 //! have to be undone.
 
-use crate::lines::{Instant, NO_PMU};
+use crate::lines::{FrameTime, NO_PMU};
 use crate::reading::{Quality, Reading, Status, shown};
 use crate::target::Target;
-use crate::watcher::{Tally, Trouble};
+use crate::watcher::{Tally, Violation};
 use pg_config::{PmuConfig, SourceConfig};
 use pg_data::DataFrame;
 use std::alloc::{AllocError, Global};
@@ -102,7 +102,7 @@ fn filled_of(above: i64, span: i64, row: i64, rows: i64) -> usize {
 /// What a screen shows.
 #[derive(Drop)]
 pub struct View<'a> {
-    /// Who is watched.
+    /// The address of the gateway or source.
     pub address: Target<'a>,
     /// The stream's IDCODE.
     pub stream: u16,
@@ -123,14 +123,14 @@ pub struct View<'a> {
     /// How many milliseconds behind its stamp that frame came.
     pub delay: Option<i64>,
     /// What was wrong last.
-    pub trouble: Option<Trouble>,
+    pub trouble: Option<Violation>,
     /// What stands below it all.
     pub notes: &'a str,
 }
 
 /// What stands on the terminal before a screen is drawn.
 #[derive(Clone, Copy)]
-pub struct Before {
+pub struct LastScreen {
     /// The lines of the last screen.
     pub lines: usize,
     /// How many lines were typed below it; `None` where no lines are read.
@@ -164,7 +164,11 @@ impl Page {
 
 /// The text that draws a screen over the last one, and how many lines it has. The cursor stands in the line below it, so that
 /// whatever ends the program leaves the terminal as it was. Where lines are read, that one is left as it is while it is typed.
-pub fn draw(alloc: Global, view: &View<'_>, before: Before) -> Result<(String, usize), AllocError> {
+pub fn draw(
+    alloc: Global,
+    view: &View<'_>,
+    before: LastScreen,
+) -> Result<(String, usize), AllocError> {
     let mut page = Page {
         text: String::new(alloc),
         line: String::new(alloc),
@@ -189,7 +193,7 @@ fn over(
     alloc: Global,
     lines_text: &String,
     lines: usize,
-    before: Before,
+    before: LastScreen,
 ) -> Result<String, AllocError> {
     let keeps_input = before.typed == Some(0) && before.lines == lines;
     let mut text = String::new(alloc);
@@ -206,7 +210,7 @@ fn over(
     Ok(text)
 }
 
-/// The head: who, when, what was counted.
+/// The head: address, stream, time and counts.
 fn draw_head(page: &mut Page, view: &View<'_>) -> Result<(), AllocError> {
     let address = view.address;
     let stream = view.stream;
@@ -214,7 +218,7 @@ fn draw_head(page: &mut Page, view: &View<'_>) -> Result<(), AllocError> {
     if view.has_no_pmu {
         page.line.push_str(NO_PMU)?;
     } else if let Some(frame) = view.frame {
-        let time = Instant::of(frame);
+        let time = FrameTime::of(frame);
         let quality = Quality(frame.quality);
         write!(page.line, "{time}  {quality}")?;
         if let Some(delay) = view.delay {
@@ -227,9 +231,9 @@ fn draw_head(page: &mut Page, view: &View<'_>) -> Result<(), AllocError> {
     match view.config.and_then(|config| config.parts.first()) {
         Some(part) => {
             let rate = part.rate;
-            write!(page.line, "{rate} told, ")?;
+            write!(page.line, "{rate} configured, ")?;
         }
-        None => write!(page.line, "not told, ")?,
+        None => write!(page.line, "unknown, ")?,
     }
     let frames = view.tally.frames;
     let missing = view.tally.missing;
@@ -251,7 +255,7 @@ fn draw_head(page: &mut Page, view: &View<'_>) -> Result<(), AllocError> {
 }
 
 /// The PMUs of a frame, as far as there are lines for whole ones; of the first one as much as there is room for. Where that is
-/// not all, the last line tells so.
+/// not all, the last line says so.
 fn draw_pmus(page: &mut Page, view: &View<'_>, frame: &DataFrame) -> Result<(), AllocError> {
     let count = frame.count();
     let rows = if count == 1 { 4 } else { 1 };

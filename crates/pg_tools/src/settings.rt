@@ -1,13 +1,13 @@
-//! What is simulated, and how it is told in words.
+//! What is simulated, and the options that set it.
 
 ghost use Rattle.std.specs.Prelude.{◌≡◌, ◌+◌, ◌*◌, ◌≤◌, ◌<◌, IfSome};
 
-use crate::moment::Rate;
+use crate::unix_time::Rate;
 use std::net::{SocketAddr, SocketAddrV4};
 use thiserror::Error;
 
 /// What a source does wrong, each fault by itself; 0 where it does not.
-#[derive(Clone, Copy, Debug, PartialEq, Eq)]
+#[derive(Clone, Copy)]
 pub struct Faults {
     /// After every ten seconds with data frames none are sent for so many seconds.
     pub silence: u32,
@@ -36,7 +36,7 @@ impl Faults {
 }
 
 /// The frequency of a grid.
-#[derive(Clone, Copy, Debug, PartialEq, Eq)]
+#[derive(Clone, Copy)]
 pub enum Nominal {
     /// 50 Hz.
     Fifty,
@@ -45,7 +45,7 @@ pub enum Nominal {
 }
 
 /// How many channels each PMU has.
-#[derive(Clone, Copy, Debug, PartialEq, Eq)]
+#[derive(Clone, Copy)]
 pub struct Channels {
     /// Phasors: 0 to 32.
     pub phasors: u8,
@@ -83,7 +83,7 @@ impl Channels {
 }
 
 /// The IDCODEs of a source and its PMUs: the source's, and from it upward one for each PMU.
-#[derive(Clone, Copy, Debug, PartialEq, Eq)]
+#[derive(Clone, Copy)]
 pub struct Numbers {
     /// The source's, and its first PMU's.
     pub first: u16,
@@ -107,7 +107,7 @@ impl Numbers {
 }
 
 /// What is simulated.
-#[derive(Clone, Copy, Debug, PartialEq, Eq)]
+#[derive(Clone, Copy)]
 pub struct Settings {
     /// The IDCODEs.
     pub numbers: Numbers,
@@ -126,7 +126,7 @@ pub struct Settings {
 
 /// The values of the options of `simulate`, as they were typed.
 #[derive(Clone, Copy)]
-pub struct SimulateWords<'a> {
+pub struct SimulateArgs<'a> {
     /// `--listen`
     pub listen: &'a str,
     /// `--source`
@@ -197,7 +197,7 @@ pub fn address(word: &str, option: &'static str) -> Result<SocketAddr, BadOption
 /// # Errors
 ///
 /// The first option that can't be taken, with what it takes.
-pub fn read_settings(words: &SimulateWords<'_>) -> Result<(SocketAddr, Settings), BadOption> {
+pub fn read_settings(words: &SimulateArgs<'_>) -> Result<(SocketAddr, Settings), BadOption> {
     let listen = address(words.listen, "--listen")?;
     let settings = Settings {
         numbers: read_numbers(words.source, words.pmus)?,
@@ -244,7 +244,7 @@ fn read_rate(word: &str) -> Result<Rate, BadOption> {
     }
 }
 
-fn read_channels(words: &SimulateWords<'_>) -> Result<Channels, BadOption> {
+fn read_channels(words: &SimulateArgs<'_>) -> Result<Channels, BadOption> {
     let takes = "a number of 0 to 32";
     let phasors = small(
         words.phasors,

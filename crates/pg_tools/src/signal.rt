@@ -1,11 +1,11 @@
 //! The signals of a plausible grid, as functions of the time alone.
 
-use crate::moment::Moment;
+use crate::unix_time::UnixTime;
 use crate::wave::{UNIT, cosine, decay, sine};
 
-/// A slow wander of the angle.
+/// A slow drift of the angle.
 #[derive(Clone, Copy)]
-struct Wander {
+struct Drift {
     /// Its period, in seconds.
     seconds: u32,
     /// How far it turns the angle, of which 2^32 are a turn.
@@ -16,21 +16,21 @@ struct Wander {
     change: i64,
 }
 
-/// The wanders of a grid: together at most 12 mHz.
-const WANDERS: [Wander; 3] = [
-    Wander {
+/// The drifts of a grid: together at most 12 mHz.
+const DRIFTS: [Drift; 3] = [
+    Drift {
         seconds: 600,
         turn: 2_050_695_827,
         deviation: 5_000,
         change: 52,
     },
-    Wander {
+    Drift {
         seconds: 97,
         turn: 265_223_327,
         deviation: 4_000,
         change: 259,
     },
-    Wander {
+    Drift {
         seconds: 23,
         turn: 47_166_004,
         deviation: 3_000,
@@ -60,24 +60,24 @@ pub fn part(amount: i64, share: i64, whole: i64) -> i64 {
 }
 
 /// The angle of something that turns once in so many seconds: 2^32 are a turn.
-pub fn turning(at: Moment, seconds: u32) -> u32 {
+pub fn turning(at: UnixTime, seconds: u32) -> u32 {
     let period = u64::from(seconds.max(1)) * 1_000_000;
     // The fraction of a period, in 2^32ths: of a period of at most an hour it fits.
     let past = at.micros % period;
     (past.saturating_mul(0x1_0000_0000) / period % 0x1_0000_0000) as u32
 }
 
-/// The grid at an instant: slow wanders of the frequency within 12 mHz, and a swing of 0.3 Hz that begins with each minute at
+/// The grid at an instant: slow drifts of the frequency within 12 mHz, and a swing of 0.3 Hz that begins with each minute at
 /// 8 mHz and dies away. `is_against` is of a PMU at the other end of the grid, which swings the other way.
-pub fn grid_at(at: Moment, is_against: bool) -> Grid {
+pub fn grid_at(at: UnixTime, is_against: bool) -> Grid {
     let mut turn = 0i64;
     let mut deviation = 0i64;
     let mut change = 0i64;
-    for wander in WANDERS {
-        let angle = turning(at, wander.seconds);
-        turn = turn.saturating_add(part(wander.turn, sine(angle), UNIT));
-        deviation = deviation.saturating_add(part(wander.deviation, cosine(angle), UNIT));
-        change = change.saturating_sub(part(wander.change, sine(angle), UNIT));
+    for drift in DRIFTS {
+        let angle = turning(at, drift.seconds);
+        turn = turn.saturating_add(part(drift.turn, sine(angle), UNIT));
+        deviation = deviation.saturating_add(part(drift.deviation, cosine(angle), UNIT));
+        change = change.saturating_sub(part(drift.change, sine(angle), UNIT));
     }
     let swing = swing_at(at, is_against);
     Grid {
@@ -98,7 +98,7 @@ struct Swing {
 }
 
 /// The swing of the minute: 18 periods of 0.3 Hz, which die away with a time constant of 8 seconds.
-fn swing_at(at: Moment, is_against: bool) -> Swing {
+fn swing_at(at: UnixTime, is_against: bool) -> Swing {
     let within = at.micros % 60_000_000;
     let left = decay((within / 1_000_000) as u32, (within % 1_000_000) as u32);
     let angle = (within * 3 % 10_000_000 * 0x1_0000_0000 / 10_000_000 % 0x1_0000_0000) as u32;

@@ -2,7 +2,7 @@
 
 use crate::fault::Fault;
 use crate::settings::Settings;
-use crate::simulator::{Happening, Simulator};
+use crate::simulator::{Simulator, SimulatorEvent};
 use crate::source::CommandEvent;
 use pg_command::Word;
 use std::alloc::Global;
@@ -14,7 +14,7 @@ use std::{fmt, io};
 /// The longest wait for something to happen, in milliseconds.
 const LONGEST: u64 = 1_000;
 
-/// Plays a source at this address, and tells what happens, a line for each thing. It goes on until the program is ended.
+/// Plays a source at this address, and prints each event as a line. It goes on until the program is ended.
 ///
 /// # Errors
 ///
@@ -29,48 +29,54 @@ pub fn simulate<R: Net + Clock + Print + Alloc<A = Global>>(
         Ok(simulator) => simulator,
         Err(error) => return Err(Fault::Bind(address, error)),
     };
-    begin(rt, &simulator)?;
+    report_start(rt, &simulator)?;
     let longest = Duration::from_millis(LONGEST);
-    let mut happened = Vec::new(alloc);
+    let mut events = Vec::new(alloc);
     for _ in 0..u64::MAX {
-        happened.clear();
-        simulator.turn(rt, longest, &mut happened)?;
-        for what in happened.iter() {
-            tell(rt, what, &simulator)?;
+        events.clear();
+        simulator.turn(rt, longest, &mut events)?;
+        for what in events.iter() {
+            report_event(rt, what, &simulator)?;
         }
     }
     Ok(())
 }
 
-/// Tells where a source listens, and what it is.
-fn begin<R: Print>(rt: &R, simulator: &Simulator) -> Result<(), Fault> {
+/// Prints where a source listens, and what it is.
+fn report_start<R: Print>(rt: &R, simulator: &Simulator) -> Result<(), Fault> {
     let address = simulator.address()?;
     let settings = simulator.source().settings();
     let first = settings.numbers.first;
     let pmus = settings.numbers.pmus;
     let rate = settings.rate.frames;
     let s = if pmus == 1 { "" } else { "s" };
-    written(println!(rt;
+    output_result(println!(rt;
         "source {first} listens at {address}: {pmus} PMU{s} from {first} on, {rate} frames a second"
     ))
 }
 
-/// Tells what happened.
-fn tell<R: Print>(rt: &R, what: &Happening, simulator: &Simulator) -> Result<(), Fault> {
+/// Prints an event.
+fn report_event<R: Print>(
+    rt: &R,
+    what: &SimulatorEvent,
+    simulator: &Simulator,
+) -> Result<(), Fault> {
     let sent = simulator.source().counts().sent;
-    written(match what {
-        Happening::Connected(peer) => println!(rt; "{peer} has connected"),
-        Happening::Closed => println!(rt; "the connection is closed; {sent} data frames so far"),
-        Happening::CommandEvent(heard) => println!(rt; "{}", Telling(*heard)),
-        Happening::Stalled => println!(rt; "the peer does not read: frames are left out"),
+    output_result(match what {
+        SimulatorEvent::Connected(peer) => println!(rt; "{peer} has connected"),
+        SimulatorEvent::Closed => println!(rt;
+            "the connection is closed; {sent} data frames so far"
+        ),
+        SimulatorEvent::Command(event) => println!(rt; "{}", EventText(*event)),
+        SimulatorEvent::Stalled => println!(rt; "the peer does not read: frames are left out"),
     })
 }
 
-/// What was heard, for people.
+/// An event as text.
 #[derive(Clone, Copy)]
-struct Telling(CommandEvent);
+struct EventText(CommandEvent);
 
-impl fmt::Display for Telling {
+impl fmt::Display for EventText {
     fn fmt<W: fmt::Write>(&self, f: &mut fmt::Formatter<W>) -> fmt::Result {
         match &self.0 {
             CommandEvent::Obeyed(word) => {
@@ -78,7 +84,7 @@ impl fmt::Display for Telling {
                 let does = meaning(*word);
                 write!(f, "command {number}: {does}")
             }
-            CommandEvent::Kept(word) => {
+            CommandEvent::NotAnswered(word) => {
                 let number = word.number();
                 write!(f, "command {number} is not answered")
             }
@@ -109,7 +115,7 @@ fn meaning(word: Word) -> &'static str {
 }
 
 /// Standard output was written, or can't be.
-pub fn written(done: io::Result<()>) -> Result<(), Fault> {
+pub fn output_result(done: io::Result<()>) -> Result<(), Fault> {
     match done {
         Ok(()) => Ok(()),
         Err(_) => Err(Fault::Output),

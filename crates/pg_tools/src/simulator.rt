@@ -1,8 +1,8 @@
 //! The sockets and the clock of a simulated source.
 
-use crate::moment::Moment;
 use crate::settings::Settings;
 use crate::source::{CommandEvent, Source};
+use crate::unix_time::UnixTime;
 use mio::net::{TcpListener, TcpStream};
 use mio::{Events, Interest, Poll, Token};
 use pg_wire::Refusal;
@@ -13,7 +13,7 @@ use std::net::{Net, SocketAddr};
 use std::rt::Clock;
 use std::time::Duration;
 
-/// How many sockets one wait tells of.
+/// How many sockets one wait reports.
 const EVENTS: usize = 16;
 
 /// The one token: each turn serves the listener and the connection, whichever is ready.
@@ -28,15 +28,15 @@ const READS: u32 = 64;
 /// The most bytes that wait for a slow peer. Behind them no command is read, and data frames that come due are left out.
 const WAITING: usize = 1_048_576;
 
-/// What happened at a simulated source, to be told.
+/// What happened at a simulated source.
 #[derive(Clone, Copy)]
-pub enum Happening {
+pub enum SimulatorEvent {
     /// A peer has connected.
     Connected(SocketAddr),
     /// The peer has closed the connection, or it failed.
     Closed,
-    /// This was heard from the peer.
-    CommandEvent(CommandEvent),
+    /// Bytes of the peer were read.
+    Command(CommandEvent),
     /// Frames are left out from here on, since the peer does not read.
     Stalled,
 }
@@ -46,7 +46,7 @@ pub enum Happening {
 struct Connection {
     stream: TcpStream,
     out: Vec<u8>,
-    begun: usize,
+    written: usize,
     /// Whether frames are left out, since too much waits.
     is_stalled: bool,
 }
@@ -56,7 +56,7 @@ struct Connection {
 pub struct Simulator {
     alloc: Global,
     poll: Poll,
-    events: Events<Global>,
+    ready: Events<Global>,
     listener: TcpListener,
     source: Source,
     connection: Option<Connection>,
@@ -87,7 +87,7 @@ impl Simulator {
         Ok(Simulator {
             alloc,
             poll,
-            events: Events::with_capacity(alloc, EVENTS)?,
+            ready: Events::with_capacity(alloc, EVENTS)?,
             listener,
             source,
             connection: None,
@@ -99,7 +99,7 @@ impl Simulator {
     ///
     /// # Errors
     ///
-    /// That of the system, where it doesn't tell.
+    /// That of the system, where it can't report it.
     pub fn address(&self) -> io::Result<SocketAddr> {
         self.listener.local_addr()
     }
@@ -110,46 +110,46 @@ impl Simulator {
     }
 
     /// Waits until something is to be done, so long at most, and does it: takes a connection where there is none, obeys its
-    /// commands, sends the frames that are due. What happened is added to `happened`.
+    /// commands, sends the frames that are due. What happened is added to `events`.
     ///
     /// # Errors
     ///
-    /// That of the system, where it can't wait for sockets or tells no time, and `OutOfMemory`.
+    /// That of the system, where it can't wait for sockets or has no clock, and `OutOfMemory`.
     pub fn turn<R: Clock>(
         &mut self,
         rt: &R,
         longest: Duration,
-        happened: &mut Vec<Happening>,
+        events: &mut Vec<SimulatorEvent>,
     ) -> io::Result<()> {
-        let wait = match self.source.until_due(now(rt)?) {
+        let wait = match self.source.until_due(UnixTime::now(rt)?) {
             _ if self.has_more => Duration::ZERO,
             // A millisecond is the least wait, and a frame is not sent before its slot.
             Some(micros) => Duration::from_micros(micros).min(longest),
             None => longest,
         };
-        self.poll.poll(&mut self.events, Some(wait))?;
-        self.attend(now(rt)?, happened)?;
-        self.play(now(rt)?, happened)?;
-        self.send(&[], happened)
+        self.poll.poll(&mut self.ready, Some(wait))?;
+        self.serve_peer(UnixTime::now(rt)?, events)?;
+        self.queue_due(UnixTime::now(rt)?, events)?;
+        self.send(&[], events)
     }
 
     /// Takes a connection where there is none, and obeys the commands that have come. It waits for nothing. What happened is
-    /// added to `happened`.
+    /// added to `events`.
     ///
     /// # Errors
     ///
     /// `OutOfMemory`, and that of the system, where a connection can't be waited for.
-    pub fn attend(&mut self, at: Moment, happened: &mut Vec<Happening>) -> io::Result<()> {
+    pub fn serve_peer(&mut self, at: UnixTime, events: &mut Vec<SimulatorEvent>) -> io::Result<()> {
         self.has_more = false;
-        self.accept(happened)?;
+        self.accept(events)?;
         let Some(mut connection) = self.connection.take() else {
             return Ok(());
         };
-        if self.read(at, &mut connection, happened)? {
+        if self.read(at, &mut connection, events)? {
             self.connection = Some(connection);
             return Ok(());
         }
-        self.close(happened)
+        self.close(events)
     }
 
     /// Adds the data frames that are due at an instant to `frames`; they are passed to `send`.
@@ -157,22 +157,22 @@ impl Simulator {
     /// # Errors
     ///
     /// `OutOfMemory`.
-    pub fn due(&mut self, at: Moment, frames: &mut Vec<u8>) -> io::Result<()> {
-        told(self.source.due(at, frames))
+    pub fn due(&mut self, at: UnixTime, frames: &mut Vec<u8>) -> io::Result<()> {
+        io_result(self.source.due(at, frames))
     }
 
-    /// Passes the data frames that are due at an instant over.
-    pub fn pass(&mut self, at: Moment) {
-        self.source.pass(at);
+    /// Skips the data frames that are due at an instant.
+    pub fn skip_due(&mut self, at: UnixTime) {
+        self.source.skip_due(at);
     }
 
     /// Sends these bytes behind those that wait, as far as the peer takes them; the rest waits. Where nobody is connected they
-    /// are dropped. What happened is added to `happened`.
+    /// are dropped. What happened is added to `events`.
     ///
     /// # Errors
     ///
     /// `OutOfMemory`.
-    pub fn send(&mut self, bytes: &[u8], happened: &mut Vec<Happening>) -> io::Result<()> {
+    pub fn send(&mut self, bytes: &[u8], events: &mut Vec<SimulatorEvent>) -> io::Result<()> {
         let Some(mut connection) = self.connection.take() else {
             return Ok(());
         };
@@ -181,37 +181,37 @@ impl Simulator {
             self.connection = Some(connection);
             return Ok(());
         }
-        self.close(happened)
+        self.close(events)
     }
 
     /// The connection has ended, and others may wait.
-    fn close(&mut self, happened: &mut Vec<Happening>) -> io::Result<()> {
+    fn close(&mut self, events: &mut Vec<SimulatorEvent>) -> io::Result<()> {
         self.has_more = true;
         self.source.reset();
-        happened.push(Happening::Closed)?;
+        events.push(SimulatorEvent::Closed)?;
         Ok(())
     }
 
-    /// Adds the data frames that are due to what waits for the peer. Where too much waits they are left out, which is told once
+    /// Adds the data frames that are due to what waits for the peer. Where too much waits they are left out, which is reported once
     /// until the peer reads again.
-    fn play(&mut self, at: Moment, happened: &mut Vec<Happening>) -> io::Result<()> {
+    fn queue_due(&mut self, at: UnixTime, events: &mut Vec<SimulatorEvent>) -> io::Result<()> {
         let Some(connection) = &mut self.connection else {
             return Ok(());
         };
         if connection.out.len() <= WAITING {
             connection.is_stalled = false;
-            return told(self.source.due(at, &mut connection.out));
+            return io_result(self.source.due(at, &mut connection.out));
         }
-        self.source.pass(at);
+        self.source.skip_due(at);
         if !connection.is_stalled {
             connection.is_stalled = true;
-            happened.push(Happening::Stalled)?;
+            events.push(SimulatorEvent::Stalled)?;
         }
         Ok(())
     }
 
     /// Takes a connection where there is none. Others wait until that one is closed.
-    fn accept(&mut self, happened: &mut Vec<Happening>) -> io::Result<()> {
+    fn accept(&mut self, events: &mut Vec<SimulatorEvent>) -> io::Result<()> {
         if self.connection.is_some() {
             return Ok(());
         }
@@ -225,20 +225,20 @@ impl Simulator {
         self.connection = Some(Connection {
             stream,
             out: Vec::new(self.alloc),
-            begun: 0,
+            written: 0,
             is_stalled: false,
         });
-        happened.push(Happening::Connected(peer))?;
+        events.push(SimulatorEvent::Connected(peer))?;
         Ok(())
     }
 
-    /// Reads the peer's bytes and obeys them, and tells whether the connection stays open. Who does not take its answers is not
+    /// Reads the peer's bytes and obeys them, and answers whether the connection stays open. A peer that does not take its answers is not
     /// read any further.
     fn read(
         &mut self,
-        at: Moment,
+        at: UnixTime,
         connection: &mut Connection,
-        happened: &mut Vec<Happening>,
+        events: &mut Vec<SimulatorEvent>,
     ) -> io::Result<bool> {
         for _ in 0..READS {
             // (once the peer reads, a wait reports that)
@@ -249,7 +249,7 @@ impl Simulator {
             match (&connection.stream).read(&mut piece) {
                 Ok(0) => return Ok(false),
                 Ok(read) => {
-                    if !self.hear(at, &piece[..read], &mut connection.out, happened)? {
+                    if !self.read_commands(at, &piece[..read], &mut connection.out, events)? {
                         return Ok(false);
                     }
                 }
@@ -262,46 +262,46 @@ impl Simulator {
         Ok(true)
     }
 
-    /// Obeys what stands in these bytes, and tells whether the connection stays open.
-    fn hear(
+    /// Obeys the commands in these bytes, and answers whether the connection stays open.
+    fn read_commands(
         &mut self,
-        now: Moment,
+        now: UnixTime,
         bytes: &[u8],
         out: &mut Vec<u8>,
-        happened: &mut Vec<Happening>,
+        events: &mut Vec<SimulatorEvent>,
     ) -> io::Result<bool> {
         let mut at = 0;
         for _ in 0..=bytes.len() {
             if at < bytes.len() {
                 at += self.source.feed(&bytes[at..]);
             }
-            let heard = told(self.source.next(now, out))?;
-            match heard {
+            let event = io_result(self.source.next(now, out))?;
+            match event {
                 CommandEvent::More if at >= bytes.len() => return Ok(true),
                 CommandEvent::More => {}
                 CommandEvent::Broken(_) => {
-                    happened.push(Happening::CommandEvent(heard))?;
+                    events.push(SimulatorEvent::Command(event))?;
                     return Ok(false);
                 }
-                _ => happened.push(Happening::CommandEvent(heard))?,
+                _ => events.push(SimulatorEvent::Command(event))?,
             }
         }
         Ok(true)
     }
 }
 
-/// Sends what waits, as far as the peer takes it, and tells whether the connection stays open.
+/// Sends what waits, as far as the peer takes it, and answers whether the connection stays open.
 fn write_waiting(connection: &mut Connection) -> bool {
     for _ in 0..READS {
-        let rest = connection.out.get(connection.begun..).unwrap_or(&[]);
+        let rest = connection.out.get(connection.written..).unwrap_or(&[]);
         if rest.is_empty() {
             connection.out.clear();
-            connection.begun = 0;
+            connection.written = 0;
             return true;
         }
         match (&connection.stream).write(rest) {
             Ok(0) => return false,
-            Ok(sent) => connection.begun = connection.begun.saturating_add(sent),
+            Ok(sent) => connection.written = connection.written.saturating_add(sent),
             Err(error) if error.kind() == ErrorKind::WouldBlock => return true,
             Err(error) if error.kind() == ErrorKind::Interrupted => {}
             Err(_) => return false,
@@ -310,16 +310,8 @@ fn write_waiting(connection: &mut Connection) -> bool {
     true
 }
 
-/// The time.
-fn now<R: Clock>(rt: &R) -> io::Result<Moment> {
-    match Moment::now(rt) {
-        Some(now) => Ok(now),
-        None => Err(io::Error::from(ErrorKind::Unsupported)),
-    }
-}
-
 /// The answer of a source, of which only memory can be short.
-fn told<T: Drop>(answer: Result<T, Refusal>) -> io::Result<T> {
+fn io_result<T: Drop>(answer: Result<T, Refusal>) -> io::Result<T> {
     match answer {
         Ok(value) => Ok(value),
         Err(_) => Err(io::Error::from(ErrorKind::OutOfMemory)),

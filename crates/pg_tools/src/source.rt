@@ -5,8 +5,8 @@ ghost use Rattle.pg_tools.specs.Playing.{sending_after, least_slot, IsAfter};
 
 use crate::layout::blocks_of;
 use crate::measuring::add_measured;
-use crate::moment::{MICROS, Moment, Rate};
 use crate::settings::Settings;
+use crate::unix_time::{Rate, TIME_BASE, UnixTime};
 use pg_command::{Word, read_command};
 use pg_config::{end_config, start_config, write_header};
 use pg_stream::stamp_of;
@@ -16,8 +16,8 @@ use std::alloc::Global;
 /// How many bytes a frame has beside its body.
 const AROUND_BODY: usize = 16;
 
-/// The seconds with data frames between two silences.
-const HEARD: u64 = 10;
+/// The seconds with data frames between two silences of the fault `silence`.
+const SENDING_SECONDS: u64 = 10;
 
 /// What a source has done.
 #[derive(Clone, Copy)]
@@ -46,12 +46,12 @@ impl SourceCounts {
 }
 
 /// What comes next of the bytes that a source was fed.
-#[derive(Clone, Copy, Debug, PartialEq, Eq)]
+#[derive(Clone, Copy)]
 pub enum CommandEvent {
     /// This command was obeyed.
     Obeyed(Word),
     /// This command is known, and not obeyed: the fault `no-config` keeps the answer back, or it is none of 1 to 5.
-    Kept(Word),
+    NotAnswered(Word),
     /// A frame was ignored: `BadCheck` or `BadVersion`; `WrongType` or `BadLength`, it is no command; `NoSuchStream`, it is for
     /// another IDCODE; `UnknownCommand`.
     Ignored(Refusal),
@@ -133,9 +133,9 @@ impl Source {
     /// # Errors
     ///
     /// `NoMemory`, where the answer finds none.
-    pub fn next(&mut self, now: Moment, out: &mut Vec<u8>) -> Result<CommandEvent, Refusal>
+    pub fn next(&mut self, now: UnixTime, out: &mut Vec<u8>) -> Result<CommandEvent, Refusal>
         // Just the commands 1 and 2 for its IDCODE switch data.
-        ensures { IfOk result (λ heard. IsAfter heard self.old.sending self.new.sending) }
+        ensures { IfOk result (λ event. IsAfter event self.old.sending self.new.sending) }
     {
         let read = match self.deframer.next() {
             Taken::Frame(frame) => read_command(frame),
@@ -160,8 +160,13 @@ impl Source {
     }
 
     /// Obeys a command.
-    fn obey(&mut self, word: Word, now: Moment, out: &mut Vec<u8>) -> Result<CommandEvent, Refusal>
-        ensures { IfOk result (λ heard. IsAfter heard self.old.sending self.new.sending) }
+    fn obey(
+        &mut self,
+        word: Word,
+        now: UnixTime,
+        out: &mut Vec<u8>,
+    ) -> Result<CommandEvent, Refusal>
+        ensures { IfOk result (λ event. IsAfter event self.old.sending self.new.sending) }
     {
         let at = self.clock(now);
         let answered = match word {
@@ -177,19 +182,19 @@ impl Source {
         self.sending = after_command(self.sending, word, at.slot(self.settings.rate));
         if !answered {
             self.counts.ignored = self.counts.ignored.saturating_add(1);
-            return Ok(CommandEvent::Kept(word));
+            return Ok(CommandEvent::NotAnswered(word));
         }
         self.counts.obeyed = self.counts.obeyed.saturating_add(1);
         Ok(CommandEvent::Obeyed(word))
     }
 
     /// Its own time, at this instant: the fault `clock` puts it off.
-    fn clock(&self, now: Moment) -> Moment {
+    fn clock(&self, now: UnixTime) -> UnixTime {
         now.shifted(self.settings.faults.clock)
     }
 
-    /// Adds CFG-1 or CFG-2, and tells whether it does: the fault `no-config` keeps it back.
-    fn add_config(&self, kind: Kind, at: Moment, out: &mut Vec<u8>) -> Result<bool, Refusal>
+    /// Adds CFG-1 or CFG-2, and answers whether it does: the fault `no-config` keeps it back.
+    fn add_config(&self, kind: Kind, at: UnixTime, out: &mut Vec<u8>) -> Result<bool, Refusal>
         requires { (kind ≡ Kind.CfgOne) ⊎ (kind ≡ Kind.CfgTwo) }
     {
         if self.settings.faults.no_config {
@@ -206,7 +211,7 @@ impl Source {
     /// # Errors
     ///
     /// `NoMemory`. The frames before it stand in `out`, and are due no more.
-    pub fn due(&mut self, now: Moment, out: &mut Vec<u8>) -> Result<(), Refusal>
+    pub fn due(&mut self, now: UnixTime, out: &mut Vec<u8>) -> Result<(), Refusal>
         ensures { self.old.sending ≡ None → self.new.sending ≡ None }
     {
         let Some(last) = self.sending else {
@@ -225,14 +230,14 @@ impl Source {
     }
 
     /// The last slot that is due at an instant: the fault `late` puts it off.
-    fn last_due(&self, now: Moment) -> u64 {
+    fn last_due(&self, now: UnixTime) -> u64 {
         self.clock(now)
             .earlier(self.settings.faults.late)
             .slot(self.settings.rate)
     }
 
-    /// Passes the data frames that are due at an instant over: the peer does not take them.
-    pub fn pass(&mut self, now: Moment)
+    /// Skips the data frames that are due at an instant: the peer does not take them.
+    pub fn skip_due(&mut self, now: UnixTime)
         ensures { self.old.sending ≡ None → self.new.sending ≡ None }
     {
         let Some(last) = self.sending else {
@@ -268,7 +273,7 @@ impl Source {
 
     /// How many microseconds there are until the next data frame is due, none while data is off: at most a second and the delay
     /// of the fault `late`.
-    pub fn until_due(&self, now: Moment) -> Option<u64> {
+    pub fn until_due(&self, now: UnixTime) -> Option<u64> {
         let last = self.sending?;
         let rate = u64::from(self.settings.rate.frames);
         let next = last.saturating_add(1);
@@ -307,7 +312,7 @@ fn first_due(last: u64, end: u64, rate: Rate) -> u64
 
 /// Whether no frames are sent in this second: after every ten seconds with frames, so many are silent.
 fn is_silent(second: u64, silence: u32) -> bool {
-    second % (HEARD + u64::from(silence)) >= HEARD
+    second % (SENDING_SECONDS + u64::from(silence)) >= SENDING_SECONDS
 }
 
 /// Whether something that happens to so many of a hundred slots happens to this one: always the same ones.
@@ -328,7 +333,7 @@ fn stream_of(settings: &Settings) -> Result<StreamId, Refusal> {
 fn add_header(
     alloc: Global,
     settings: &Settings,
-    at: Moment,
+    at: UnixTime,
     out: &mut Vec<u8>,
 ) -> Result<(), Refusal> {
     let pmus = settings.numbers.pmus;
@@ -350,7 +355,7 @@ fn config_frame(
     settings: &Settings,
     blocks: &[u8],
     kind: Kind,
-    at: Moment,
+    at: UnixTime,
 ) -> Result<Vec<u8>, Refusal>
     requires { (kind ≡ Kind.CfgOne) ⊎ (kind ≡ Kind.CfgTwo) }
 {
@@ -360,7 +365,7 @@ fn config_frame(
     };
     let pmus = u16::from(settings.numbers.pmus);
     let id = stream_of(settings)?;
-    let mut frame = start_config(alloc, kind, id, at.soc(), MICROS, pmus, len)?;
+    let mut frame = start_config(alloc, kind, id, at.soc(), TIME_BASE, pmus, len)?;
     frame.extend_from_slice(blocks)?;
     frame.reserve(4)?;
     end_config(&mut frame, settings.rate.frames);
@@ -371,7 +376,7 @@ fn config_frame(
 fn data_frame(alloc: Global, settings: &Settings, slot: u64) -> Result<Vec<u8>, Refusal>
     requires { slot / settings.now.rate.frames < 2 ^ 32 }
 {
-    let (soc, frac) = stamp_of(settings.rate.frames, MICROS, slot);
+    let (soc, frac) = stamp_of(settings.rate.frames, TIME_BASE, slot);
     let blocks = u16::from(settings.numbers.pmus) * settings.channels.block_len();
     let head = Head {
         kind: Kind::Measured,
@@ -384,7 +389,7 @@ fn data_frame(alloc: Global, settings: &Settings, slot: u64) -> Result<Vec<u8>, 
     };
     let mut frame = start_frame(alloc, &head)?;
     for pmu in 0..settings.numbers.pmus {
-        add_measured(&mut frame, settings, Moment::new(soc, frac), pmu)?;
+        add_measured(&mut frame, settings, UnixTime::new(soc, frac), pmu)?;
     }
     frame.reserve(2)?;
     end_frame(&mut frame);

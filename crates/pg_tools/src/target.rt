@@ -8,7 +8,7 @@ use std::net::{SocketAddr, SocketAddrV4};
 const LONGEST: usize = 253;
 
 /// Where a connection is made to.
-#[derive(Clone, Copy, Debug, PartialEq, Eq)]
+#[derive(Clone, Copy)]
 pub enum Target<'a> {
     /// An address.
     Address(SocketAddr),

@@ -1,13 +1,13 @@
 //! `pdcgw watch`: a subscriber that shows what comes.
 
 use crate::fault::Fault;
-use crate::lines::{Instant, NO_PMU, write_heading, write_second, write_values};
-use crate::moment::Moment;
-use crate::screen::{Before, History, View, draw};
+use crate::lines::{FrameTime, NO_PMU, write_heading, write_second, write_values};
+use crate::screen::{History, LastScreen, View, draw};
 use crate::settings::{BadOption, number};
-use crate::simulate_source::written;
+use crate::simulate_source::output_result;
 use crate::target::{Target, read_target};
-use crate::watcher::{Seen, Trouble, Watcher};
+use crate::unix_time::UnixTime;
+use crate::watcher::{Violation, WatchEvent, Watcher};
 use mio::net::TcpStream;
 use mio::{Events, Interest, Poll, Token};
 use pg_config::SourceConfig;
@@ -33,8 +33,8 @@ const CONNECTING: u32 = 50;
 /// How many turns an end of the stream is waited for.
 const ENDING: u32 = 5;
 
-/// How long a configuration may take, in seconds, before its want is told.
-const PATIENCE: u64 = 5;
+/// How long a configuration may take, in seconds, before its absence is reported.
+const CONFIG_TIMEOUT: u64 = 5;
 
 /// How many bytes one read takes at most.
 const PIECE: usize = 16_384;
@@ -42,7 +42,7 @@ const PIECE: usize = 16_384;
 /// The reads of a turn at most.
 const READS: u32 = 256;
 
-/// The longest delay that is told, in milliseconds.
+/// The longest delay that is shown, in milliseconds.
 const MOST_DELAY: u64 = 4_000_000_000;
 
 /// A second, in microseconds.
@@ -52,7 +52,7 @@ const SECOND: u64 = 1_000_000;
 const LINES: u32 = 50;
 
 /// How what comes is shown.
-#[derive(Clone, Copy, Debug, PartialEq, Eq)]
+#[derive(Clone, Copy, PartialEq, Eq)]
 pub enum Style {
     /// A screen, which is drawn again and again.
     Screen,
@@ -64,7 +64,7 @@ pub enum Style {
     Quiet,
 }
 
-/// Who looks on while a stream is watched.
+/// What observes a stream while it is watched.
 pub trait Observer {
     /// A data frame was taken.
     fn frame(&mut self, frame: &DataFrame);
@@ -79,11 +79,11 @@ pub trait Observer {
     fn take_typed(&mut self) -> Option<usize>;
 }
 
-/// Nobody looks on.
+/// An observer that does nothing.
 #[derive(Clone, Copy)]
-struct Nobody;
+struct NoObserver;
 
-impl Observer for Nobody {
+impl Observer for NoObserver {
     fn frame(&mut self, frame: &DataFrame) {}
 
     fn turn(&mut self, watcher: &Watcher) -> bool {
@@ -118,7 +118,7 @@ pub struct WatchOptions<'a> {
 
 /// The values of the words of `watch`, as they were typed.
 #[derive(Clone, Copy)]
-pub struct WatchWords<'a> {
+pub struct WatchArgs<'a> {
     /// The address.
     pub address: &'a str,
     /// `--stream`
@@ -142,7 +142,7 @@ pub struct WatchWords<'a> {
 /// # Errors
 ///
 /// The first option that can't be taken, with what it takes.
-pub fn read_watched<'a>(words: &WatchWords<'a>) -> Result<WatchOptions<'a>, BadOption> {
+pub fn read_watch_options<'a>(words: &WatchArgs<'a>) -> Result<WatchOptions<'a>, BadOption> {
     let address = read_target(words.address, "ADDRESS")?;
     let wrong = BadOption {
         option: "--stream",
@@ -187,7 +187,7 @@ fn limit(word: Option<&str>, option: &'static str) -> Result<Option<u32>, BadOpt
 
 /// What `watch` shows, apart from the socket.
 #[derive(Drop)]
-struct Show {
+struct WatchState {
     alloc: Global,
     watcher: Watcher,
     latest: Option<Arc<DataFrame>>,
@@ -195,7 +195,7 @@ struct Show {
     frames_before: u64,
     measured: u64,
     delay: Option<i64>,
-    trouble: Option<Trouble>,
+    trouble: Option<Violation>,
     /// Of this second, how many troubles of frames have a line of their own, and how many have none.
     printed: u32,
     more: u64,
@@ -203,8 +203,8 @@ struct Show {
     /// The tenth of a second, counted from 1970, in which the screen was drawn last.
     drawn: u64,
     /// The configuration by whose channels values are shown.
-    begun: Option<Arc<SourceConfig>>,
-    /// Whether the last configuration had no PMU, which was told.
+    shown_config: Option<Arc<SourceConfig>>,
+    /// Whether the last configuration had no PMU, which was printed.
     is_waiting: bool,
     is_over: bool,
 }
@@ -215,82 +215,85 @@ struct Show {
 /// # Errors
 ///
 /// `Name`, where the name has no address; `Reach`, where no connection can be had; `File`, where the file for the bytes can't be written; `Output`; `System`.
-pub fn watch<R>(rt: &R, watched: &WatchOptions<'_>) -> Result<bool, Fault>
+pub fn watch<R>(rt: &R, options: &WatchOptions<'_>) -> Result<bool, Fault>
 where
     R: Net + Clock + Files + Print + Eprint + Alloc<A = Global>,
 {
-    let mut raw = match watched.raw {
+    let mut raw = match options.raw {
         None => None,
         Some(path) => match fs::create(rt, path) {
             Ok(file) => Some(file),
             Err(error) => return Err(Fault::File(error)),
         },
     };
-    watch_before(rt, rt.alloc(), watched, &mut raw, &mut Nobody)
+    watch_with(rt, rt.alloc(), options, &mut raw, &mut NoObserver)
 }
 
-/// As `watch`, before an audience, which ends it too. The bytes that come are kept by `raw`; no file is opened.
+/// As `watch`, with an observer, which ends it too. The bytes that come are kept by `raw`; no file is opened.
 ///
 /// # Errors
 ///
 /// As `watch`; `File`, where `raw` can't be written.
-pub fn watch_before<R, W: Write, A: Observer>(
+pub fn watch_with<R, W: Write, A: Observer>(
     rt: &R,
     alloc: Global,
-    watched: &WatchOptions<'_>,
+    options: &WatchOptions<'_>,
     raw: &mut Option<W>,
-    audience: &mut A,
+    observer: &mut A,
 ) -> Result<bool, Fault>
 where
     R: Net + Clock + Print + Eprint,
 {
     let mut poll = Poll::new(rt)?;
-    let mut events = Events::with_capacity(alloc, 4).map_err(io::Error::from)?;
-    let stream = reach(rt, alloc, watched.address, &mut poll, &mut events)?;
-    let mut show = Show::new(alloc, watched.stream)?;
-    let start = now(rt)?;
+    let mut events = Events::with_capacity(alloc, 4)?;
+    let stream = connect_target(rt, alloc, options.address, &mut poll, &mut events)?;
+    let mut state = WatchState::new(alloc, options.stream)?;
+    let start = UnixTime::now(rt)?;
     let mut second = start;
-    // Whether the audience would go on.
+    // Whether the observer would go on.
     let mut goes_on = true;
     for _ in 0..u64::MAX {
-        send_owed(rt, &stream, &mut show)?;
+        send_commands(rt, &stream, &mut state)?;
         poll.poll(&mut events, Some(Duration::from_millis(TURN)))?;
-        read_all(rt, &stream, &mut show, watched, raw, audience)?;
-        let at = now(rt)?;
+        read_all(rt, &stream, &mut state, options, raw, observer)?;
+        let at = UnixTime::now(rt)?;
         if at.micros.saturating_sub(second.micros) >= SECOND {
-            second = Moment {
+            second = UnixTime {
                 micros: second.micros.saturating_add(SECOND),
             };
-            show.end_second(rt, watched, at.micros.saturating_sub(start.micros))?;
+            state.end_second(rt, options, at.micros.saturating_sub(start.micros))?;
         }
-        goes_on = audience.turn(&show.watcher);
+        goes_on = observer.turn(&state.watcher);
         let micros = at.micros.saturating_sub(start.micros);
-        let is_last = show.is_over || !goes_on || has_all(&show, watched, micros);
-        if watched.style == Style::Screen {
-            show.draw(rt, watched, audience, at, is_last)?;
+        let is_last = state.is_over || !goes_on || has_all(&state, options, micros);
+        if options.style == Style::Screen {
+            state.draw(rt, options, observer, at, is_last)?;
         }
         if is_last {
             break;
         }
     }
-    stop_stream(rt, &stream, &show, &mut poll, &mut events)?;
+    stop_stream(rt, &stream, &state, &mut poll, &mut events)?;
     if goes_on {
-        show.close(rt, watched);
+        // That no data frame came, where that is so.
+        if let Some(trouble) = state.watcher.close() {
+            state.show_violation(rt, options, trouble);
+        }
     }
-    show.end(rt, watched)?;
-    Ok(show.watcher.tally().troubles == 0)
+    state.end(rt, options)?;
+    Ok(state.watcher.tally().troubles == 0)
 }
 
 /// Whether as much has come as was asked for.
-fn has_all(show: &Show, watched: &WatchOptions<'_>, micros: u64) -> bool {
-    let frames = show.watcher.tally().frames;
-    let by_frames = matches!(watched.frames, Some(most) if frames >= u64::from(most));
-    let by_time = matches!(watched.seconds, Some(most) if micros / SECOND >= u64::from(most));
+fn has_all(state: &WatchState, options: &WatchOptions<'_>, micros: u64) -> bool {
+    let frames = state.watcher.tally().frames;
+    let by_frames = matches!(options.frames, Some(most) if frames >= u64::from(most));
+    let by_time = matches!(options.seconds, Some(most) if micros / SECOND >= u64::from(most));
     by_frames || by_time
 }
 
 /// Connects. Of the addresses of a name it is the first one that can be had.
-fn reach<R: Net>(
+fn connect_target<R: Net>(
     rt: &R,
     alloc: Global,
     target: Target<'_>,
@@ -311,16 +314,16 @@ fn reach<R: Net>(
                 }
             }
         }
-        Err(error) => fault = Some(nameless(alloc, target, error)),
+        Err(error) => fault = Some(name_error(alloc, target, error)),
     }
     match fault {
         Some(fault) => Err(fault),
-        None => Err(nameless(alloc, target, io::Error::from(ErrorKind::NotFound))),
+        None => Err(name_error(alloc, target, io::Error::from(ErrorKind::NotFound))),
     }
 }
 
 /// A name has no address.
-fn nameless(alloc: Global, target: Target<'_>, error: io::Error) -> Fault {
+fn name_error(alloc: Global, target: Target<'_>, error: io::Error) -> Fault {
     match format!(in alloc; "{target}") {
         Ok(name) => Fault::Name(name, error),
         Err(_) => no_memory(),
@@ -354,16 +357,23 @@ fn connect<R: Net>(
     Err(Fault::Reach(address, io::Error::from(ErrorKind::TimedOut)))
 }
 
-/// Sends the commands that are owed. They are so few that the system takes them at once; a connection that does not is over.
-fn send_owed<R: Clock>(rt: &R, stream: &TcpStream, show: &mut Show) -> Result<(), Fault> {
-    let soc = now(rt)?.soc();
+/// Sends the commands that are due. They are so few that the system takes them at once; a connection that does not is over.
+fn send_commands<R: Clock>(
+    rt: &R,
+    stream: &TcpStream,
+    state: &mut WatchState,
+) -> Result<(), Fault> {
+    let soc = UnixTime::now(rt)?.soc();
     for _ in 0..3 {
-        let Some(command) = show.watcher.next_out(soc) else {
+        let Some(command) = state.watcher.next_out(soc) else {
             return Ok(());
         };
         match (&*stream).write(&command) {
             Ok(18) => {}
-            _ => show.note(Trouble::Closed),
+            _ => {
+                state.watcher.note(Violation::Closed);
+                state.trouble = Some(Violation::Closed);
+            }
         }
     }
     Ok(())
@@ -373,17 +383,17 @@ fn send_owed<R: Clock>(rt: &R, stream: &TcpStream, show: &mut Show) -> Result<()
 fn read_all<R: Clock + Print + Eprint, W: Write, A: Observer>(
     rt: &R,
     stream: &TcpStream,
-    show: &mut Show,
-    watched: &WatchOptions<'_>,
+    state: &mut WatchState,
+    options: &WatchOptions<'_>,
     raw: &mut Option<W>,
-    audience: &mut A,
+    observer: &mut A,
 ) -> Result<(), Fault> {
     let mut piece = [0; PIECE];
     for _ in 0..READS {
         match (&*stream).read(&mut piece) {
             Ok(0) => {
-                show.trouble_told(rt, watched, Trouble::Closed);
-                show.is_over = true;
+                state.report(rt, options, Violation::Closed);
+                state.is_over = true;
                 return Ok(());
             }
             Ok(read) => {
@@ -393,18 +403,18 @@ fn read_all<R: Clock + Print + Eprint, W: Write, A: Observer>(
                         return Err(Fault::File(error));
                     }
                 }
-                show.take(rt, watched, bytes, audience)?;
-                show.delay = delay_of(show.latest.as_ref(), now(rt)?);
+                state.take(rt, options, bytes, observer)?;
+                state.delay = delay_of(state.latest.as_ref(), UnixTime::now(rt)?);
             }
             Err(error) if error.kind() == ErrorKind::WouldBlock => return Ok(()),
             Err(error) if error.kind() == ErrorKind::Interrupted => {}
             Err(_) => {
-                show.trouble_told(rt, watched, Trouble::Closed);
-                show.is_over = true;
+                state.report(rt, options, Violation::Closed);
+                state.is_over = true;
                 return Ok(());
             }
         }
-        if show.is_over || has_all(show, watched, 0) {
+        if state.is_over || has_all(state, options, 0) {
             return Ok(());
         }
     }
@@ -415,11 +425,11 @@ fn read_all<R: Clock + Print + Eprint, W: Write, A: Observer>(
 fn stop_stream<R: Clock>(
     rt: &R,
     stream: &TcpStream,
-    show: &Show,
+    state: &WatchState,
     poll: &mut Poll,
     events: &mut Events<Global>,
 ) -> Result<(), Fault> {
-    let _ = (&*stream).write(&show.watcher.stop(now(rt)?.soc()));
+    let _ = (&*stream).write(&state.watcher.stop(UnixTime::now(rt)?.soc()));
     let _ = stream.shutdown(Shutdown::Write);
     let mut piece = [0; PIECE];
     for _ in 0..ENDING {
@@ -436,13 +446,13 @@ fn stop_stream<R: Clock>(
     Ok(())
 }
 
-impl Show {
-    fn new(alloc: Global, stream: PmuId) -> Result<Show, Fault> {
+impl WatchState {
+    fn new(alloc: Global, stream: PmuId) -> Result<WatchState, Fault> {
         let watcher = match Watcher::new(alloc, stream) {
             Ok(watcher) => watcher,
             Err(_) => return Err(no_memory()),
         };
-        Ok(Show {
+        Ok(WatchState {
             alloc,
             watcher,
             latest: None,
@@ -455,7 +465,7 @@ impl Show {
             more: 0,
             lines: 0,
             drawn: 0,
-            begun: None,
+            shown_config: None,
             is_waiting: false,
             is_over: false,
         })
@@ -465,9 +475,9 @@ impl Show {
     fn take<R: Print + Eprint, A: Observer>(
         &mut self,
         rt: &R,
-        watched: &WatchOptions<'_>,
+        options: &WatchOptions<'_>,
         bytes: &[u8],
-        audience: &mut A,
+        observer: &mut A,
     ) -> Result<(), Fault> {
         let mut at = 0;
         for _ in 0..=bytes.len() {
@@ -475,22 +485,27 @@ impl Show {
                 at += self.watcher.feed(&bytes[at..]);
             }
             match self.watcher.next() {
-                Seen::More if at >= bytes.len() => return Ok(()),
-                Seen::More | Seen::Header => {}
-                Seen::Config(config) => self.begin(rt, watched, config)?,
-                Seen::NoPmu => self.tell_no_pmu(rt, watched),
-                Seen::Frame(frame) => {
-                    audience.frame(&frame);
-                    self.show_frame(rt, watched, frame)?;
+                WatchEvent::More if at >= bytes.len() => return Ok(()),
+                WatchEvent::More | WatchEvent::Header => {}
+                WatchEvent::Config(config) => self.begin(rt, options, config)?,
+                WatchEvent::NoPmu => self.report_no_pmu(rt, options),
+                WatchEvent::Frame(frame) => {
+                    observer.frame(&frame);
+                    if options.style == Style::Csv {
+                        let mut line = String::new(self.alloc);
+                        write_values(&mut line, &frame)?;
+                        output_result(print!(rt; "{line}"))?;
+                    }
+                    self.latest = Some(frame);
                 }
-                Seen::Trouble(trouble) => self.report_frame(rt, watched, trouble),
-                Seen::Ended => {
+                WatchEvent::Violation(trouble) => self.report_frame(rt, options, trouble),
+                WatchEvent::Ended => {
                     self.is_over = true;
                     return Ok(());
                 }
-                Seen::NoMemory => return Err(no_memory()),
+                WatchEvent::NoMemory => return Err(no_memory()),
             }
-            if has_all(self, watched, 0) {
+            if has_all(self, options, 0) {
                 return Ok(());
             }
         }
@@ -501,12 +516,12 @@ impl Show {
     fn begin<R: Print>(
         &mut self,
         rt: &R,
-        watched: &WatchOptions<'_>,
+        options: &WatchOptions<'_>,
         config: Arc<SourceConfig>,
     ) -> Result<(), Fault> {
         self.is_waiting = false;
-        if let Some(begun) = &self.begun {
-            if is_same(&**begun, &*config) {
+        if let Some(shown_config) = &self.shown_config {
+            if is_same(&**shown_config, &*config) {
                 return Ok(());
             }
         }
@@ -517,58 +532,41 @@ impl Show {
                 return Err(no_memory());
             }
         }
-        if watched.style == Style::Csv {
+        if options.style == Style::Csv {
             let mut line = String::new(self.alloc);
-            made(write_heading(&mut line, &*config))?;
-            written(print!(rt; "{line}"))?;
+            write_heading(&mut line, &*config)?;
+            output_result(print!(rt; "{line}"))?;
         }
-        self.begun = Some(config);
+        self.shown_config = Some(config);
         Ok(())
     }
 
-    /// Shows a data frame.
-    fn show_frame<R: Print>(
+    /// Counts it, and shows it.
+    fn report<R: Eprint>(&mut self, rt: &R, options: &WatchOptions<'_>, trouble: Violation) {
+        self.watcher.note(trouble);
+        self.show_violation(rt, options, trouble);
+    }
+
+    /// Shows what is wrong: on the screen, or else on standard error.
+    fn show_violation<R: Eprint>(
         &mut self,
         rt: &R,
-        watched: &WatchOptions<'_>,
-        frame: Arc<DataFrame>,
-    ) -> Result<(), Fault> {
-        if watched.style == Style::Csv {
-            let mut line = String::new(self.alloc);
-            made(write_values(&mut line, &frame))?;
-            written(print!(rt; "{line}"))?;
-        }
-        self.latest = Some(frame);
-        Ok(())
-    }
-
-    /// Notes what is wrong apart from the bytes.
-    fn note(&mut self, trouble: Trouble) {
-        self.watcher.note(trouble);
-        self.trouble = Some(trouble);
-    }
-
-    /// Notes it, and tells it.
-    fn trouble_told<R: Eprint>(&mut self, rt: &R, watched: &WatchOptions<'_>, trouble: Trouble) {
-        self.watcher.note(trouble);
-        self.tell(rt, watched, trouble);
-    }
-
-    /// Tells what is wrong: on the screen, or else on standard error.
-    fn tell<R: Eprint>(&mut self, rt: &R, watched: &WatchOptions<'_>, trouble: Trouble) {
+        options: &WatchOptions<'_>,
+        trouble: Violation,
+    ) {
         self.report_more(rt);
         self.trouble = Some(trouble);
-        if watched.style != Style::Screen {
-            // Where standard error can't be written either, the status still tells.
+        if options.style != Style::Screen {
+            // Where standard error can't be written either, the status still reports it.
             let _ = eprintln!(rt; "pdcgw: {trouble}");
         }
     }
 
     /// The same of a frame. A peer may send any number of them: 50 a second have a line, and the others are counted.
-    fn report_frame<R: Eprint>(&mut self, rt: &R, watched: &WatchOptions<'_>, trouble: Trouble) {
-        if self.printed < LINES || watched.style == Style::Screen {
+    fn report_frame<R: Eprint>(&mut self, rt: &R, options: &WatchOptions<'_>, trouble: Violation) {
+        if self.printed < LINES || options.style == Style::Screen {
             self.printed = self.printed.saturating_add(1);
-            self.tell(rt, watched, trouble);
+            self.show_violation(rt, options, trouble);
         } else {
             self.trouble = Some(trouble);
             self.more = self.more.saturating_add(1);
@@ -587,26 +585,19 @@ impl Show {
         }
     }
 
-    /// Tells once that no PMU of the stream is announced yet, where no screen or line of a second tells it.
-    fn tell_no_pmu<R: Eprint>(&mut self, rt: &R, watched: &WatchOptions<'_>) {
-        if watched.style == Style::Csv && !self.is_waiting {
+    /// Prints once that no PMU of the stream is announced yet, where no screen or line of a second shows it.
+    fn report_no_pmu<R: Eprint>(&mut self, rt: &R, options: &WatchOptions<'_>) {
+        if options.style == Style::Csv && !self.is_waiting {
             let _ = eprintln!(rt; "pdcgw: {NO_PMU}; it is asked again");
         }
         self.is_waiting = true;
-    }
-
-    /// Tells that no data frame came, where that is so.
-    fn close<R: Eprint>(&mut self, rt: &R, watched: &WatchOptions<'_>) {
-        if let Some(trouble) = self.watcher.close() {
-            self.tell(rt, watched, trouble);
-        }
     }
 
     /// Ends a second: its rate, its frequencies, its line.
     fn end_second<R: Print + Eprint>(
         &mut self,
         rt: &R,
-        watched: &WatchOptions<'_>,
+        options: &WatchOptions<'_>,
         micros: u64,
     ) -> Result<(), Fault> {
         self.report_more(rt);
@@ -614,16 +605,16 @@ impl Show {
         let tally = self.watcher.tally();
         self.measured = tally.frames.saturating_sub(self.frames_before);
         self.frames_before = tally.frames;
-        if tally.configs == 0 && !self.watcher.has_no_pmu() && micros / SECOND == PATIENCE {
-            self.trouble_told(rt, watched, Trouble::Silent);
+        if tally.configs == 0 && !self.watcher.has_no_pmu() && micros / SECOND == CONFIG_TIMEOUT {
+            self.report(rt, options, Violation::Silent);
         }
         self.watcher.second();
-        made(self.keep_frequencies())?;
-        if watched.style == Style::Plain {
+        self.keep_frequencies()?;
+        if options.style == Style::Plain {
             let mut line = String::new(self.alloc);
             let latest = self.latest.as_ref().map(|frame| &**frame);
-            made(write_second(&mut line, latest, self.measured, self.delay, &self.watcher))?;
-            written(print!(rt; "{line}"))?;
+            write_second(&mut line, latest, self.measured, self.delay, &self.watcher)?;
+            output_result(print!(rt; "{line}"))?;
         }
         Ok(())
     }
@@ -649,9 +640,9 @@ impl Show {
     fn draw<R: Print, A: Observer>(
         &mut self,
         rt: &R,
-        watched: &WatchOptions<'_>,
-        audience: &mut A,
-        at: Moment,
+        options: &WatchOptions<'_>,
+        observer: &mut A,
+        at: UnixTime,
         is_last: bool,
     ) -> Result<(), Fault> {
         let tenth = at.micros / TENTH;
@@ -659,12 +650,12 @@ impl Show {
             return Ok(());
         }
         self.drawn = tenth;
-        let before = Before {
+        let before = LastScreen {
             lines: self.lines,
-            typed: audience.take_typed(),
+            typed: observer.take_typed(),
         };
         let view = View {
-            address: watched.address,
+            address: options.address,
             stream: self.watcher.stream().get(),
             measured: self.measured,
             tally: self.watcher.tally(),
@@ -675,15 +666,15 @@ impl Show {
             histories: &self.histories,
             delay: self.delay,
             trouble: self.trouble,
-            notes: audience.notes(),
+            notes: observer.notes(),
         };
-        let (text, lines) = made(draw(self.alloc, &view, before))?;
+        let (text, lines) = draw(self.alloc, &view, before)?;
         self.lines = lines;
-        written(print!(rt; "{text}"))
+        output_result(print!(rt; "{text}"))
     }
 
-    /// Tells at the end what was counted: on standard error, where values stand on standard output.
-    fn end<R: Print + Eprint>(&mut self, rt: &R, watched: &WatchOptions<'_>) -> Result<(), Fault> {
+    /// Prints at the end what was counted: on standard error, where values stand on standard output.
+    fn end<R: Print + Eprint>(&mut self, rt: &R, options: &WatchOptions<'_>) -> Result<(), Fault> {
         self.report_more(rt);
         let tally = self.watcher.tally();
         let frames = tally.frames;
@@ -693,17 +684,17 @@ impl Show {
         let wrong = tally.wrong_checks;
         let order = tally.not_rising;
         let misfits = tally.misfits;
-        let counted = made(format!(in self.alloc;
+        let counted = format!(in self.alloc;
             "{frames} frames, {missing} missing, {fillers} fillers, {troubles} troubles ({wrong} CHK, {order} order, {misfits} misfit)"
-        ))?;
-        match watched.style {
+        )?;
+        match options.style {
             Style::Quiet => Ok(()),
             Style::Csv => {
-                // Where standard error can't be written either, the status still tells.
+                // Where standard error can't be written either, the status still reports it.
                 let _ = eprintln!(rt; "pdcgw: {counted}");
                 Ok(())
             }
-            Style::Screen | Style::Plain => written(println!(rt; "{counted}")),
+            Style::Screen | Style::Plain => output_result(println!(rt; "{counted}")),
         }
     }
 }
@@ -719,30 +710,14 @@ fn is_same(one: &SourceConfig, other: &SourceConfig) -> bool {
 }
 
 /// How many milliseconds behind its stamp the latest frame came, below 0 where it came before.
-fn delay_of(frame: Option<&Arc<DataFrame>>, at: Moment) -> Option<i64> {
-    let stamp = Instant::of(&**frame?).moment();
+fn delay_of(frame: Option<&Arc<DataFrame>>, at: UnixTime) -> Option<i64> {
+    let stamp = FrameTime::of(&**frame?).unix_time();
     let behind = (at.micros.saturating_sub(stamp.micros) / 1_000).min(MOST_DELAY);
     let ahead = (stamp.micros.saturating_sub(at.micros) / 1_000).min(MOST_DELAY);
     Some(i64::from(behind as u32).saturating_sub(i64::from(ahead as u32)))
 }
 
-/// What memory was there for.
-fn made<T: Drop>(made: Result<T, AllocError>) -> Result<T, Fault> {
-    match made {
-        Ok(value) => Ok(value),
-        Err(_) => Err(no_memory()),
-    }
-}
-
 /// There is no memory.
 fn no_memory() -> Fault {
     Fault::System(io::Error::from(ErrorKind::OutOfMemory))
-}
-
-/// The time.
-fn now<R: Clock>(rt: &R) -> Result<Moment, Fault> {
-    match Moment::now(rt) {
-        Some(now) => Ok(now),
-        None => Err(Fault::System(io::Error::from(ErrorKind::Unsupported))),
-    }
 }

@@ -3,7 +3,7 @@
 ghost use Rattle.std.specs.Prelude.{◌≡◌, ◌+◌, ◌≤◌, ◌<◌, length};
 ghost use Rattle.pg_wire.specs.Head.{IsFrame};
 
-use crate::question::Retry;
+use crate::retry::Retry;
 use pg_command::{Word, write_command};
 use pg_config::{Announced, SourceConfig, read_config};
 use pg_data::{DataFrame, read_data};
@@ -17,8 +17,8 @@ use thiserror::Error;
 const TEXT: usize = 1_024;
 
 /// What is wrong with what came.
-#[derive(Clone, Copy, Debug, PartialEq, Eq, Error)]
-pub enum Trouble {
+#[derive(Clone, Copy, Debug, Error)]
+pub enum Violation {
     /// A frame was left out: `BadCheck`, its CHK is wrong; `BadVersion`.
     #[error("a frame is left out: {}", .0.name())]
     Skipped(Refusal),
@@ -53,11 +53,11 @@ pub enum Trouble {
 }
 
 /// When a frame was measured: SOC, and the numerator of FRACSEC.
-#[derive(Clone, Copy, Debug, PartialEq, Eq, PartialOrd, Ord)]
+#[derive(Clone, Copy, Debug, PartialEq, Eq, PartialOrd)]
 pub struct Stamp {
     /// Seconds since 1970-01-01 00:00 UTC.
     pub soc: u32,
-    /// Parts of a second, as TIME_BASE tells.
+    /// Parts of a second, by TIME_BASE.
     pub frac: u32,
 }
 
@@ -104,14 +104,14 @@ impl Tally {
     };
 
     /// Counts what is wrong.
-    pub fn count(&mut self, trouble: Trouble) {
+    pub fn count(&mut self, trouble: Violation) {
         self.troubles = self.troubles.saturating_add(1);
         match trouble {
-            Trouble::Skipped(Refusal::BadCheck) => {
+            Violation::Skipped(Refusal::BadCheck) => {
                 self.wrong_checks = self.wrong_checks.saturating_add(1);
             }
-            Trouble::Order(_, _) => self.not_rising = self.not_rising.saturating_add(1),
-            Trouble::Data(_) => self.misfits = self.misfits.saturating_add(1),
+            Violation::Order(_, _) => self.not_rising = self.not_rising.saturating_add(1),
+            Violation::Data(_) => self.misfits = self.misfits.saturating_add(1),
             _ => {}
         }
     }
@@ -119,7 +119,7 @@ impl Tally {
 
 /// What comes next of the bytes that a watcher was fed.
 #[derive(Drop)]
-pub enum Seen {
+pub enum WatchEvent {
     /// A configuration, CFG-2.
     Config(Arc<SourceConfig>),
     /// A CFG-2 without any PMU: no PMU of the stream is announced yet. It is asked again.
@@ -129,7 +129,7 @@ pub enum Seen {
     /// A data frame that is right.
     Frame(Arc<DataFrame>),
     /// Something is wrong.
-    Trouble(Trouble),
+    Violation(Violation),
     /// More bytes have to come.
     More,
     /// The bytes broke: nothing comes any more.
@@ -138,14 +138,14 @@ pub enum Seen {
     NoMemory,
 }
 
-/// What a frame is, once it was read.
+/// A frame that was read.
 #[derive(Drop)]
-enum Told {
+enum ReadFrame {
     Config(Announced),
     NoPmu,
     Frame(Arc<DataFrame>),
     Header(Vec<u8>),
-    Trouble(Trouble),
+    Violation(Violation),
     NoMemory,
 }
 
@@ -160,15 +160,15 @@ pub struct Watcher {
     config: Option<Arc<SourceConfig>>,
     header: Vec<u8>,
     last: Option<Stamp>,
-    owes_config: bool,
-    owes_header: bool,
-    owes_start: bool,
-    is_asked: bool,
+    needs_config: bool,
+    needs_header: bool,
+    needs_start: bool,
+    awaits_config: bool,
     is_started: bool,
     has_no_pmu: bool,
     // Command 5 without CFG-2, and command 2 without a data frame.
-    config_question: Retry,
-    start_question: Retry,
+    config_retry: Retry,
+    start_retry: Retry,
     headers: u32,
     is_changing: bool,
     is_ended: bool,
@@ -189,14 +189,14 @@ impl Watcher {
             config: None,
             header: Vec::new(alloc),
             last: None,
-            owes_config: true,
-            owes_header: true,
-            owes_start: false,
-            is_asked: false,
+            needs_config: true,
+            needs_header: true,
+            needs_start: false,
+            awaits_config: false,
             is_started: false,
             has_no_pmu: false,
-            config_question: Retry::NEW,
-            start_question: Retry::NEW,
+            config_retry: Retry::NEW,
+            start_retry: Retry::NEW,
             headers: 0,
             is_changing: false,
             is_ended: false,
@@ -249,43 +249,43 @@ impl Watcher {
         self.has_no_pmu
     }
 
-    /// A second has passed: what was not answered is owed again.
+    /// A second has passed: what was not answered is due again.
     pub fn second(&mut self) {
-        if self.is_asked {
-            if self.config_question.pass() || self.has_no_pmu {
-                self.owes_config = true;
+        if self.awaits_config {
+            if self.config_retry.tick() || self.has_no_pmu {
+                self.needs_config = true;
             }
-        } else if self.is_started && self.start_question.pass() {
-            self.owes_start = true;
+        } else if self.is_started && self.start_retry.tick() {
+            self.needs_start = true;
         }
     }
 
     /// Nothing is awaited any more. Answers, and counts, that no data frame came, where that is so.
-    pub fn close(&mut self) -> Option<Trouble> {
+    pub fn close(&mut self) -> Option<Violation> {
         if self.tally.frames > 0 {
             return None;
         }
-        self.note(Trouble::NoFrame);
-        Some(Trouble::NoFrame)
+        self.note(Violation::NoFrame);
+        Some(Violation::NoFrame)
     }
 
-    /// The next command that the peer is owed: 5 and 3 at first, 2 and 3 once the configuration is known, and 5 again where it
+    /// The next command to send: 5 and 3 at first, 2 and 3 once the configuration is known, and 5 again where it
     /// may have changed.
     pub fn next_out(&mut self, soc: u32) -> Option<[u8; 18]> {
-        let word = if self.owes_config {
-            self.owes_config = false;
-            self.is_asked = true;
-            self.config_question = Retry::NEW;
+        let word = if self.needs_config {
+            self.needs_config = false;
+            self.awaits_config = true;
+            self.config_retry = Retry::NEW;
             Word::SendCfgTwo
-        } else if self.owes_header {
-            self.owes_header = false;
+        } else if self.needs_header {
+            self.needs_header = false;
             Word::SendHeader
-        } else if self.owes_start {
-            self.owes_start = false;
+        } else if self.needs_start {
+            self.needs_start = false;
             self.is_started = true;
-            self.start_question = Retry::NEW;
-            // A peer obeys in order, so that the answer to this tells that the start was obeyed.
-            self.owes_header = true;
+            self.start_retry = Retry::NEW;
+            // A peer obeys in order, so that the answer to this shows that the start was obeyed.
+            self.needs_header = true;
             Word::StartData
         } else {
             return None;
@@ -299,96 +299,96 @@ impl Watcher {
     }
 
     /// Notes something that is wrong apart from the bytes.
-    pub fn note(&mut self, trouble: Trouble) {
+    pub fn note(&mut self, trouble: Violation) {
         self.tally.count(trouble);
     }
 
-    /// What comes next of the peer's bytes, checked and counted. A break is told once.
-    pub fn next(&mut self) -> Seen {
-        let told = match self.deframer.next() {
-            Taken::Frame(frame) => tell(self.alloc, self.stream, self.config.as_ref(), frame),
-            Taken::Skipped(refusal) => Told::Trouble(Trouble::Skipped(refusal)),
-            Taken::More => return Seen::More,
+    /// What comes next of the peer's bytes, checked and counted. A break is reported once.
+    pub fn next(&mut self) -> WatchEvent {
+        let read = match self.deframer.next() {
+            Taken::Frame(frame) => read_frame(self.alloc, self.stream, self.config.as_ref(), frame),
+            Taken::Skipped(refusal) => ReadFrame::Violation(Violation::Skipped(refusal)),
+            Taken::More => return WatchEvent::More,
             Taken::Broken(refusal) => {
                 if self.is_ended {
-                    return Seen::Ended;
+                    return WatchEvent::Ended;
                 }
                 self.is_ended = true;
-                Told::Trouble(Trouble::Broken(refusal))
+                ReadFrame::Violation(Violation::Broken(refusal))
             }
         };
-        self.take(told)
+        self.take(read)
     }
 
-    /// Keeps what a frame tells.
-    fn take(&mut self, told: Told) -> Seen {
-        match told {
-            Told::Config(announced) => self.take_config(announced),
-            Told::NoPmu => {
+    /// Takes a frame that was read.
+    fn take(&mut self, read: ReadFrame) -> WatchEvent {
+        match read {
+            ReadFrame::Config(announced) => self.take_config(announced),
+            ReadFrame::NoPmu => {
                 // It stands as not answered, so that it is asked again.
                 self.has_no_pmu = true;
-                self.is_asked = true;
-                Seen::NoPmu
+                self.awaits_config = true;
+                WatchEvent::NoPmu
             }
-            Told::Frame(frame) => self.take_frame(frame),
-            Told::Header(text) => {
+            ReadFrame::Frame(frame) => self.take_frame(frame),
+            ReadFrame::Header(text) => {
                 self.header = text;
                 self.headers = self.headers.saturating_add(1);
-                Seen::Header
+                WatchEvent::Header
             }
-            Told::Trouble(trouble) => {
+            ReadFrame::Violation(trouble) => {
                 self.tally.count(trouble);
-                if let Trouble::Data(Refusal::BadLength) = trouble {
+                if let Violation::Data(Refusal::BadLength) = trouble {
                     self.ask_again();
                 }
-                Seen::Trouble(trouble)
+                WatchEvent::Violation(trouble)
             }
-            Told::NoMemory => Seen::NoMemory,
+            ReadFrame::NoMemory => WatchEvent::NoMemory,
         }
     }
 
     /// Asks for the configuration, unless that was asked for and has not come.
     fn ask_again(&mut self) {
-        if !self.is_asked {
-            self.owes_config = true;
+        if !self.awaits_config {
+            self.needs_config = true;
         }
     }
 
     /// Takes a configuration. The first one starts the stream.
-    fn take_config(&mut self, announced: Announced) -> Seen {
+    fn take_config(&mut self, announced: Announced) -> WatchEvent {
         let Ok(config) = Arc::new(self.alloc, announced.config) else {
-            return Seen::NoMemory;
+            return WatchEvent::NoMemory;
         };
         let Ok(kept) = Arc::try_clone(&config) else {
-            return Seen::NoMemory;
+            return WatchEvent::NoMemory;
         };
         self.config = Some(kept);
-        self.is_asked = false;
+        self.awaits_config = false;
         self.has_no_pmu = false;
         if !self.is_started {
-            self.owes_start = true;
+            self.needs_start = true;
         }
         self.tally.configs = self.tally.configs.saturating_add(1);
-        Seen::Config(config)
+        WatchEvent::Config(config)
     }
 
     /// Takes a data frame, if its stamp is above that of the last one.
-    fn take_frame(&mut self, frame: Arc<DataFrame>) -> Seen {
+    fn take_frame(&mut self, frame: Arc<DataFrame>) -> WatchEvent {
         let stamp = Stamp {
             soc: frame.soc,
             frac: frame.frac,
         };
         if let Some(last) = self.last {
             if stamp <= last {
-                let trouble = Trouble::Order(last, stamp);
+                let trouble = Violation::Order(last, stamp);
                 self.tally.count(trouble);
-                return Seen::Trouble(trouble);
+                return WatchEvent::Violation(trouble);
             }
             let between = slot_in(&frame, stamp).saturating_sub(slot_in(&frame, last));
             self.tally.missing = self.tally.missing.saturating_add(between.saturating_sub(1));
         }
         self.last = Some(stamp);
-        self.start_question = Retry::NEW;
+        self.start_retry = Retry::NEW;
         let is_changed = frame.is_changed();
         if self.is_changing && !is_changed {
             self.ask_again();
@@ -396,42 +396,47 @@ impl Watcher {
         self.is_changing = is_changed;
         self.tally.fillers = self.tally.fillers.saturating_add(fillers_of(&frame));
         self.tally.frames = self.tally.frames.saturating_add(1);
-        Seen::Frame(frame)
+        WatchEvent::Frame(frame)
     }
 }
 
 /// Reads a frame.
-fn tell(alloc: Global, stream: PmuId, config: Option<&Arc<SourceConfig>>, frame: &[u8]) -> Told
+fn read_frame(
+    alloc: Global,
+    stream: PmuId,
+    config: Option<&Arc<SourceConfig>>,
+    frame: &[u8],
+) -> ReadFrame
     requires { IsFrame frame.now }
 {
     let head = read_head(frame);
     match head.kind {
         Kind::CfgTwo if has_no_pmu(frame) => {
             if head.id == stream.get() {
-                Told::NoPmu
+                ReadFrame::NoPmu
             } else {
-                Told::Trouble(Trouble::Config(Refusal::WrongId))
+                ReadFrame::Violation(Violation::Config(Refusal::WrongId))
             }
         }
         Kind::CfgTwo => match read_config(alloc, frame) {
-            Ok(announced) if announced.config.source == stream => Told::Config(announced),
-            Ok(_) => Told::Trouble(Trouble::Config(Refusal::WrongId)),
-            Err(Refusal::NoMemory) => Told::NoMemory,
-            Err(refusal) => Told::Trouble(Trouble::Config(refusal)),
+            Ok(announced) if announced.config.source == stream => ReadFrame::Config(announced),
+            Ok(_) => ReadFrame::Violation(Violation::Config(Refusal::WrongId)),
+            Err(Refusal::NoMemory) => ReadFrame::NoMemory,
+            Err(refusal) => ReadFrame::Violation(Violation::Config(refusal)),
         },
         Kind::Measured => match config {
-            None => Told::Trouble(Trouble::Data(Refusal::NoConfig)),
+            None => ReadFrame::Violation(Violation::Data(Refusal::NoConfig)),
             Some(config) => match read_data(alloc, config, frame) {
-                Ok(data) => Told::Frame(data),
-                Err(Refusal::NoMemory) => Told::NoMemory,
-                Err(refusal) => Told::Trouble(Trouble::Data(refusal)),
+                Ok(data) => ReadFrame::Frame(data),
+                Err(Refusal::NoMemory) => ReadFrame::NoMemory,
+                Err(refusal) => ReadFrame::Violation(Violation::Data(refusal)),
             },
         },
         Kind::Header if head.id != stream.get() => {
-            Told::Trouble(Trouble::Header(Refusal::WrongId))
+            ReadFrame::Violation(Violation::Header(Refusal::WrongId))
         }
         Kind::Header => header_in(alloc, frame),
-        kind => Told::Trouble(Trouble::Unasked(kind)),
+        kind => ReadFrame::Violation(Violation::Unasked(kind)),
     }
 }
 
@@ -441,16 +446,16 @@ fn has_no_pmu(frame: &[u8]) -> bool {
 }
 
 /// The text of a header, its first bytes.
-fn header_in(alloc: Global, frame: &[u8]) -> Told {
+fn header_in(alloc: Global, frame: &[u8]) -> ReadFrame {
     let end = frame.len().saturating_sub(2).min(14 + TEXT);
     let text = frame.get(14..end).unwrap_or(&[]);
     match Vec::from_slice(alloc, text) {
-        Ok(text) => Told::Header(text),
-        Err(_) => Told::NoMemory,
+        Ok(text) => ReadFrame::Header(text),
+        Err(_) => ReadFrame::NoMemory,
     }
 }
 
-/// The slot of a stamp, by the rate and the resolution that the configuration tells: the nearest one. With a rate below 0,
+/// The slot of a stamp, by the rate and the resolution of the configuration: the nearest one. With a rate below 0,
 /// seconds a frame, the slots are those of the seconds.
 fn slot_in(frame: &DataFrame, stamp: Stamp) -> u64 {
     let soc = u64::from(stamp.soc);

@@ -10,19 +10,19 @@ mod asserts;
 #[cfg(test)]
 mod conversations;
 #[cfg(test)]
-mod courses;
-#[cfg(test)]
 mod dialogues;
 #[cfg(test)]
 mod ends;
 #[cfg(test)]
-mod owing;
+mod expected_frames;
+#[cfg(test)]
+mod expected_streams;
 #[cfg(test)]
 mod passing;
 #[cfg(test)]
-mod signals;
+mod phases;
 #[cfg(test)]
-mod slots;
+mod signals;
 #[cfg(test)]
 mod state;
 #[cfg(test)]

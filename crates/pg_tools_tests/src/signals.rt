@@ -1,6 +1,6 @@
-//! The signals of a simulated source, as its data blocks tell them.
+//! The signals of a simulated source, as its data blocks carry them.
 
-use pg_tools::{Channels, Faults, Moment, Nominal, Numbers, Rate, Settings, add_measured};
+use pg_tools::{Channels, Faults, Nominal, Numbers, Rate, Settings, UnixTime, add_measured};
 use std::alloc::Global;
 use std::process::Abort;
 use std::test::*;
@@ -17,9 +17,9 @@ pub fn settings(rt: &impl Abort, faults: Faults) -> Settings {
     }
 }
 
-// The data block of PMU 0, which tells rectangular phasors, or of PMU 1, which tells polar ones: STAT, three phasors, FREQ, DFREQ, an analog value and a
+// The data block of PMU 0, which sends rectangular phasors, or of PMU 1, which sends polar ones: STAT, three phasors, FREQ, DFREQ, an analog value and a
 // digital word.
-fn block(rt: &impl Abort, alloc: Global, at: Moment, pmu: u8) -> Vec<u8> {
+fn block(rt: &impl Abort, alloc: Global, at: UnixTime, pmu: u8) -> Vec<u8> {
     let mut out = Vec::new(alloc);
     add_measured(&mut out, &settings(rt, Faults::NONE), at, pmu).expect(rt, "memory");
     out
@@ -47,7 +47,7 @@ fn apart(one: i64, other: i64) -> u64 {
 }
 
 // Rows that were computed apart from the program, in floating point: microhertz of both ends of the grid, and the angle of the
-// one that tells polar phasors, of which 2^32 are a turn. It stands 4 degrees behind the grid's.
+// one that sends polar phasors, of which 2^32 are a turn. It stands 4 degrees behind the grid's.
 #[test]
 fn signals_of_an_instant(rt: HostRuntime) {
     for (soc, micros, here, there, turn) in [
@@ -62,7 +62,7 @@ fn signals_of_an_instant(rt: HostRuntime) {
         (1_800_000_000, 250_000, 12_854, -358, 31_154_837),
         (1_751_234_567, 33_333, -5_728, -5_760, 1_889_166_703),
     ] {
-        let at = Moment::new(soc, micros);
+        let at = UnixTime::new(soc, micros);
         let (one, other) = (block(&rt, rt.alloc(), at, 0), block(&rt, rt.alloc(), at, 1));
         let off = millihertz(&one).saturating_mul(1_000).abs_diff(here);
         let other_off = millihertz(&other).saturating_mul(1_000).abs_diff(there);

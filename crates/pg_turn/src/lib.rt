@@ -1,7 +1,7 @@
 //! A turnstile: one value that many threads step in turn, with one legal history for all of their calls.
 //!
 //! `Machine` is the value, `Turnstile` holds it, and a `Seat` is what one caller knows of the calls so far. All of it is a
-//! rule of this project (own rule); no standard speaks of it.
+//! rule of this project; no standard speaks of it.
 #![tactic(auto)]
 
 mod machine;

@@ -1,9 +1,9 @@
 //! What a turnstile holds: a value that answers one event after another.
 ghost use Rattle.std.specs.Prelude.{List, [], ◌∷◌, ◌++◌};
 
-/// A value that answers one event after another (own rule).
+/// A value that answers one event after another.
 ///
-/// Its state is told by histories, and so the trait has no type of states. A history is the list of all events so far,
+/// Its state is given by histories, and so the trait has no type of states. A history is the list of all events so far,
 /// each with its reply, the oldest first. An `impl` says which histories a value shows and which replies may come after a
 /// history, and its `step` keeps the one law, which is the clause of `step`.
 pub trait Machine {

@@ -1,4 +1,4 @@
-//! The rule of the turnstile, over the table that holds it, and what each step tells.
+//! The rule of the turnstile, over the table that holds it, and what each step notes.
 //!
 //! The table has one word and one slot. The word is 0 while the value is at home in the slot, and 1 while a seat has it.
 //! Making the table and parking and waking are the base crate's own; the steps here are take, give back, split, join, and
@@ -60,7 +60,7 @@ impl<M, E, R> Play<Option<M>, View<E, R>> for Settle {
     ghost then = { settled };
 }
 
-/// A split tells the second seat what the first has seen; a join brings both back into one.
+/// A split gives the second seat what the first has seen; a join brings both back into one.
 pub(crate) struct Tell;
 
 impl<E, R> Split<View<E, R>> for Tell {

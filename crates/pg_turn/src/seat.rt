@@ -7,7 +7,7 @@ use std::marker::Model;
 ///
 /// Contracts see it as `Known`: the turnstile that it is of, the history as far as it has seen it, and the places of its
 /// own calls there. Each of its own places stands in what it has seen. A seat that is dropped leaves its calls in the
-/// history and takes nothing away (own rule).
+/// history and takes nothing away.
 #[derive(Drop)]
 pub struct Seat<M: Machine> {
     /// The base crate's seat, which has the view.

@@ -18,7 +18,7 @@ use std::sync::atomic::{AtomicUsize, Ordering};
 
 type Top<M> = Shared<Slot<M>, Seen<M>, (), OneHistory<M>>;
 
-// Waits until the value is at home, and takes it. It parks between two tries, so that waiting burns no processor. Who found it
+// Waits until the value is at home, and takes it. It parks between two tries, so that waiting burns no processor. A caller that found it
 // away is counted until it has it, so that a give-back makes a wake only where one waits.
 fn take<M: Machine, R: Wait>(rt: &R, top: &Top<M>, waiting: &AtomicUsize, place: &mut Place<M>)
     requires table { (place.old.table_id ≡ top.now.table_id) × (top.now.table_id.words ≡ 1) }
@@ -58,7 +58,7 @@ fn step_held<M: Machine>(top: &Top<M>, place: &mut Place<M>, event: M::Event) ->
     }
 }
 
-// Sets the word, by which the value is at home, tells of the call, and wakes one that waits.
+// Sets the word, by which the value is at home, notes the call, and wakes one that waits.
 #[inline(always)]
 fn give_back<M: Machine, J: Telling<M::Event, M::Reply>>(
     top: &Top<M>,
@@ -81,7 +81,7 @@ fn give_back<M: Machine, J: Telling<M::Event, M::Reply>>(
     }
 }
 
-/// One value that many threads step in turn. All calls, of all threads, stand in one legal history (own rule).
+/// One value that many threads step in turn. All calls, of all threads, stand in one legal history.
 ///
 /// Threads share it by reference. Contracts see it as the name of its table: a seat is one of this turnstile where
 /// `seat.table` is that name.

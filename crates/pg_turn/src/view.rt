@@ -16,7 +16,7 @@ pub struct View<E, R> {
     pub holds: bool,
 }
 
-/// The call that a step tells of, as a list of at most one. Each call of a function picks it: a step on a word has no
+/// The call that a step notes, as a list of at most one. Each call of a function picks it: a step on a word has no
 /// parameter of its own, and a value that crosses threads can hold no snapshot.
 pub trait Telling<E, R> {
     ghost calls: { List (E × R) };

@@ -3,7 +3,7 @@ ghost use Rattle.std.specs.Prelude.{◌≡◌};
 
 use pg_turn::Machine;
 
-/// A machine that adds up what it is given. Its reply is the total after the event (own rule).
+/// A machine that adds up what it is given. Its reply is the total after the event.
 #[derive(Drop)]
 pub struct Counter {
     /// The sum of all that was added, at most `u64::MAX`, where it stays.

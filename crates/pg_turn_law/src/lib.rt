@@ -1,4 +1,5 @@
 //! What a caller of a turnstile can conclude from its public clauses alone: of two calls, of two threads and of one seat.
+//! All of it is a rule of this project.
 #![tactic(auto)]
 
 mod counter;
@@ -16,7 +17,7 @@ use std::sync::Wait;
 use std::thread::{Threads, join};
 
 /// Two threads, with the seats of one split, make a call each; then their seats are joined. Whatever the machine, both
-/// calls stand in one legal history, at two different places (own rule). The replies are given in the order of the events.
+/// calls stand in one legal history, at two different places. The replies are given in the order of the events.
 pub fn call_both<M: Machine + Send, R: Threads + Wait + Sync>(
     rt: &R,
     turns: &Turnstile<M>,
@@ -49,7 +50,7 @@ where
 }
 
 /// One seat makes two calls. Both stand in one legal history, the first before the second, and their places are the two
-/// that the seat has got (own rule).
+/// that the seat has got.
 pub fn call_twice<M: Machine, R: Wait>(
     rt: &R,
     turns: &Turnstile<M>,
@@ -67,7 +68,7 @@ pub fn call_twice<M: Machine, R: Wait>(
 }
 
 /// Two threads add to one new counter. The totals are those of `first` and `second`: each counts its own number, and one of
-/// them counts both (own rule). The error is that there was no memory.
+/// them counts both. The error is that there was no memory.
 pub fn add_both<R: Threads + Wait + Sync>(
     rt: &R,
     alloc: Global,

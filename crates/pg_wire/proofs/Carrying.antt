@@ -4,7 +4,7 @@ use Rattle.std.specs.Int.Bits.{xor_self, xor_zero_l, xor_assoc}
 use Rattle.std.proofs.lemmas.Nat.{div-add-mod', mod_below, pow-add}
 use Rattle.pg_wire.specs.Check.{◌⊕◌, IsRemainder, dividend_from, dividend}
 use Rattle.std.proofs.Math.Nat.{div-div-eq-div-mul, zero-mul}
-use Rattle.pg_wire.specs.Ahead.{AreQuarters}
+use Rattle.pg_wire.specs.CrcShift.{AreQuarters}
 use Rattle.pg_wire.proofs.Remainders.{xor_shl, xor_cat, IsRemainder-xor, IsRemainder-short, IsRemainder-shl}
 use Rattle.pg_wire.proofs.Slicing.{lifted, dividend-append}
 

@@ -14,6 +14,6 @@ pub mod Split
 pub mod Taking
 pub mod Reads
 -- Only private contracts and proofs use these, here and in the crates above.
-pub mod Ahead
-pub mod Front
+pub mod CrcShift
+pub mod NextFrame
 pub mod Held

@@ -1,9 +1,9 @@
-//! A stream of bytes, cut into frames as it comes (C37.118.2, 6.2; what breaks a stream and what is skipped is our own rule).
+//! A stream of bytes, cut into frames as it comes (C37.118.2, 6.2).
 
 ghost use Rattle.std.specs.Prelude.{◌≡◌, ℕ, ◌+◌, ◌-◌, ◌<◌, ◌≤◌, ◌↔◌, List, [], ◌++◌, length, take, drop, IfOk, IfErr, OnErr, IsTrue, Option, Some, None};
 ghost use Rattle.pg_wire.specs.Frame.{IsWhole, break_of, size_of, skip_of};
 ghost use Rattle.pg_wire.specs.Stream.{fresh, fed, ShowsStream};
-ghost use Rattle.pg_wire.specs.Front.{IsFront};
+ghost use Rattle.pg_wire.specs.NextFrame.{IsNextFrame};
 ghost use Rattle.pg_wire.specs.Reads.{Gave, given_by};
 
 use crate::checksum::check;
@@ -13,14 +13,14 @@ use std::io;
 use std::io::Read;
 use std::marker::Model;
 
-/// The most bytes that a deframer holds, and the most that FRAMESIZE can tell.
+/// The most bytes that a deframer holds, and the most that FRAMESIZE can say.
 pub const CAPACITY: usize = 65_535;
 
 /// A buffer that cuts a stream into frames. It takes its memory when it is made, and none later.
 ///
 /// A stream breaks where a frame's first byte is not 0xAA (`BadFirst`), its second has bit 7 set or type 6 or 7
 /// (`BadSecond`), or FRAMESIZE is under 16 (`ShortSize`), in this order and as soon as these bytes are there.
-/// Once broken, a deframer holds nothing, drops what it is fed and answers the same break until a reset (own rule).
+/// Once broken, a deframer holds nothing, drops what it is fed and answers the same break until a reset.
 #[derive(Drop)]
 pub struct Deframer {
     /// `CAPACITY` bytes, so that a reader can write behind those that are held.
@@ -68,7 +68,7 @@ impl Deframer {
         CAPACITY - (self.end - self.start)
     }
 
-    /// Takes the next piece of the stream, which is no longer than `room` tells. A broken deframer drops it.
+    /// Takes the next piece of the stream, which is no longer than `room` says. A broken deframer drops it.
     ///
     /// Bytes of less than a frame are moved to the front only where the piece does not fit behind them.
     pub fn feed(&mut self, piece: &[u8])
@@ -87,8 +87,8 @@ impl Deframer {
         self.end = at + piece.len();
     }
 
-    /// Reads once, at most `most` bytes and no more than `room` tells, straight behind the bytes that are held: the next piece of
-    /// the stream. A broken deframer drops what it reads. It tells how many bytes came, 0 only where the reader has ended, or the
+    /// Reads once, at most `most` bytes and no more than `room` says, straight behind the bytes that are held: the next piece of
+    /// the stream. A broken deframer drops what it reads. It returns how many bytes came, 0 only where the reader has ended, or the
     /// reader's error, and then nothing has changed.
     ///
     /// Bytes of less than a frame are moved to the front only where so many do not fit behind them.
@@ -128,15 +128,15 @@ impl Deframer {
         if let Some(refusal) = self.broken {
             return Taken::Broken(refusal);
         }
-        match front_of(&self.bytes[self.start..self.end]) {
-            Front::Partial => Taken::More,
-            Front::Break(refusal) => {
+        match next_frame(&self.bytes[self.start..self.end]) {
+            NextFrame::Partial => Taken::More,
+            NextFrame::Break(refusal) => {
                 self.start = 0;
                 self.end = 0;
                 self.broken = Some(refusal);
                 Taken::Broken(refusal)
             }
-            Front::Whole(size) => {
+            NextFrame::Whole(size) => {
                 let start = self.start;
                 self.start += size;
                 let frame = &self.bytes[start..self.end][..size];
@@ -172,9 +172,9 @@ pub enum Taken<'a> {
     Broken(Refusal),
 }
 
-/// What stands at a frame's place.
+/// What stands where a frame is to begin: a whole one of this size, a part of one, or a break.
 #[derive(Clone, Copy)]
-enum Front {
+enum NextFrame {
     Whole(usize),
     Partial,
     Break(Refusal),
@@ -239,20 +239,20 @@ fn size_at(bytes: &[u8]) -> usize
 }
 
 /// What stands at a frame's place.
-fn front_of(bytes: &[u8]) -> Front
-    ensures { IsFront bytes.now result }
+fn next_frame(bytes: &[u8]) -> NextFrame
+    ensures { IsNextFrame bytes.now result }
 {
     if let Some(refusal) = break_at(bytes) {
-        return Front::Break(refusal);
+        return NextFrame::Break(refusal);
     }
     if bytes.len() < 4 {
-        return Front::Partial;
+        return NextFrame::Partial;
     }
     let size = size_at(bytes);
     if bytes.len() < size {
-        Front::Partial
+        NextFrame::Partial
     } else {
-        Front::Whole(size)
+        NextFrame::Whole(size)
     }
 }
 
@@ -276,5 +276,5 @@ fn skip_reason(frame: &[u8]) -> Option<Refusal>
 pub fn is_frame(bytes: &[u8]) -> bool
     ensures { IsTrue result ↔ (IsWhole bytes.now × (skip_of bytes.now ≡ None)) }
 {
-    matches!(front_of(bytes), Front::Whole(size) if size == bytes.len() && skip_reason(bytes).is_none())
+    matches!(next_frame(bytes), NextFrame::Whole(size) if size == bytes.len() && skip_reason(bytes).is_none())
 }

@@ -84,7 +84,7 @@ impl StreamId {
     }
 }
 
-/// The number of a subscriber: 1 to 65535 (own rule).
+/// The number of a subscriber: 1 to 65535.
 #[derive(Clone, Copy, Debug, PartialEq, Eq, PartialOrd, Ord, Hash)]
 pub struct SubId {
     id: u16,

@@ -1,8 +1,9 @@
 //! Frames of a synchrophasor stream: their check, their heads, and how a stream is cut into them.
+//! What no clause of IEEE C37.118.2 is named for is a rule of this project.
 #![tactic(auto)]
 
-mod ahead;
 mod checksum;
+mod crc_shift;
 mod deframer;
 mod head;
 mod ids;
@@ -10,8 +11,8 @@ mod kind;
 mod laws;
 mod refusal;
 
-pub use ahead::{Ahead, body_alone};
 pub use checksum::{check, check_alone, check_bytewise, check_head, check_more};
+pub use crc_shift::{CrcShift, body_alone};
 pub use deframer::{CAPACITY, Deframer, Taken, is_frame};
 pub use head::{Head, end_frame, end_frame_by, head_bytes, read_head, start_frame};
 pub use ids::{PmuId, PmuKey, StreamId, SubId};

@@ -5,7 +5,7 @@ ghost use Rattle.std.specs.Prelude.{◌≡◌};
 use std::alloc::{AllocError, AllocFailed};
 use thiserror::Error;
 
-/// Why something was refused: each reason with the number and the name by which it is counted and printed (own rule).
+/// Why something was refused: each reason with the number and the name by which it is counted and printed.
 #[derive(Clone, Copy, Debug, PartialEq, Eq, Error)]
 pub enum Refusal {
     /// Memory was asked for, and there was none.
@@ -65,7 +65,7 @@ pub enum Refusal {
     /// The fraction's numerator is not below its denominator, TIME_BASE.
     #[error("BadFraction")]
     BadFraction = 19,
-    /// The slot lies past the last second that SOC can tell.
+    /// The slot lies past the last second that SOC can say.
     #[error("TimeEnd")]
     TimeEnd = 20,
     /// SOC differs by more than 30 seconds from that of the last tick.

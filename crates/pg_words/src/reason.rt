@@ -6,7 +6,7 @@ ghost use Rattle.pg_words.specs.Said.{said_of};
 use pg_wire::Refusal;
 use std::fmt;
 
-/// What is said of a refusal by which the program ends, where nothing else tells more: what is wrong, and what would be right. The
+/// What is said of a refusal by which the program ends, where nothing else says more: what is wrong, and what would be right. The
 /// program ends by no other refusal than those that have words of their own.
 pub fn say(refusal: Refusal) -> &'static str
     ensures { result.now ≡ said_of refusal }
@@ -42,7 +42,7 @@ pub fn say(refusal: Refusal) -> &'static str
     }
 }
 
-/// The last line that is told: the number and the name of the refusal by which the program ends.
+/// The last line that is printed: the number and the name of the refusal by which the program ends.
 #[derive(Clone, Copy, Debug, PartialEq, Eq)]
 pub struct Signed(pub Refusal);
 

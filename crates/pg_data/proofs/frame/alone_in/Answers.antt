@@ -10,7 +10,7 @@ pub body_alone-requires-clause-len : goal.body_alone-requires-clause-len
 body_alone-requires-clause-len c =
     let parts = c.args.config.now.parts in
     let one : length parts ≡ 1 = omega (arith, c.count.ensures.value) in
-    let whole : data_lens parts ≡ c.ahead.result.now = one_len parts c.ahead.result.now one c.ahead.ensures in
+    let whole : data_lens parts ≡ c.shift.result.now = one_len parts c.shift.result.now one c.shift.ensures in
     frame-length c.args.frame.now c.args.body.now c.requires.frame c.requires.body ∙ ap (λ n. 16 + n) (c.requires.len ∙ whole)
 
 pub returns-then-count-eq1 : goal.returns-then-count-eq1

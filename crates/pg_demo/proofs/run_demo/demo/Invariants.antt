@@ -1,4 +1,4 @@
 use Rattle.pg_demo.proofs.run_demo.demo.Given as goal
 
-abbrev pub ghosts-play : goal.ghosts-play
-ghosts-play g a = record { table = a.shared.now }
+abbrev pub ghosts-run_all : goal.ghosts-run_all
+ghosts-run_all g a = record { table = a.shared.now }

@@ -17,7 +17,7 @@ returns-clause-frame c ends listed are =
     let places = length m.config.parts in
     let others = length order - 1 in
     let long = c.in-Some-add_ordered.ensures.len refl in
-    let whole : c.args.front.now.size ≡ 16 + length (joined (blocks_in m order)) = omega (arith, long, c.in-Some.ensures.len refl, c.size.ensures.value, c.end_if_whole.ensures.len ends) in
+    let whole : c.args.prefix.now.size ≡ 16 + length (joined (blocks_in m order)) = omega (arith, long, c.in-Some.ensures.len refl, c.size.ensures.value, c.end_if_whole.ensures.len ends) in
     let some : length order ≡ others + 1 = omega (arith, c.requires.members, c.requires.limits.members.some) in
     let body = joined (data_blocks listed d.members (pieces_in m order)) in
     let same : body ≡ joined (blocks_in m order) = ap joined (blocks-ordered listed d.members m places order are c.requires.blocks c.requires.members) in
@@ -25,8 +25,8 @@ returns-clause-frame c ends listed are =
     let clear : c.clear_quality-quality.result ≡ quality =
     c.clear_quality-quality.ensures others ∙ ap (λ v. joined_quality (replicate (others + 1) v.quality)) c.frame.view_is
     ∙ sym (ap joined_quality (qualities-ordered m places others order c.requires.blocks some)) in
-    framed (data_heading d c.args.slot quality) c.args.front.now.size body c.start_stamped.new.frame.items c.add_ordered.new.out.items c.end_if_whole.new.frame.items
-    (c.in-Some.ensures.bytes refl ∙ started d c.args.slot c.clear_quality-quality.result c.args.front.now _ c.requires.front c.stamp_of-stamp.ensures.bytes ∙ ap (λ q. start_of (data_heading d c.args.slot q) c.args.front.now.size) clear)
+    framed (data_heading d c.args.slot quality) c.args.prefix.now.size body c.start_stamped.new.frame.items c.add_ordered.new.out.items c.end_if_whole.new.frame.items
+    (c.in-Some.ensures.bytes refl ∙ started d c.args.slot c.clear_quality-quality.result c.args.prefix.now _ c.requires.prefix c.stamp_of-stamp.ensures.bytes ∙ ap (λ q. start_of (data_heading d c.args.slot q) c.args.prefix.now.size) clear)
     (whole ∙ ap (λ l. 16 + length l) (sym same))
     (c.in-Some-add_ordered.ensures.bytes refl ∙ ap (λ l. c.start_stamped.new.frame.items ++ l) (sym same))
     (c.end_if_whole.ensures.bytes ends)

@@ -5,7 +5,7 @@ use Rattle.pg_reload.specs.Alike.{has}
 use Rattle.pg_reload.specs.Apart.{touches}
 use Rattle.pg_reload.specs.Edits.{edits_between}
 use Rattle.pg_reload.specs.Leading.{has_after}
-use Rattle.pg_operator.specs.Setups.{door_of}
+use Rattle.pg_operator.specs.Setups.{port_rules_of}
 use Rattle.pg_reload.specs.Ports.{ports_by}
 use Rattle.pg_reload.specs.Orders.{calls_by, is_about, is_of}
 use Rattle.pg_reload.proofs.Calling.{no_order, orders_joined, port_left, source_left}
@@ -41,8 +41,8 @@ returns-clause-sources c = λ s agree.
     ∙ source_left
     (calls_by (map (λ l. (l.0, string_bytes l.1)) c.args.old.now.links.items) c.args.old.now.sources.items)
     (calls_by (map (λ l. (l.0, string_bytes l.1)) c.args.new.now.links.items) c.args.new.now.sources.items)
-    (ports_by c.args.old.now.ports.items (map door_of c.args.old.now.doors.items))
-    (ports_by c.args.new.now.ports.items (map door_of c.args.new.now.doors.items)) s agree
+    (ports_by c.args.old.now.ports.items (map port_rules_of c.args.old.now.port_rules.items))
+    (ports_by c.args.new.now.ports.items (map port_rules_of c.args.new.now.port_rules.items)) s agree
 
 pub returns-clause-ports : goal.returns-clause-ports
 returns-clause-ports c = λ u agree.
@@ -50,13 +50,13 @@ returns-clause-ports c = λ u agree.
     ∙ port_left
     (calls_by (map (λ l. (l.0, string_bytes l.1)) c.args.old.now.links.items) c.args.old.now.sources.items)
     (calls_by (map (λ l. (l.0, string_bytes l.1)) c.args.new.now.links.items) c.args.new.now.sources.items)
-    (ports_by c.args.old.now.ports.items (map door_of c.args.old.now.doors.items))
-    (ports_by c.args.new.now.ports.items (map door_of c.args.new.now.doors.items)) u agree
+    (ports_by c.args.old.now.ports.items (map port_rules_of c.args.old.now.port_rules.items))
+    (ports_by c.args.new.now.ports.items (map port_rules_of c.args.new.now.port_rules.items)) u agree
 
 pub returns-clause-quiet : goal.returns-clause-quiet
 returns-clause-quiet c = λ calls ports.
     orders_joined _ _ _ _ c.in_ok-add_orders.ensures.ok c.in_ok-orders.ensures.ok ∙ no_order
     (calls_by (map (λ l. (l.0, string_bytes l.1)) c.args.old.now.links.items) c.args.old.now.sources.items)
     (calls_by (map (λ l. (l.0, string_bytes l.1)) c.args.new.now.links.items) c.args.new.now.sources.items)
-    (ports_by c.args.old.now.ports.items (map door_of c.args.old.now.doors.items))
-    (ports_by c.args.new.now.ports.items (map door_of c.args.new.now.doors.items)) calls ports
+    (ports_by c.args.old.now.ports.items (map port_rules_of c.args.old.now.port_rules.items))
+    (ports_by c.args.new.now.ports.items (map port_rules_of c.args.new.now.port_rules.items)) calls ports

@@ -1,6 +1,6 @@
 use Rattle.std.proofs.Common.{◌≡◌, ◌++◌, map}
 use Rattle.std.specs.Vec.Iter.{into_iter_items}
-use Rattle.pg_run.specs.Doors.{opened_by}
+use Rattle.pg_run.specs.OpenedPorts.{opened_by}
 use Rattle.pg_run.proofs.running.ports_of.Given as goal
 
 abbrev pub invariant-plans : goal.invariant-plans

@@ -4,7 +4,7 @@ use Rattle.std.proofs.Math.Seq.{take-length, take-add}
 use Rattle.pg_ingest.specs.Shown.{feeding}
 use Rattle.pg_gateway.specs.Histories.{state_after}
 use Rattle.pg_serve.specs.Inputs.{all_noted}
-use Rattle.pg_serve.specs.Dues.{pairs_of, telling_so}
+use Rattle.pg_serve.specs.Actions.{pairs_of, telling_so}
 use Rattle.pg_serve.specs.Feeding.{TellsAll}
 use Rattle.pg_serve.proofs.Doing.{TellsAll-more, Tells-fed, told_of_all}
 use Rattle.pg_serve.proofs.feeding.feed_events.Goals as goal
@@ -16,7 +16,7 @@ returns-then-sent-bytes c = record {
       let all : take c.loop-broken.sent c.args.bytes.now ≡ c.args.bytes.now = ap (λ k. take k c.args.bytes.now) c.if-sent-bytes.true ∙ take-length c.args.bytes.now in
       subst (λ bytes. TellsAll S (feeding past bytes) c.in_ok-broken.broken (all_noted c.args.notes.now.items) (all_noted c.post_events.new.notes.items) c.post_events.new.gateway c.post_events.new.link) all
       (TellsAll-more S (feeding past (take c.loop-broken.sent c.args.bytes.now)) c.in_ok-broken.broken _ _ _ _ _ _ _ t
-      (c.in_ok-broken.ensures.told (state_after S (pairs_of t.did.deeds)) (telling_so (feeding past (take c.loop-broken.sent c.args.bytes.now)) t.items) t.did.shows t.shows));
+      (c.in_ok-broken.ensures.told (state_after S (pairs_of t.did.effects)) (telling_so (feeding past (take c.loop-broken.sent c.args.bytes.now)) t.items) t.did.shows t.shows));
 }
 
 piece_is : (bytes : List ℕ) (sent size : ℕ) → take sent bytes ++ take size (take (length bytes - sent) (drop sent bytes)) ≡ take (sent + size) bytes
@@ -30,7 +30,7 @@ loop-broken-preserved c = record {
   told = λ S past shown shows.
       let t = c.loop-broken.invariant.told S past shown shows in
       let all = TellsAll-more S (feeding past (take c.loop-broken.sent c.args.bytes.now)) c.in_ok-broken.broken _ _ _ _ _ _ _ t
-      (c.in_ok-broken.ensures.told (state_after S (pairs_of t.did.deeds)) (telling_so (feeding past (take c.loop-broken.sent c.args.bytes.now)) t.items) t.did.shows t.shows) in
+      (c.in_ok-broken.ensures.told (state_after S (pairs_of t.did.effects)) (telling_so (feeding past (take c.loop-broken.sent c.args.bytes.now)) t.items) t.did.shows t.shows) in
       Tells-fed S past (take c.loop-broken.sent c.args.bytes.now) _ (take (c.loop-broken.sent + c.min-size.result) c.args.bytes.now) _ _ _ _ _
       (piece_is c.args.bytes.now c.loop-broken.sent c.min-size.result)
       (told_of_all S (feeding past (take c.loop-broken.sent c.args.bytes.now)) c.in_ok-broken.broken _ _ _ _ all) c.feed.ensures.shows;

@@ -3,7 +3,7 @@ use Rattle.std.proofs.lemmas.List.{take_all}
 use Rattle.std.proofs.Math.Seq.{take-length, take-add}
 use Rattle.pg_gateway.specs.Histories.{state_after}
 use Rattle.pg_serve.specs.Inputs.{all_noted}
-use Rattle.pg_serve.specs.Dues.{pairs_of}
+use Rattle.pg_serve.specs.Actions.{pairs_of}
 use Rattle.pg_serve.specs.Feeding.{HearsAll}
 use Rattle.pg_serve.proofs.Doing.{HearsAll-more, Hears-fed, heard_of_all}
 use Rattle.pg_serve.proofs.feeding.feed_session.Goals as goal
@@ -15,7 +15,7 @@ returns-then-sent-bytes c = record {
       let all : take c.loop-broken.sent c.args.bytes.now ≡ c.args.bytes.now = ap (λ k. take k c.args.bytes.now) c.if-sent-bytes.true ∙ take-length c.args.bytes.now in
       subst (λ bytes. HearsAll S c.args.sub (stream ++ bytes) given c.in_ok-broken.broken (all_noted c.args.notes.now.items) (all_noted c.post_commands.new.notes.items) c.post_commands.new.gateway c.post_commands.new.session) all
       (HearsAll-more S c.args.sub _ given c.in_ok-broken.broken _ _ _ _ _ _ _ t
-      (c.in_ok-broken.ensures.heard (state_after S (pairs_of t.did.deeds)) _ _ t.did.shows t.shows));
+      (c.in_ok-broken.ensures.heard (state_after S (pairs_of t.did.effects)) _ _ t.did.shows t.shows));
 }
 
 piece_is : (bytes : List ℕ) (sent size : ℕ) → take sent bytes ++ take size (take (length bytes - sent) (drop sent bytes)) ≡ take (sent + size) bytes
@@ -29,7 +29,7 @@ loop-broken-preserved c = record {
   heard = λ S stream given shown shows.
       let t = c.loop-broken.invariant.heard S stream given shown shows in
       let all = HearsAll-more S c.args.sub (stream ++ take c.loop-broken.sent c.args.bytes.now) given c.in_ok-broken.broken _ _ _ _ _ _ _ t
-      (c.in_ok-broken.ensures.heard (state_after S (pairs_of t.did.deeds)) _ _ t.did.shows t.shows) in
+      (c.in_ok-broken.ensures.heard (state_after S (pairs_of t.did.effects)) _ _ t.did.shows t.shows) in
       Hears-fed S c.args.sub stream (take c.loop-broken.sent c.args.bytes.now) _ (take (c.loop-broken.sent + c.min-size.result) c.args.bytes.now) given _ _ _ _ _
       (piece_is c.args.bytes.now c.loop-broken.sent c.min-size.result)
       (heard_of_all S c.args.sub _ given c.in_ok-broken.broken _ _ _ _ all) c.feed.ensures.shows;

@@ -3,7 +3,7 @@ use Rattle.pg_command.specs.declared.word.Word.{Word}
 use Rattle.pg_ingest.specs.Linking.{words_owed}
 use Rattle.pg_ingest.specs.Shown as ingest
 use Rattle.pg_ingest.specs.Shown.{LinkPast}
-use Rattle.pg_serve.specs.Dues.{words_due, frames_of, gave}
+use Rattle.pg_serve.specs.Actions.{words_due, frames_of, gave}
 use Rattle.pg_serve.proofs.feeding.give_commands.Given as goal
 
 abbrev pub invariant-loop-frame : goal.invariant-loop-frame

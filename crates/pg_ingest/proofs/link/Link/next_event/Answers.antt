@@ -2,7 +2,7 @@ use Rattle.std.proofs.Common.{refl, ap, Some, None}
 use Rattle.pg_wire.specs.Taking as taking
 use Rattle.pg_ingest.specs.Items.{skips}
 use Rattle.pg_ingest.specs.Linking.{Linking}
-use Rattle.pg_ingest.specs.Reading.{item_told}
+use Rattle.pg_ingest.specs.Reading.{item_read}
 use Rattle.pg_wire.proofs.Holding.{broken_breaks, stopped_held, rest_held, fewer_held, partial_held}
 use Rattle.pg_ingest.proofs.Holding.{holds_fewer}
 use Rattle.pg_ingest.proofs.Telling.{item_shown, event_given, event_counted, skip_told, ended}
@@ -30,9 +30,9 @@ returns-in-Frame-clause-gives c past shown =
     let gives : taking.GivesFrame c.self.inside.deframer c.next.result c.next.follows.lender-at-none = c.next.follows.holds-at-none.1 in
     let shows = rw (← c.self.view_is) at shown in
     let given = rw c.in-Frame.is at gives in
-    event_given c.take.new.self past c.take.result (item_told c.tell-told.result) c.take.ensures.event
-    (item_shown _ c.take.new.self c.next.follows.lender-at-none past c.in-Frame.frame.now (item_told c.tell-told.result) shows
-    c.tell-told.ensures.item (given past.stream shows.frames shows.bytes).1 c.take.ensures.state)
+    event_given c.take.new.self past c.take.result (item_read c.read_source_frame-read.result) c.take.ensures.event
+    (item_shown _ c.take.new.self c.next.follows.lender-at-none past c.in-Frame.frame.now (item_read c.read_source_frame-read.result) shows
+    c.read_source_frame-read.ensures.item (given past.stream shows.frames shows.bytes).1 c.take.ensures.state)
 
 pub returns-in-Skipped-clause-gives : goal.returns-in-Skipped-clause-gives
 returns-in-Skipped-clause-gives c past shown =
@@ -65,7 +65,7 @@ returns-in-Frame-clause-holds c =
     let takes : taking.Takes c.self.inside.deframer c.next.result c.next.follows.lender-at-none = c.next.follows.holds-at-none.0 in
     let fewer = fewer_held c.self.inside.deframer c.next.follows.lender-at-none c.in-Frame.frame.now None (rw c.in-Frame.is at takes) in
     rw (← c.self.view_is)
-    (holds_fewer _ c.take.new.self c.take.result (item_told c.tell-told.result) c.take.ensures.event
+    (holds_fewer _ c.take.new.self c.take.result (item_read c.read_source_frame-read.result) c.take.ensures.event
     (rw (ap (λ (v : Linking). v.bytes) c.take.ensures.state) fewer))
 
 pub returns-in-Skipped-clause-holds : goal.returns-in-Skipped-clause-holds
@@ -95,7 +95,7 @@ returns-in-Broken-clause-holds c =
 pub returns-in-Frame-clause-counts : goal.returns-in-Frame-clause-counts
 returns-in-Frame-clause-counts c =
     rw (← c.self.view_is, ap (λ (v : Linking). v.stats) c.take.ensures.state)
-    (event_counted c.self.inside.stats c.take.result (item_told c.tell-told.result) c.take.ensures.event)
+    (event_counted c.self.inside.stats c.take.result (item_read c.read_source_frame-read.result) c.take.ensures.event)
 
 pub returns-in-Skipped-clause-counts : goal.returns-in-Skipped-clause-counts
 returns-in-Skipped-clause-counts c =

@@ -1,5 +1,5 @@
 use Rattle.std.proofs.Common.{◌≡◌, Some}
-use Rattle.pg_replay.specs.Printing.{Text}
+use Rattle.pg_lines.specs.Words.{Text}
 use Rattle.pg_replay.proofs.ReplayLaws.{SoFar}
 use Rattle.pg_replay.proofs.script.Script.answer_all.Given as goal
 

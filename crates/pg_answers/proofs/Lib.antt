@@ -1,0 +1,3 @@
+-- Lemmas of answers.
+pub mod PrintLaws
+pub mod EditLaws

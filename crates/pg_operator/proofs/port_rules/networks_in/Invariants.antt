@@ -1,0 +1,9 @@
+use Rattle.std.proofs.Common.{◌≡◌, drop}
+use Rattle.std.specs.Prelude.{option_map, ◌++◌}
+use Rattle.toml.specs.View.{items_view}
+use Rattle.pg_operator.specs.Setups.{each, network_text_in}
+use Rattle.pg_operator.proofs.port_rules.networks_in.Given as goal
+
+abbrev pub invariant-items : goal.invariant-items
+invariant-items l =
+    each network_text_in (items_view l.item-items) ≡ option_map (λ rest. l.networks.items ++ rest) (each network_text_in (items_view (drop l.item-index l.item-items)))

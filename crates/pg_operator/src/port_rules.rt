@@ -1,0 +1,152 @@
+//! The rules of a subscriber's port.
+ghost use Rattle.std.specs.Prelude.{◌≡◌, ◌⊎◌, ◌≤◌, IfOk, IfErr, option_map, codes, Some, None};
+ghost use Rattle.std.specs.Net.Addr.{ipv4_bits};
+ghost use Rattle.toml.specs.View.{view, table_view};
+ghost use Rattle.pg_operator.specs.Setups.{absent_or, change_in, change_of, port_rules_by, port_rules_of, host_text_in, list_of, network_text_in, optional, whole_in};
+
+use crate::{address, table};
+use pg_limits::{Allow, Network, OnChange};
+use pg_wire::{Refusal, SubId};
+use std::alloc::Global;
+use std::net::Ipv4Addr;
+use toml::{Table, Value};
+
+/// The hosts that may connect to a subscriber's port, when it is hung up, and what is done where the blocks of a stream change.
+#[derive(Debug, Drop)]
+pub struct PortRules {
+    /// The subscriber.
+    pub sub: SubId,
+    /// The address of this machine that the port is bound on; 0.0.0.0 for all of them.
+    pub address: Ipv4Addr,
+    /// The hosts that may connect.
+    pub allow: Allow,
+    /// Whether a new connection takes the place of the one that stands; else the new one is refused.
+    pub takeover: bool,
+    /// It is hung up where bytes wait and its socket took none for so many seconds: 1 to 3600, or 0 for never.
+    pub stall: u16,
+    /// It is hung up where it neither sent nor was sent a byte for so many seconds: 1 to 3600, or 0 for never.
+    pub idle: u16,
+    /// What is done where the effective blocks of a stream change while it is on.
+    pub change: OnChange,
+}
+
+/// The rules in a subscriber's table.
+pub(crate) fn port_rules_at(alloc: Global, sub: SubId, table: &Table) -> Result<PortRules, Refusal>
+    ensures ok { IfOk result (λ r. port_rules_by sub (table_view table.now) ≡ Some (port_rules_of r)) }
+    ensures err { IfErr result (λ r. (r ≡ Refusal.NoMemory) ⊎ ((r ≡ Refusal.BadSetup) × (port_rules_by sub (table_view table.now) ≡ None))) }
+{
+    let Some(address) = address_at(table) else {
+        return Err(Refusal::BadSetup);
+    };
+    let Some(takeover) = table::truth(table, "takeover", false) else {
+        return Err(Refusal::BadSetup);
+    };
+    let Some(stall) = seconds_at(table, "stall", 30) else {
+        return Err(Refusal::BadSetup);
+    };
+    let Some(idle) = seconds_at(table, "idle", 0) else {
+        return Err(Refusal::BadSetup);
+    };
+    let Some(change) = change_at(table) else {
+        return Err(Refusal::BadSetup);
+    };
+    match allow_at(alloc, table) {
+        Ok(allow) => Ok(PortRules {
+            sub,
+            address,
+            allow,
+            takeover,
+            stall,
+            idle,
+            change,
+        }),
+        Err(refusal) => Err(refusal),
+    }
+}
+
+/// The address that the port is bound on, 0.0.0.0 where it is left out.
+fn address_at(table: &Table) -> Option<Ipv4Addr>
+    ensures { option_map (λ h. ipv4_bits h) result ≡ optional 0 host_text_in (codes "address") (table_view table.now) }
+{
+    match table::value_at(table, "address") {
+        Some(value) => address::bound(value),
+        None => Some(Ipv4Addr::new(0, 0, 0, 0)),
+    }
+}
+
+/// A number of seconds, up to an hour.
+fn seconds_at(table: &Table, key: &str, otherwise: u16) -> Option<u16>
+    requires { otherwise ≤ 3600 }
+    ensures { result ≡ optional otherwise (whole_in 0 3600) key.now (table_view table.now) }
+{
+    match table::optional(table, key, u32::from(otherwise), 0, 3600) {
+        Some(seconds) => Some(seconds as u16),
+        None => None,
+    }
+}
+
+/// The word for what is done where the blocks of a stream change.
+fn change_of(word: &str) -> Option<OnChange>
+    ensures { result ≡ change_of word.now }
+{
+    match word {
+        "safe" => Some(OnChange::Safe),
+        "hangup" => Some(OnChange::HangUp),
+        "keep" => Some(OnChange::Keep),
+        _ => None,
+    }
+}
+
+/// A value that is such a word.
+pub(crate) fn change(value: &Value) -> Option<OnChange>
+    ensures { result ≡ change_in (view value.now) }
+{
+    match value {
+        Value::String(word) => change_of(word.as_str()),
+        _ => None,
+    }
+}
+
+/// What is done where the blocks of a stream change, `"safe"` where it is left out.
+fn change_at(table: &Table) -> Option<OnChange>
+    ensures { result ≡ optional OnChange.Safe change_in (codes "change") (table_view table.now) }
+{
+    match table::value_at(table, "change") {
+        Some(value) => change(value),
+        None => Some(OnChange::Safe),
+    }
+}
+
+/// The hosts that may connect, every host where the list is left out.
+fn allow_at(alloc: Global, table: &Table) -> Result<Allow, Refusal>
+    ensures ok { IfOk result (λ a. absent_or (list_of network_text_in) (codes "allow") (table_view table.now) ≡ Some (option_map (λ v. v.items) a.networks)) }
+    ensures err { IfErr result (λ r. (r ≡ Refusal.NoMemory) ⊎ ((r ≡ Refusal.BadSetup) × (absent_or (list_of network_text_in) (codes "allow") (table_view table.now) ≡ None))) }
+{
+    let Some(value) = table::value_at(table, "allow") else {
+        return Ok(Allow { networks: None });
+    };
+    match networks_in(alloc, value) {
+        Ok(networks) => Ok(Allow {
+            networks: Some(networks),
+        }),
+        Err(refusal) => Err(refusal),
+    }
+}
+
+/// The networks of a list.
+fn networks_in(alloc: Global, value: &Value) -> Result<Vec<Network>, Refusal>
+    ensures ok { IfOk result (λ v. list_of network_text_in (view value.now) ≡ Some v.items) }
+    ensures err { IfErr result (λ r. (r ≡ Refusal.NoMemory) ⊎ ((r ≡ Refusal.BadSetup) × (list_of network_text_in (view value.now) ≡ None))) }
+{
+    let Some(items) = value.as_array() else {
+        return Err(Refusal::BadSetup);
+    };
+    let mut networks = Vec::new(alloc);
+    'items: for item in items {
+        let Some(network) = address::network(item) else {
+            return Err(Refusal::BadSetup);
+        };
+        networks.push(network)?;
+    }
+    Ok(networks)
+}

@@ -1,8 +1,0 @@
-use Rattle.std.proofs.Common.{◌++◌, subst}
-use Rattle.pg_wire.specs.Check.{dividend, IsRemainder}
-use Rattle.pg_outcfg.specs.Fronts.{front_bytes, no_stamp}
-use Rattle.pg_outcfg.proofs.front.Front.check_with.Goals as goal
-
-pub returns : goal.returns
-returns c = c.check_behind.ensures (front_bytes c.args.self.now)
-    (subst (λ v. IsRemainder (dividend (front_bytes v ++ no_stamp)) c.self.inside.check) c.self.view_is c.self.invariant)
