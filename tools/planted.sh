@@ -44,7 +44,7 @@ RT_JOBS=$(python3 "$top/tools/jobs.py" 4)
 export RT_JOBS
 # shellcheck disable=SC2086 # the names are words
 rt ci $names > "$output" 2>&1 || true
-if ! grep -q '^[0-9]* passed, [0-9]* failed$' "$output"; then
+if ! grep -q '^[0-9]* passed, [0-9]* failed' "$output"; then
     # (rt takes a library that was built here where its sources are the same)
     for rlib in "$top"/crates/*/out/rlib; do
         [ ! -f "$rlib/stamp" ] || (crate=$(basename "${rlib%/out/rlib}") && mkdir -p "crates/$crate/out" && cp -R "$rlib" "crates/$crate/out/")
