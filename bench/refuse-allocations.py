@@ -11,7 +11,7 @@ PROGRAM is `pdcgw` as `rt run` left it in crates/pdcgw/out; a C compiler is need
 - `done MADE KEPT` with fewer kept than with memory: these frames are missing from what is handed out and are counted as a gap; each
   frame that is there has the bytes of the run with memory.
 
-Anything else is told, and the status is 1.
+Anything else is printed, and the status is 1.
 """
 import os
 import re
@@ -22,7 +22,7 @@ import tempfile
 HERE = os.path.dirname(os.path.abspath(__file__))
 ROWS = os.path.join(HERE, "..", "crates", "pdcgw_rows", "data")
 NO_MEMORY = (["refused 1 NoMemory"], ["ignored 1 NoMemory"])
-OUT_OF_MEMORY = "pdcgw: memory ran out; the system has to give more, or the setup to ask for less\npdcgw: 1 NoMemory\n"
+OUT_OF_MEMORY = "pdcgw: out of memory; give this machine more, or let the setup need less\npdcgw: 1 NoMemory\n"
 # A line that is no line of a script is answered by this: it stands behind each line and parts the answers.
 MARK = "refused 36 BadLine"
 
