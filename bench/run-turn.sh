@@ -1,7 +1,7 @@
 #!/bin/sh
 # Times a call of a turnstile beside a plain mutex of the standard library round the same counter. It proves and builds a
-# program over copies of pg_turn and pg_turn_law in a scratch folder (about three minutes), runs it, and prints for each measurement the
-# median of nine and their range, in nanoseconds a call, all threads taken together. Then it counts by strace the system calls of
+# program over copies of pg_turn and of pg_laws' counter in a scratch folder (about three minutes), runs it, and prints for each measurement
+# the median of nine and their range, in nanoseconds a call, all threads taken together. Then it counts by strace the system calls of
 # 1,000 calls and of 100,000, by one thread. It fails where the totals are wrong, where a call that nobody contends costs more
 # than twice the mutex, and where it makes a system call.
 set -eu
@@ -10,12 +10,15 @@ scratch=$(mktemp -d)
 trap 'rm -rf "$scratch"' EXIT
 mkdir "$scratch/crates"
 cp "$bench/../HANDLES" "$scratch/"
-printf 'pg_turn: atomic_table\npg_turn_law: pg_turn\nturn_cost: pg_turn pg_turn_law\n' > "$scratch/crates.txt"
-cp -R "$bench/../crates/pg_turn" "$bench/../crates/pg_turn_law" "$scratch/crates/"
+printf 'pg_turn: atomic_table\nturn_cost: pg_turn\n' > "$scratch/crates.txt"
+cp -R "$bench/../crates/pg_turn" "$scratch/crates/"
 # The gate reads every file *.rt and *.antt of the repository as a crate's, so the program lies under other names.
 program="$scratch/crates/turn_cost"
 mkdir -p "$program/src" "$program/specs" "$program/proofs/turn_often" "$program/proofs/measure"
 cp "$bench/turn_cost/main.rt.txt" "$program/src/main.rt"
+sed 's/Rattle\.pg_laws\./Rattle.turn_cost./' "$bench/../crates/pg_laws/src/counter.rt" > "$program/src/counter.rt"
+sed 's/Rattle\.pg_laws\./Rattle.turn_cost./' "$bench/../crates/pg_laws/specs/Totals.antt" > "$program/specs/Totals.antt"
+echo 'pub mod Totals' > "$program/specs/Lib.antt"
 cp "$bench/turn_cost/turn_often.antt.txt" "$program/proofs/turn_often/Invariants.antt"
 cp "$bench/turn_cost/measure.antt.txt" "$program/proofs/measure/Invariants.antt"
 cd "$scratch/crates/turn_cost"

@@ -1,10 +1,9 @@
-//! The queue of a subscriber, row by row; the memory that it keeps; and what a caller of it concludes.
+//! The queue of a subscriber, row by row, and the memory that it keeps.
 
 ghost use Rattle.std.specs.Prelude.{◌≡◌, ◌<◌, vec_len};
 
 use crate::asserts::same;
 use pg_ring::{OutQueue, RingBytes, RingSize};
-use pg_ring_law::three_into_one;
 use std::alloc::{AllocError, Global};
 use std::process::Abort;
 use std::test::*;
@@ -149,16 +148,4 @@ fn memory_is_kept(rt: HostRuntime) {
         }
         same(&rt, spare(&rt, &mut queue), 0);
     }
-}
-
-#[test]
-fn third_stands_alone(rt: HostRuntime) {
-    let alloc = rt.alloc();
-    let first = frame_of(&rt, alloc, 1, 1);
-    let second = frame_of(&rt, alloc, 2, 2);
-    let third = frame_of(&rt, alloc, 3, 3);
-    let queue = three_into_one(alloc, first, second, third).expect(&rt, "memory");
-    same(&rt, queue.frames(), 1);
-    assert!(rt; matches!(queue.frame_at(0), Some((frame, 2)) if frame == [0xAA, 0, 3].as_slice()));
-    same(&rt, queue.pending(), 0);
 }

@@ -1,11 +1,13 @@
-//! Tests of pg_session, pg_gateway, pg_ingest, pg_shared and pg_proof_service, as their callers see them. They stand in a crate of their
-//! own, so that the gate proves those crates once.
+//! Tests of pg_session, pg_gateway, pg_ingest, pg_shared and pg_laws, as their callers see them. They stand in a crate of their own, so
+//! that the gate proves those crates once.
 #![tactic(auto)]
 
 #[cfg(test)]
 mod asserts;
 #[cfg(test)]
 mod fixtures;
+#[cfg(test)]
+mod laws;
 #[cfg(test)]
 mod links;
 #[cfg(test)]

@@ -4,7 +4,7 @@ ghost use Rattle.std.specs.Prelude.{◌≡◌};
 use crate::asserts::same;
 use crate::fixtures::{key, octets, play, shared, streams, subscriber};
 use pg_fakes::{FakeReader, FakeWriter};
-use pg_proof_service::{Connection, Served, compare_services, link_calls, serve_both};
+use pg_laws::{Connection, Served, compare_services, link_calls, serve_both};
 use pg_shared::{Named, Seat, Shared, SharedGate};
 use std::alloc::Global;
 use std::marker::Brand;

@@ -1,8 +1,0 @@
-pub mod Blocks
-pub mod Listings
-pub mod Slots
-pub mod Layouts
-pub mod Turns
-pub mod Numbers
-pub mod Runs
-pub mod Taken

@@ -1,6 +1,0 @@
-use Rattle.pg_session_law.proofs.Runs.{head-told, frames-told, lengths-known}
-use Rattle.pg_session_law.proofs.Taken.{taken-read}
-use Rattle.pg_session_law.proofs.lengths_are_known.Goals as goal
-
-pub returns : goal.returns
-returns c = record { head = head-told; frames = frames-told; known = lengths-known; taken = taken-read }

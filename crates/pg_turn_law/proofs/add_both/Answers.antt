@@ -1,8 +1,0 @@
-use Rattle.pg_turn_law.proofs.Counting.{counts_both, counts_own}
-use Rattle.pg_turn_law.proofs.add_both.Goals as goal
-
-pub returns : goal.returns
-returns g c = let calls = c.call_both-one.result in let stand = c.call_both-one.ensures.both in record {
-  counts_own = counts_own c.args.first c.args.second calls.1 calls.2 calls.0.seen stand;
-  counts_both = counts_both c.args.first c.args.second calls.1 calls.2 calls.0.seen stand;
-}
