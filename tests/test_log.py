@@ -56,6 +56,26 @@ def test_lines_begin_with_their_priority_for_the_journal(bench):
         same([it[0] for it in found], [wanted[it[2]] for it in found], f"the priorities with {words}")
 
 
+def test_what_the_log_holds_back_is_written_at_the_end(bench):
+    """Alike lines are held back for a second and counted; those that `quit` finds held back are written with their count."""
+    pair = Pair(bench)
+    gateway = pair.run()
+    pair.start()
+    gateway.does("revoke 20 77", "refused 35 NotGranted")
+    revoked = "WARN subscriber 20: the grant of PMU 77/77 can't be revoked.*"
+    gateway.line(revoked)
+    for _ in range(6):
+        gateway.does("revoke 20 77", "refused 35 NotGranted")
+    gateway.does("revoke 1 77", "refused 35 NotGranted")
+    gateway.quit()
+    texts = [parts(it)[3] for it in gateway.log.lines]
+    held = [it for it in texts if it.startswith("subscriber 20: the grant of PMU 77/77")]
+    same(len(held), 2, "lines of the revocations")
+    expect(held[1].endswith("(6 times)"), f"not 6 times: {held[1]}")
+    same(sum(it.startswith("subscriber 1: the grant of PMU 77/77") for it in texts), 1, "lines of subscriber 1")
+    same(texts[-1], "the gateway has ended", "the last line")
+
+
 @takes(9)
 def test_the_time_of_a_line_is_that_of_its_event(bench):
     """A line is written up to 0.1 seconds after what it tells of, but its time is that of the event. (Alike lines are written once a second.)"""

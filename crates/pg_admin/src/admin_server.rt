@@ -1,7 +1,7 @@
-//! The worker that serves whoever looks in.
+//! The worker that serves the control socket, the page and the metrics.
 
 use crate::backend::AdminBackend;
-use crate::control_server::{ControlServer, SPEAKERS};
+use crate::control_server::{CLIENTS, ControlServer};
 use crate::http_server::HttpServer;
 use crate::snapshot_cache::SnapshotCache;
 use mio::net::{TcpListener, UnixListener};
@@ -22,13 +22,13 @@ const LONGEST_WAIT_MS: u64 = 1_000;
 const LINES: usize = 0;
 
 /// The token of the page; those of its connections follow it.
-const PAGE: usize = LINES + 1 + SPEAKERS;
+const PAGE: usize = LINES + 1 + CLIENTS;
 
 /// A worker that serves the control socket and the page. A turn waits until a socket is ready, or it is woken, or a
-/// connection has lasted as long as it may. Then each connection that is ready is served once. At most 8 connections write lines, and
-/// at most 16 look at the page or the metrics. For one more the client is closed that has been silent longest, and for 60 seconds at
+/// connection has lasted as long as it may. Then each connection that is ready is served once. At most 8 clients write lines, and
+/// at most 16 connections read the page or the metrics. For one more the client is closed that has been silent longest, and for 60 seconds at
 /// least, or the connection that has been idle longest, and for a second at least; without such a one it is answered `Busy`, or 503, and
-/// closed. Where the page is served, the clerk is asked once a second for what it shows.
+/// closed. Where the page is served, the backend is asked once a second for what it shows.
 #[derive(Drop)]
 pub struct AdminServer<'a, R: Wait + Clock + Net, C: AdminBackend + Drop> {
     rt: &'a R,
@@ -90,14 +90,14 @@ impl<'a, R: Wait + Clock + Net, C: AdminBackend + Drop> AdminServer<'a, R, C> {
         self.pages.open(listener, self.waiting.poll())
     }
 
-    /// Its clerk. All its sockets are closed.
+    /// Its backend. All its sockets are closed.
     pub fn into_backend(self) -> C {
         let AdminServer { backend, .. } = self;
         backend
     }
 
     /// How long a turn waits at most.
-    fn patience(&self) -> Duration {
+    fn next_timeout(&self) -> Duration {
         let mut most = Duration::from_millis(LONGEST_WAIT_MS);
         if let Some(left) = self.lines.left(self.now) {
             most = most.min(left);
@@ -119,13 +119,13 @@ impl<'a, R: Wait + Clock + Net, C: AdminBackend + Drop> AdminServer<'a, R, C> {
         }
     }
 
-    /// Those whose sockets the system names are served.
-    fn call_named(&mut self) {
+    /// Marks the sockets that the system reports as ready.
+    fn mark_named(&mut self) {
         for named in self.waiting.named() {
             if *named < PAGE {
-                self.lines.call(*named);
+                self.lines.named(*named);
             } else {
-                self.pages.call(*named);
+                self.pages.named(*named);
             }
         }
     }
@@ -133,15 +133,15 @@ impl<'a, R: Wait + Clock + Net, C: AdminBackend + Drop> AdminServer<'a, R, C> {
 
 impl<R: Wait + Clock + Net, C: AdminBackend + Drop> Work for AdminServer<'_, R, C> {
     fn turn(&mut self) -> bool {
-        let most = self.patience();
+        let most = self.next_timeout();
         self.waiting.wait(self.rt, self.journal, most);
         self.read_clock();
         if self.waiting.is_woken() {
             // It may be to stop, which is seen between turns, or an answer is there that a client awaits.
             drop(self.mailbox.take(self.rt, self.alloc));
-            self.lines.call_awaiting();
+            self.lines.wake_awaiting();
         }
-        self.call_named();
+        self.mark_named();
         let poll = self.waiting.poll();
         self.lines
             .turn(self.rt, poll, &mut self.backend, self.journal, self.now);

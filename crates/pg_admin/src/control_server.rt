@@ -1,20 +1,21 @@
 //! The clients that write lines at the control socket.
 
-use crate::acceptor::{ACCEPTED, Acceptor, tell};
 use crate::backend::AdminBackend;
+use crate::events::{log_error, log_event};
 use mio::net::{UnixListener, UnixStream};
 use mio::{Interest, Poll, Token};
-use pg_log::{Detail, Entry, Journal, LogEvent, Subject};
+use pg_log::{Journal, LogEvent};
+use pg_service::{ACCEPTED, Acceptor};
 use pg_status::{BUSY, ControlProtocol, Turned, place_for};
 use std::alloc::Global;
 use std::io;
-use std::io::{ErrorKind, Write};
+use std::io::Write;
 use std::rt::Clock;
 use std::sync::Wait;
 use std::time::{Duration, Instant};
 
 /// How many may write lines at a time.
-pub(crate) const SPEAKERS: usize = 8;
+pub(crate) const CLIENTS: usize = 8;
 
 /// How long a client has to have sent nothing before it is closed for one that connects, in seconds.
 const SILENT_SECONDS: u64 = 60;
@@ -23,7 +24,7 @@ const SILENT_SECONDS: u64 = 60;
 #[derive(Drop)]
 struct ControlClient {
     stream: UnixStream,
-    dialogue: ControlProtocol,
+    protocol: ControlProtocol,
     is_ready: bool,
 }
 
@@ -32,7 +33,7 @@ impl ControlClient {
     fn serve<C: AdminBackend>(&mut self, backend: &mut C, now: Instant) -> bool {
         let mut reader = &self.stream;
         let mut writer = &self.stream;
-        match self.dialogue.serve(&mut reader, &mut writer, backend, now) {
+        match self.protocol.serve(&mut reader, &mut writer, backend, now) {
             Turned::Waits => {
                 self.is_ready = false;
                 true
@@ -47,8 +48,8 @@ impl ControlClient {
 #[derive(Drop)]
 pub(crate) struct ControlServer {
     alloc: Global,
-    entrance: Option<Acceptor<UnixListener>>,
-    speakers: [Option<ControlClient>; SPEAKERS],
+    acceptor: Option<Acceptor<UnixListener>>,
+    clients: [Option<ControlClient>; CLIENTS],
     // The token of the listener; those of the connections follow it.
     first: usize,
 }
@@ -58,8 +59,8 @@ impl ControlServer {
     pub(crate) fn new(alloc: Global, first: usize) -> ControlServer {
         ControlServer {
             alloc,
-            entrance: None,
-            speakers: [None, None, None, None, None, None, None, None],
+            acceptor: None,
+            clients: [None, None, None, None, None, None, None, None],
             first,
         }
     }
@@ -68,40 +69,40 @@ impl ControlServer {
     pub(crate) fn open(&mut self, mut listener: UnixListener, poll: &Poll) -> io::Result<()> {
         poll.registry()
             .register(&mut listener, Token(self.first), Interest::READABLE)?;
-        self.entrance = Some(Acceptor::new(listener));
+        self.acceptor = Some(Acceptor::new(listener));
         Ok(())
     }
 
     /// The system names this token.
-    pub(crate) fn call(&mut self, token: usize) {
+    pub(crate) fn named(&mut self, token: usize) {
         if token == self.first {
-            if let Some(entrance) = &mut self.entrance {
-                entrance.call();
+            if let Some(acceptor) = &mut self.acceptor {
+                acceptor.timer.named();
             }
             return;
         }
         let place = token.wrapping_sub(self.first).wrapping_sub(1);
-        if let Some(Some(speaker)) = self.speakers.get_mut(place) {
-            speaker.is_ready = true;
+        if let Some(Some(client)) = self.clients.get_mut(place) {
+            client.is_ready = true;
         }
     }
 
     /// The worker was woken: answers that clients await may be there.
-    pub(crate) fn call_awaiting(&mut self) {
-        for speaker in self.speakers.iter_mut().flatten() {
-            if speaker.dialogue.is_awaiting() {
-                speaker.is_ready = true;
+    pub(crate) fn wake_awaiting(&mut self) {
+        for client in self.clients.iter_mut().flatten() {
+            if client.protocol.is_awaiting() {
+                client.is_ready = true;
             }
         }
     }
 
     /// How long until there is something to do though no socket is ready, if there is.
     pub(crate) fn left(&self, now: Instant) -> Option<Duration> {
-        if self.speakers.iter().flatten().any(|it| it.is_ready) {
+        if self.clients.iter().flatten().any(|it| it.is_ready) {
             return Some(Duration::ZERO);
         }
-        match &self.entrance {
-            Some(entrance) => entrance.left(now),
+        match &self.acceptor {
+            Some(acceptor) => acceptor.timer.left(now),
             None => None,
         }
     }
@@ -115,9 +116,9 @@ impl ControlServer {
         journal: &Journal,
         now: Instant,
     ) {
-        for place in self.speakers.iter_mut() {
+        for place in self.clients.iter_mut() {
             let stays = match place {
-                Some(speaker) if speaker.is_ready => speaker.serve(backend, now),
+                Some(client) if client.is_ready => client.serve(backend, now),
                 _ => true,
             };
             if !stays {
@@ -130,25 +131,19 @@ impl ControlServer {
     /// Accepts those that want to connect.
     fn accept<R: Wait + Clock>(&mut self, rt: &R, poll: &Poll, journal: &Journal, now: Instant) {
         for _ in 0..ACCEPTED {
-            let Some(entrance) = &mut self.entrance else {
+            let Some(acceptor) = &mut self.acceptor else {
                 return;
             };
-            if !entrance.is_due(now) {
+            if !acceptor.timer.is_due(now) {
                 return;
             }
-            match entrance.listener.accept() {
-                Ok((stream, _)) => {
-                    entrance.go_on();
-                    self.admit(rt, poll, journal, stream, now);
-                }
-                Err(error) if error.kind() == ErrorKind::WouldBlock => entrance.rest(),
+            let outcome = acceptor.listener.accept();
+            match acceptor.accepted(outcome, now) {
+                Ok(Some((stream, _))) => self.admit(rt, poll, journal, stream, now),
+                Ok(None) => return,
                 Err(error) => {
-                    entrance.put_off(now);
-                    let detail = Detail::of_error(&error);
-                    journal.tell(
-                        rt,
-                        Entry::new(LogEvent::NotAccepted, Subject::Nobody, detail),
-                    );
+                    log_error(rt, journal, LogEvent::NotAccepted, &error);
+                    return;
                 }
             }
         }
@@ -166,7 +161,7 @@ impl ControlServer {
     ) {
         let least = Duration::from_secs(SILENT_SECONDS);
         let Some(place) = place_for(&self.silent(now), least) else {
-            tell(rt, journal, LogEvent::ClientRefused);
+            log_event(rt, journal, LogEvent::ClientRefused);
             // A new connection has room for a line; one that has none is closed without it.
             let _ = (&stream).write(BUSY);
             return;
@@ -174,27 +169,27 @@ impl ControlServer {
         let token = Token(self.first.saturating_add(1).saturating_add(place));
         let both = Interest::READABLE | Interest::WRITABLE;
         if poll.registry().register(&mut stream, token, both).is_err() {
-            tell(rt, journal, LogEvent::SocketFault);
+            log_event(rt, journal, LogEvent::SocketFault);
             return;
         }
-        if let Some(taken) = self.speakers.get_mut(place) {
+        if let Some(taken) = self.clients.get_mut(place) {
             if taken.is_some() {
-                tell(rt, journal, LogEvent::SilentClientClosed);
+                log_event(rt, journal, LogEvent::SilentClientClosed);
             }
             *taken = Some(ControlClient {
                 stream,
-                dialogue: ControlProtocol::new(self.alloc, now),
+                protocol: ControlProtocol::new(self.alloc, now),
                 is_ready: true,
             });
         }
     }
 
     /// For how long the client of each place has been silent.
-    fn silent(&self, now: Instant) -> [Duration; SPEAKERS] {
-        let mut silent = [Duration::MAX; SPEAKERS];
-        for (silent, speaker) in silent.iter_mut().zip(self.speakers.iter()) {
-            if let Some(speaker) = speaker {
-                *silent = speaker.dialogue.silent(now);
+    fn silent(&self, now: Instant) -> [Duration; CLIENTS] {
+        let mut silent = [Duration::MAX; CLIENTS];
+        for (silent, client) in silent.iter_mut().zip(self.clients.iter()) {
+            if let Some(client) = client {
+                *silent = client.protocol.silent(now);
             }
         }
         silent

@@ -1,14 +1,14 @@
 //! The connections that look at the page or read the metrics.
 
-use crate::acceptor::{ACCEPTED, Acceptor, tell};
+use crate::events::{log_error, log_event};
 use crate::snapshot_cache::SnapshotCache;
 use mio::net::{TcpListener, TcpStream};
 use mio::{Interest, Poll, Token};
-use pg_log::{Detail, Entry, Journal, LogEvent, Subject};
+use pg_log::{Journal, LogEvent};
+use pg_service::{ACCEPTED, Acceptor};
 use pg_status::{HttpExchange, Step, place_for};
 use std::alloc::{AllocError, Global};
 use std::io;
-use std::io::ErrorKind;
 use std::net::Shutdown;
 use std::rt::Clock;
 use std::sync::Wait;
@@ -77,9 +77,9 @@ impl HttpConnection {
 #[derive(Drop)]
 pub(crate) struct HttpServer {
     alloc: Global,
-    entrance: Option<Acceptor<TcpListener>>,
+    acceptor: Option<Acceptor<TcpListener>>,
     // Those that are served, and behind these those that are answered 503.
-    visitors: Vec<Option<HttpConnection>>,
+    connections: Vec<Option<HttpConnection>>,
     // Where the next one goes that is answered 503, counted behind those that are served.
     next: usize,
     // The token of the listener; those of the connections follow it.
@@ -89,14 +89,14 @@ pub(crate) struct HttpServer {
 impl HttpServer {
     /// Nothing is shown.
     pub(crate) fn new(alloc: Global, first: usize) -> io::Result<HttpServer> {
-        let mut visitors = Vec::with_capacity(alloc, SERVED + TURNED_AWAY)?;
+        let mut connections = Vec::with_capacity(alloc, SERVED + TURNED_AWAY)?;
         for _ in 0..SERVED + TURNED_AWAY {
-            visitors.push(None)?;
+            connections.push(None)?;
         }
         Ok(HttpServer {
             alloc,
-            entrance: None,
-            visitors,
+            acceptor: None,
+            connections,
             next: 0,
             first,
         })
@@ -106,40 +106,45 @@ impl HttpServer {
     pub(crate) fn open(&mut self, mut listener: TcpListener, poll: &Poll) -> io::Result<()> {
         poll.registry()
             .register(&mut listener, Token(self.first), Interest::READABLE)?;
-        self.entrance = Some(Acceptor::new(listener));
+        self.acceptor = Some(Acceptor::new(listener));
         Ok(())
     }
 
     /// Whether the page is served.
     pub(crate) fn is_open(&self) -> bool {
-        self.entrance.is_some()
+        self.acceptor.is_some()
     }
 
     /// The system names this token.
-    pub(crate) fn call(&mut self, token: usize) {
+    pub(crate) fn named(&mut self, token: usize) {
         if token == self.first {
-            if let Some(entrance) = &mut self.entrance {
-                entrance.call();
+            if let Some(acceptor) = &mut self.acceptor {
+                acceptor.timer.named();
             }
             return;
         }
         let place = token.wrapping_sub(self.first).wrapping_sub(1);
-        if let Some(Some(visitor)) = self.visitors.get_mut(place) {
-            visitor.is_ready = true;
+        if let Some(Some(connection)) = self.connections.get_mut(place) {
+            connection.is_ready = true;
         }
     }
 
     /// How long until there is something to do though no socket is ready, if there is.
     pub(crate) fn left(&self, now: Instant) -> Option<Duration> {
-        let waited = match &self.entrance {
-            Some(entrance) => entrance.left(now),
+        let waited = match &self.acceptor {
+            Some(acceptor) => acceptor.timer.left(now),
             None => None,
         };
-        let visited = self.visitors.iter().flatten().map(|it| it.left(now)).min();
-        match (waited, visited) {
-            (Some(waited), Some(visited)) => Some(waited.min(visited)),
+        let served = self
+            .connections
+            .iter()
+            .flatten()
+            .map(|it| it.left(now))
+            .min();
+        match (waited, served) {
+            (Some(waited), Some(served)) => Some(waited.min(served)),
             (waited, None) => waited,
-            (None, visited) => visited,
+            (None, served) => served,
         }
     }
 
@@ -153,9 +158,9 @@ impl HttpServer {
         journal: &Journal,
         now: Instant,
     ) {
-        for place in self.visitors.iter_mut() {
+        for place in self.connections.iter_mut() {
             let stays = match place {
-                Some(visitor) if visitor.left(now).is_zero() => visitor.serve(cache, now),
+                Some(connection) if connection.left(now).is_zero() => connection.serve(cache, now),
                 _ => true,
             };
             if !stays {
@@ -168,25 +173,19 @@ impl HttpServer {
     /// Accepts those that want to connect.
     fn accept<R: Wait + Clock>(&mut self, rt: &R, poll: &Poll, journal: &Journal, now: Instant) {
         for _ in 0..ACCEPTED {
-            let Some(entrance) = &mut self.entrance else {
+            let Some(acceptor) = &mut self.acceptor else {
                 return;
             };
-            if !entrance.is_due(now) {
+            if !acceptor.timer.is_due(now) {
                 return;
             }
-            match entrance.listener.accept() {
-                Ok((stream, _)) => {
-                    entrance.go_on();
-                    self.admit(rt, poll, journal, stream, now);
-                }
-                Err(error) if error.kind() == ErrorKind::WouldBlock => entrance.rest(),
+            let outcome = acceptor.listener.accept();
+            match acceptor.accepted(outcome, now) {
+                Ok(Some((stream, _))) => self.admit(rt, poll, journal, stream, now),
+                Ok(None) => return,
                 Err(error) => {
-                    entrance.put_off(now);
-                    let detail = Detail::of_error(&error);
-                    journal.tell(
-                        rt,
-                        Entry::new(LogEvent::NotAccepted, Subject::Nobody, detail),
-                    );
+                    log_error(rt, journal, LogEvent::NotAccepted, &error);
+                    return;
                 }
             }
         }
@@ -207,17 +206,17 @@ impl HttpServer {
             return;
         };
         if place >= SERVED {
-            tell(rt, journal, LogEvent::PageBusy);
+            log_event(rt, journal, LogEvent::PageBusy);
         }
         let token = Token(self.first.saturating_add(1).saturating_add(place));
         let both = Interest::READABLE | Interest::WRITABLE;
         if poll.registry().register(&mut stream, token, both).is_err() {
-            tell(rt, journal, LogEvent::SocketFault);
+            log_event(rt, journal, LogEvent::SocketFault);
             return;
         }
-        if let Some(taken) = self.visitors.get_mut(place) {
+        if let Some(taken) = self.connections.get_mut(place) {
             if place < SERVED && taken.is_some() {
-                tell(rt, journal, LogEvent::IdlePageClosed);
+                log_event(rt, journal, LogEvent::IdlePageClosed);
             }
             *taken = Some(HttpConnection {
                 stream,
@@ -241,9 +240,9 @@ impl HttpServer {
     /// For how long the connection of each place has been idle, of those that are served.
     fn idle(&self, now: Instant) -> [Duration; SERVED] {
         let mut idle = [Duration::MAX; SERVED];
-        for (idle, visitor) in idle.iter_mut().zip(self.visitors.iter()) {
-            if let Some(visitor) = visitor {
-                *idle = visitor.exchange.idle(now);
+        for (idle, connection) in idle.iter_mut().zip(self.connections.iter()) {
+            if let Some(connection) = connection {
+                *idle = connection.exchange.idle(now);
             }
         }
         idle

@@ -57,8 +57,8 @@ fn listen_by(
     let socket = format!(in alloc; "{folder}/s")?;
     let socket = socket.as_str();
     if socket.len() > PATH_BYTES {
-        let told = "the path is too long for a socket";
-        return Err(io::Error::new(ErrorKind::InvalidFilename, told));
+        let reason = "the path is too long for a socket";
+        return Err(io::Error::new(ErrorKind::InvalidFilename, reason));
     }
     let mut builder = DirBuilder::new();
     builder.mode(ENTERED_BY_OWNER);

@@ -2,9 +2,10 @@
 
 use crate::service_handle::ServiceHandle;
 use crate::snapshot::seen_by;
-use pg_answers::{NotPrinted, print_refusal, print_reply, read_edit, without_end};
 use pg_gateway::{Edit, Gate, Reply};
-use pg_lines::{Steer, parse_steer};
+use pg_lines::{
+    NotPrinted, Steer, parse_steer, print_refusal, print_reply, read_edit, without_end,
+};
 use pg_log::{Asked, Detail, Entry, LogEvent, Subject};
 use pg_service::{Change, MeteredGate};
 use pg_shared::event_of;
@@ -209,7 +210,7 @@ impl<'a, W: Write> Console<'a, W> {
     fn log_edit<R: Wait + Clock>(&self, rt: &R, asked: Option<(Subject, Asked)>, reply: &Reply) {
         if let Some((subject, asked)) = asked {
             let entry = entry_of(subject, asked, refusal_in(reply));
-            self.service.handles.journal.tell(rt, entry);
+            self.service.handles.journal.log(rt, entry);
         }
     }
 

@@ -34,7 +34,7 @@ pub struct ServiceHandle<'a> {
 }
 
 impl ServiceHandle<'_> {
-    /// Notes what was met.
+    /// Counts this event.
     pub(crate) fn note(&self, event: LogEvent) {
         self.handles.journal.note(event);
     }
@@ -47,7 +47,7 @@ impl ServiceHandle<'_> {
     /// Ends all workers, and logs that.
     pub(crate) fn end<R: Wait + Clock>(&self, rt: &R) {
         let journal = self.handles.journal;
-        journal.tell(
+        journal.log(
             rt,
             Entry::new(LogEvent::Quit, Subject::Nobody, Detail::Nothing),
         );

@@ -91,21 +91,6 @@ impl Grants {
         place_of(&self.keys, &key).is_ok()
     }
 
-    /// The same of a PMU that is guessed to stand at the place `next`, behind the last one at the first, or else right before it: where it
-    /// does there is no search. `next` is then the place behind the one where it was found, so that PMUs which are asked for in their
-    /// order, and one that is asked for again, are found at once.
-    pub fn holds_next(&self, key: PmuKey, next: &mut usize) -> bool
-        ensures value { result ≡ has_key self.now key }
-    {
-        match place_near(&self.keys, &key, *next) {
-            Ok(place) => {
-                *next = place + 1;
-                true
-            }
-            Err(_) => false,
-        }
-    }
-
     /// The granted PMUs, by source and then by PMU.
     pub fn sorted(&self) -> &[PmuKey]
         ensures value { result.now ≡ self.now }
@@ -137,23 +122,6 @@ fn place_of(keys: &[PmuKey], key: &PmuKey) -> Result<usize, usize>
     ensures absent { IfErr result (IsGapFor keys.now key.now) }
 {
     keys.binary_search(key)
-}
-
-/// The same, for a key that may well stand at the place `guess`, behind the last one at the first, or else right before it.
-fn place_near(keys: &[PmuKey], key: &PmuKey, guess: usize) -> Result<usize, usize>
-    requires rising { IsRising keys.now }
-    ensures found { IfOk result (IsAt keys.now key.now) }
-    ensures absent { IfErr result (IsGapFor keys.now key.now) }
-{
-    let next = if guess < keys.len() { guess } else { 0 };
-    if next < keys.len() && *key == keys[next] {
-        return Ok(next);
-    }
-    let last = guess.saturating_sub(1);
-    if last < keys.len() && *key == keys[last] {
-        return Ok(last);
-    }
-    place_of(keys, key)
 }
 
 /// Puts a key at a place, in room that is there.

@@ -34,20 +34,6 @@ fn limits_and_refusals(rt: HostRuntime) {
     same(&rt, grants.sorted().first(), Some(&first));
 }
 
-/// PMUs that are asked for in their order are each found at the place that was left.
-#[test]
-fn grants_in_order(rt: HostRuntime) {
-    let mut grants = Grants::new(rt.alloc()).expect(&rt, "memory");
-    let mut next = 0;
-    for pmu in 1..9u16 {
-        grants.grant(key(&rt, 7, pmu)).expect(&rt, "room");
-    }
-    for pmu in 1..9u16 {
-        assert!(rt; grants.holds_next(key(&rt, 7, pmu), &mut next));
-        same(&rt, next, usize::from(pmu));
-    }
-}
-
 /// PMUs in order of registration.
 #[test]
 fn registered(rt: HostRuntime) {

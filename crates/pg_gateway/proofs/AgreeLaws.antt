@@ -17,7 +17,7 @@ use Rattle.pg_registry.specs.Registered.{Pmu, Pmus, IsRegistry, pmu_of, config_i
 use Rattle.pg_registry.proofs.Staying.{apart-changed, found-changed, found-dropped}
 use Rattle.pg_session.specs.Events as event
 use Rattle.pg_session.specs.Events.{SubscriberEvent, Announcing, Sample}
-use Rattle.pg_session.specs.Private.{Told, done, refused, handed, put_first, next, effect, turned}
+use Rattle.pg_session.specs.Private.{ReplyValue, done, refused, handed, put_first, next, effect, turned}
 use Rattle.pg_session.specs.Shown.{Model}
 use Rattle.pg_session.specs.ByAll.{by_arrivals, by_numbers}
 use Rattle.pg_gateway.specs.Judging.{block_counted, blocks_counted, memory_counted}
@@ -162,7 +162,7 @@ granted_agrees pmus keys listed key k none room is =
         ∙ ap (λ b. if b || true then config_in pmus k else None) (sym (not_held same))
     by (Some c) e false same = at-with listed key c k ∙ ap (λ b. if b then Some c else config_at listed k) same ∙ is ∙ others
 
-pub grant_agrees : (pmus : Pmus) (p : Model) (key : PmuKey) (t : Told) → (has_room p.grants key ≡ false → t ≡ refused GrantsFull) → AgreesWith pmus p
+pub grant_agrees : (pmus : Pmus) (p : Model) (key : PmuKey) (t : ReplyValue) → (has_room p.grants key ≡ false → t ≡ refused GrantsFull) → AgreesWith pmus p
     → AgreesWith pmus (next by_arrivals by_numbers p (event.grant key (config_in pmus key)) t)
 grant_agrees pmus p key t full is = by_room (has_room p.grants key) refl
   where
@@ -177,7 +177,7 @@ grant_agrees pmus p key t full is = by_room (has_room p.grants key) refl
           listed = λ k. granted_agrees pmus p.grants p.listed key k held room (is.listed k);
         }
 
-    by_told : has_room p.grants key ≡ true → (t : Told) → AgreesWith pmus (next by_arrivals by_numbers p (event.grant key (config_in pmus key)) t)
+    by_told : has_room p.grants key ≡ true → (t : ReplyValue) → AgreesWith pmus (next by_arrivals by_numbers p (event.grant key (config_in pmus key)) t)
     by_told room (done made kept) = effects room kept
     by_told room (refused r) = is
     by_told room (handed bytes begun gap) = effects room 0

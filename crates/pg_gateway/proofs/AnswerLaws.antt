@@ -10,14 +10,14 @@ use Rattle.pg_registry.specs.Registered.{has_key}
 use Rattle.pg_session.specs.Events as event
 use Rattle.pg_session.specs.Events.{SubscriberEvent}
 use Rattle.pg_session.specs.Private as private
-use Rattle.pg_session.specs.Private.{Told, done, refused, handed, frames_of}
+use Rattle.pg_session.specs.Private.{done, refused, frames_of}
 use Rattle.pg_session.specs.Shown.{Model}
 use Rattle.pg_session.specs.ByAll.{by_arrivals, by_numbers}
-use Rattle.pg_gateway.specs.GatewayEvents.{GatewayEvent, add_pmu, drop_pmu, add_sub, drop_sub, grant, asks, announce, measure, tick, stats, pmu_stats, audit, standing, who_waits, Answer, tells}
+use Rattle.pg_gateway.specs.GatewayEvents.{GatewayEvent, add_pmu, drop_pmu, add_sub, drop_sub, grant, asks, announce, measure, tick, Answer, tells, inquires, stats, pmu_stats, audit, standing, who_waits}
 use Rattle.pg_gateway.specs.Judging.{registered_of}
 use Rattle.pg_gateway.specs.Sharing.{SubscriberSlot, SubscriberSlots, Broadcast, revokes, announces, measures, ticks, share, total}
 use Rattle.pg_gateway.specs.State.{SharedMachine, slot_of, own_of, granting, taken_in, refusal, takes_memory, Target, to_all, to_one, adds, drops, to_none, unless, target, frames_reached, made, own_frames, own_answer, reached_answer, answer, May}
-use Rattle.pg_gateway.specs.Views.{Seen, begins, ends, takes, unless_refused, full_told, private_step, private_run, handed_by, handed_at, handed_in, full_by, full_answer, shared_step, full_answers, as_seen, part_of, part, view, handed_one, handed_to, Lossless}
+use Rattle.pg_gateway.specs.Views.{ViewEvent, begins, ends, takes, unless_refused, full_told, private_step, private_run, handed_by, handed_at, handed_in, full_by, full_answer, shared_step, full_answers, as_seen, part_of, part, view, handed_one, handed_to, Lossless}
 use Rattle.pg_gateway.proofs.SlotLaws.{owned, Alone}
 use Rattle.pg_gateway.proofs.ShareLaws.{share_quiet}
 use Rattle.pg_gateway.proofs.ViewLaws.{full_own, own_full, Alone-next, own-step}
@@ -63,11 +63,11 @@ kept S (asks w x) k le full = ap tells (reached_kept (target S (asks w x)) S.sub
 kept S (announce config) k le full = ap tells (reached_kept (target S (announce config)) S.subs k le full)
 kept S (measure m) k le full = ap tells (reached_kept (target S (measure m)) S.subs k le full)
 kept S (tick soc) k le full = ap tells (reached_kept (target S (tick soc)) S.subs k le full)
-kept S (stats w) k le full = refl
-kept S (pmu_stats key) k le full = refl
-kept S (who_waits us) k le full = refl
-kept S (audit w index) k le full = refl
-kept S (standing w place) k le full = refl
+kept S (inquires (stats w)) k le full = refl
+kept S (inquires (pmu_stats key)) k le full = refl
+kept S (inquires (who_waits us)) k le full = refl
+kept S (inquires (audit w index)) k le full = refl
+kept S (inquires (standing w place)) k le full = refl
 
 -- an answer that may come and tells no loss is the full one
 pub lossless_full : (S : SharedMachine) (e : GatewayEvent) (a : Answer) → May S e a → Lossless a → a ≡ full_answer S e
@@ -81,7 +81,7 @@ lossless_full S e a may full = by (refusal S e) may
     by (Some r) m = m
 
 -- what is handed out, event by event
-handed_in-append : (o : Option Model) (xs ys : List Seen) → handed_in o (xs ++ ys) ≡ handed_in o xs ++ handed_in (private_run o xs) ys
+handed_in-append : (o : Option Model) (xs ys : List ViewEvent) → handed_in o (xs ++ ys) ≡ handed_in o xs ++ handed_in (private_run o xs) ys
 handed_in-append o [] ys = refl
 handed_in-append o (x ∷ xs) ys = ap (λ fs. handed_at o x ++ fs) (handed_in-append (private_step o x) xs ys) ∙ sym (append_assoc (handed_at o x) _ _)
 
@@ -172,11 +172,7 @@ handed-step u S (announce config) =
 handed-step u S (measure m) =
     sym (silent_part u (own_of u S) (target S (measure m)) (silent_unless (refusal S (measure m)) (to_all (measures m.soc m.quality m.frac (taken_in S m))) tt))
 handed-step u S (tick soc) = sym (silent_part u (own_of u S) (to_all (ticks soc)) tt)
-handed-step u S (stats w) = refl
-handed-step u S (pmu_stats key) = refl
-handed-step u S (who_waits us) = refl
-handed-step u S (audit w index) = refl
-handed-step u S (standing w place) = refl
+handed-step u S (inquires q) = refl
 
 pub handed-run : (u : ℕ) (S : SharedMachine) (es : List GatewayEvent) → Alone S.subs → handed_to u es (full_answers S es) ≡ handed_in (own_of u S) (view u S es)
 handed-run u S [] alone = refl

@@ -15,45 +15,45 @@ use Rattle.pg_session.specs.Standing.{standing_of}
 use Rattle.pg_ring.specs.Shown.{frames_to_leave}
 use Rattle.pg_gateway.specs.Related.{Related}
 use Rattle.pg_gateway.specs.Sharing.{SubscriberSlot, SubscriberSlots}
-use Rattle.pg_gateway.specs.GatewayEvents.{stats, pmu_stats, audit, standing, who_waits, tells, sub_counts, pmu_counts, entry, stands, those_waiting}
+use Rattle.pg_gateway.specs.GatewayEvents.{stats, pmu_stats, audit, standing, who_waits, tells, sub_counts, pmu_counts, entry, stands, those_waiting, inquires}
 use Rattle.pg_gateway.specs.State.{SharedMachine, slot_of, has_waiting, waiting_among}
 use Rattle.pg_gateway.specs.Shown.{SlotValue, SlotShows, GatewayValue, GatewayShows, Steps, slot_waits}
 use Rattle.pg_gateway.proofs.RelatedLaws.{lookup-none, lookup-some}
 
-pub stats_none : (u : ℕ) (S : SharedMachine) (v : GatewayValue) → GatewayShows v S → slot_of u S.subs ≡ None → Steps S (stats u) (tells (refused NoSuchSub)) v
+pub stats_none : (u : ℕ) (S : SharedMachine) (v : GatewayValue) → GatewayShows v S → slot_of u S.subs ≡ None → Steps S (inquires (stats u)) (tells (refused NoSuchSub)) v
 stats_none u S v shown none = record { may = rw none refl; shows = record { pmus = shown.pmus; subs = shown.subs; last_tick = shown.last_tick } }
 
-pub stats_some : (u : ℕ) (S : SharedMachine) (v : GatewayValue) (s : SubscriberSlot) (st : Stats) → GatewayShows v S → slot_of u S.subs ≡ Some s → st ≡ s.own.output.stats → Steps S (stats u) (sub_counts st) v
+pub stats_some : (u : ℕ) (S : SharedMachine) (v : GatewayValue) (s : SubscriberSlot) (st : Stats) → GatewayShows v S → slot_of u S.subs ≡ Some s → st ≡ s.own.output.stats → Steps S (inquires (stats u)) (sub_counts st) v
 stats_some u S v s st shown there is =
     record {
       may = rw there (inl (0, omega arith, ap sub_counts is));
       shows = record { pmus = shown.pmus; subs = shown.subs; last_tick = shown.last_tick };
     }
 
-pub audit_none : (u index : ℕ) (S : SharedMachine) (v : GatewayValue) → GatewayShows v S → slot_of u S.subs ≡ None → Steps S (audit u index) (tells (refused NoSuchSub)) v
+pub audit_none : (u index : ℕ) (S : SharedMachine) (v : GatewayValue) → GatewayShows v S → slot_of u S.subs ≡ None → Steps S (inquires (audit u index)) (tells (refused NoSuchSub)) v
 audit_none u index S v shown none = record { may = rw none refl; shows = record { pmus = shown.pmus; subs = shown.subs; last_tick = shown.last_tick } }
 
-pub audit_some : (u index : ℕ) (S : SharedMachine) (v : GatewayValue) (s : SubscriberSlot) (e : Option Entry) → GatewayShows v S → slot_of u S.subs ≡ Some s → e ≡ newest_at s.noted index → Steps S (audit u index) (entry e) v
+pub audit_some : (u index : ℕ) (S : SharedMachine) (v : GatewayValue) (s : SubscriberSlot) (e : Option Entry) → GatewayShows v S → slot_of u S.subs ≡ Some s → e ≡ newest_at s.noted index → Steps S (inquires (audit u index)) (entry e) v
 audit_some u index S v s e shown there is =
     record {
       may = rw there (inl (0, omega arith, ap entry is));
       shows = record { pmus = shown.pmus; subs = shown.subs; last_tick = shown.last_tick };
     }
 
-pub standing_none : (u place : ℕ) (S : SharedMachine) (v : GatewayValue) → GatewayShows v S → slot_of u S.subs ≡ None → Steps S (standing u place) (tells (refused NoSuchSub)) v
+pub standing_none : (u place : ℕ) (S : SharedMachine) (v : GatewayValue) → GatewayShows v S → slot_of u S.subs ≡ None → Steps S (inquires (standing u place)) (tells (refused NoSuchSub)) v
 standing_none u place S v shown none = record { may = rw none refl; shows = record { pmus = shown.pmus; subs = shown.subs; last_tick = shown.last_tick } }
 
-pub standing_some : (u place : ℕ) (S : SharedMachine) (v : GatewayValue) (s : SubscriberSlot) (st : Standing) → GatewayShows v S → slot_of u S.subs ≡ Some s → st ≡ standing_of s.own place → Steps S (standing u place) (stands st) v
+pub standing_some : (u place : ℕ) (S : SharedMachine) (v : GatewayValue) (s : SubscriberSlot) (st : Standing) → GatewayShows v S → slot_of u S.subs ≡ Some s → st ≡ standing_of s.own place → Steps S (inquires (standing u place)) (stands st) v
 standing_some u place S v s st shown there is =
     record {
       may = rw there (inl (0, omega arith, ap stands is));
       shows = record { pmus = shown.pmus; subs = shown.subs; last_tick = shown.last_tick };
     }
 
-pub pmu_stats_none : (key : PmuKey) (S : SharedMachine) (v : GatewayValue) → GatewayShows v S → pmu_of S.pmus key ≡ None → Steps S (pmu_stats key) (tells (refused NoSuchPmu)) v
+pub pmu_stats_none : (key : PmuKey) (S : SharedMachine) (v : GatewayValue) → GatewayShows v S → pmu_of S.pmus key ≡ None → Steps S (inquires (pmu_stats key)) (tells (refused NoSuchPmu)) v
 pmu_stats_none key S v shown none = record { may = rw none refl; shows = record { pmus = shown.pmus; subs = shown.subs; last_tick = shown.last_tick } }
 
-pub pmu_stats_some : (key : PmuKey) (S : SharedMachine) (v : GatewayValue) (pmu : Pmu) (st : PmuStats) → GatewayShows v S → pmu_of S.pmus key ≡ Some pmu → st ≡ pmu.stats → Steps S (pmu_stats key) (pmu_counts st) v
+pub pmu_stats_some : (key : PmuKey) (S : SharedMachine) (v : GatewayValue) (pmu : Pmu) (st : PmuStats) → GatewayShows v S → pmu_of S.pmus key ≡ Some pmu → st ≡ pmu.stats → Steps S (inquires (pmu_stats key)) (pmu_counts st) v
 pmu_stats_some key S v pmu st shown there is =
     record {
       may = rw there (inl (0, omega arith, ap pmu_counts is));
@@ -79,7 +79,7 @@ waiting_alike (u ∷ us) xs slots h =
     ∙ ap (λ l. if has_waiting (slot_of u slots) then u ∷ l else l) (waiting_alike us xs slots h)
 
 pub waiting_told : (us found : List ℕ) (S : SharedMachine) (v : GatewayValue) → GatewayShows v S
-    → found ≡ filter (λ u. slot_waits (lookup (nat_eq u) v.subs)) us → Steps S (who_waits us) (those_waiting found) v
+    → found ≡ filter (λ u. slot_waits (lookup (nat_eq u) v.subs)) us → Steps S (inquires (who_waits us)) (those_waiting found) v
 waiting_told us found S v shown is =
     record {
       may = inl (0, omega arith, ap those_waiting (is ∙ waiting_alike us v.subs S.subs shown.subs));

@@ -5,10 +5,10 @@ use Rattle.pg_registry.specs.Registered.{Pmu, pmu_of}
 use Rattle.pg_session.specs.Events as own
 use Rattle.pg_session.specs.Events.{SubscriberEvent}
 use Rattle.pg_session.specs.Private as private
-use Rattle.pg_session.specs.Private.{Told, refused}
+use Rattle.pg_session.specs.Private.{ReplyValue, refused}
 use Rattle.pg_session.specs.Shown.{Model}
 use Rattle.pg_session.specs.ByAll.{by_arrivals, by_numbers}
-use Rattle.pg_gateway.specs.GatewayEvents.{GatewayEvent, add_pmu, drop_pmu, add_sub, drop_sub, grant, asks, announce, measure, tick, stats, pmu_stats, audit, standing, who_waits, Answer, tells}
+use Rattle.pg_gateway.specs.GatewayEvents.{GatewayEvent, add_pmu, drop_pmu, add_sub, drop_sub, grant, asks, announce, measure, tick, stats, pmu_stats, audit, standing, who_waits, Answer, tells, inquires}
 use Rattle.pg_gateway.specs.Sharing.{SubscriberSlot, SubscriberSlots}
 use Rattle.pg_gateway.specs.State.{SharedMachine, Target, to_all, to_one, adds, drops, to_none, target, takes_memory, own_answer, reached_answer, stats_answer, pmu_answer, audit_answer, standing_answer, slot_of, made, answer}
 use Rattle.pg_gateway.specs.Shown.{GatewayValue, Goes}
@@ -39,7 +39,7 @@ target_answered (adds u size bytes last) slots k e = cc
 target_answered (drops u) slots k e = cc
 target_answered to_none slots k e = cc
 
-told_in : (t r : Told) → tells t ≡ tells r → t ≡ r
+told_in : (t r : ReplyValue) → tells t ≡ tells r → t ≡ r
 told_in t r e = cc
 
 stats_answered : (o : Option SubscriberSlot) → stats_answer o ≡ tells (refused NoMemory) → ⊥
@@ -68,11 +68,11 @@ answered S (asks u x) k is = target_answered (target S (asks u x)) S.subs k (tol
 answered S (announce config) k is = target_answered (target S (announce config)) S.subs k (told_in _ _ is)
 answered S (measure m) k is = target_answered (target S (measure m)) S.subs k (told_in _ _ is)
 answered S (tick soc) k is = target_answered (target S (tick soc)) S.subs k (told_in _ _ is)
-answered S (stats u) k is = stats_answered (slot_of u S.subs) is
-answered S (pmu_stats key) k is = pmu_answered (pmu_of S.pmus key) is
-answered S (who_waits us) k is = cc
-answered S (audit u index) k is = audit_answered (slot_of u S.subs) index is
-answered S (standing u place) k is = standing_answered (slot_of u S.subs) place is
+answered S (inquires (stats u)) k is = stats_answered (slot_of u S.subs) is
+answered S (inquires (pmu_stats key)) k is = pmu_answered (pmu_of S.pmus key) is
+answered S (inquires (who_waits us)) k is = cc
+answered S (inquires (audit u index)) k is = audit_answered (slot_of u S.subs) index is
+answered S (inquires (standing u place)) k is = standing_answered (slot_of u S.subs) place is
 
 freely : (old new : GatewayValue) (e : GatewayEvent) (a : Answer) → Goes old e a new → takes_memory e ≡ false → Frugal old e a
 freely old new e a goes free = λ S h none needs is.
@@ -92,8 +92,4 @@ frugally old new (announce config) a goes copies = λ S h none needs is. needs
 frugally old new (drop_pmu key) a goes copies = freely old new (drop_pmu key) a goes refl
 frugally old new (drop_sub u) a goes copies = freely old new (drop_sub u) a goes refl
 frugally old new (tick soc) a goes copies = freely old new (tick soc) a goes refl
-frugally old new (stats u) a goes copies = freely old new (stats u) a goes refl
-frugally old new (pmu_stats key) a goes copies = freely old new (pmu_stats key) a goes refl
-frugally old new (who_waits us) a goes copies = freely old new (who_waits us) a goes refl
-frugally old new (audit u index) a goes copies = freely old new (audit u index) a goes refl
-frugally old new (standing u place) a goes copies = freely old new (standing u place) a goes refl
+frugally old new (inquires q) a goes copies = freely old new (inquires q) a goes refl

@@ -10,7 +10,7 @@ use Rattle.pg_config.specs.Parts.{block_id}
 use Rattle.pg_audit.specs.declared.audit.What.TheVariants as audited
 use Rattle.pg_registry.specs.Registered.{Pmu, Pmus, pmu_of, has_key, config_in}
 use Rattle.pg_session.specs.Private as private
-use Rattle.pg_session.specs.Private.{Told, refused}
+use Rattle.pg_session.specs.Private.{ReplyValue, refused}
 use Rattle.pg_session.specs.ByAll.{by_arrivals, by_numbers}
 use Rattle.pg_gateway.specs.Related.{Related}
 use Rattle.pg_gateway.specs.Sharing.{SubscriberSlot}
@@ -35,7 +35,7 @@ keyed_at (p ∷ pmus) key keyed = by (key_eq key p.0) refl (keyed_at pmus key ke
     by true is rest = subst (λ n. IfSome p.1.config (λ c. block_id c.block ≡ n)) (sym (eqb-true key.pmu p.0.pmu (second _ _ is))) keyed.0
     by false is rest = rest
 
-pub granted_goes : (u : ℕ) (key : PmuKey) (S : SharedMachine) (old : GatewayValue) (entries : List (ℕ × SlotValue)) (t : Told) → GatewayShows old S → has_key S.pmus key ≡ true
+pub granted_goes : (u : ℕ) (key : PmuKey) (S : SharedMachine) (old : GatewayValue) (entries : List (ℕ × SlotValue)) (t : ReplyValue) → GatewayShows old S → has_key S.pmus key ≡ true
     → GrantsAt u (granting S key) t S.subs entries → Steps S (grant u key) (tells t) (record { pmus = old.pmus; subs = entries; last_tick = old.last_tick })
 granted_goes u key S old entries t shown there grants =
     record {
@@ -83,5 +83,5 @@ granted_unregistered u key S old entries shown none there noted =
     by None is = absurd (true≢false (sym is))
     by (Some s) is = refl
 
-pub told_inside : (t r : Told) → tells t ≡ tells r → t ≡ r
+pub told_inside : (t r : ReplyValue) → tells t ≡ tells r → t ≡ r
 told_inside t r e = cc

@@ -17,10 +17,10 @@ use Rattle.pg_data.specs.Measurements.{Measurement}
 use Rattle.pg_session.specs.Events as event
 use Rattle.pg_session.specs.Events.{SubscriberEvent, Announcing}
 use Rattle.pg_session.specs.Private as private
-use Rattle.pg_session.specs.Private.{Told, done, refused, handed, refuse}
+use Rattle.pg_session.specs.Private.{ReplyValue, done, refused, handed, refuse}
 use Rattle.pg_session.specs.Shown.{Model, begin}
 use Rattle.pg_session.specs.ByAll.{by_arrivals, by_numbers}
-use Rattle.pg_gateway.specs.GatewayEvents.{GatewayEvent, add_pmu, drop_pmu, add_sub, drop_sub, grant, asks, announce, measure, tick, stats, pmu_stats, audit, standing, who_waits, Answer, tells, sub_counts, pmu_counts, entry, stands, those_waiting}
+use Rattle.pg_gateway.specs.GatewayEvents.{GatewayEvent, add_pmu, drop_pmu, add_sub, drop_sub, grant, asks, announce, measure, tick, Answer, tells, sub_counts, pmu_counts, entry, stands, those_waiting, inquires}
 use Rattle.pg_gateway.specs.Judging.{registered_of, memory_counted, blocks_counted, all_announced}
 use Rattle.pg_gateway.specs.Sharing.{SubscriberSlot, SubscriberSlots, revokes, announces, measures, ticks, broadcast}
 use Rattle.pg_gateway.specs.State.{SharedMachine, May, next, refusal, granting, grant_refusal, announce_refusal, slot_of, moved, added, with_note, code_of, is_refusal, wants_memory, kept_of, slots_noted, slots_after, unless, to_all, to_one, to_none, adds, drops, names, taken_in, judged_in}
@@ -28,11 +28,11 @@ use Rattle.pg_gateway.specs.Consistent.{AgreesWith, AllAgree, AreKeyed, IsConsis
 use Rattle.pg_gateway.proofs.AgreeLaws.{Likewise, all_likewise, likewise_counted, likewise_memory, at_agrees, removed_agree, pushed_agree, fanned_agree, revoke_agrees, grant_agrees, ticked_agrees, measured_agrees, dropped_agrees}
 use Rattle.pg_gateway.proofs.SaidLaws.{AllSaid, announced_keyed, announced_registry, announced_agrees, registered_said}
 
-told_same : (t s : Told) → tells t ≡ tells s → t ≡ s
+told_same : (t s : ReplyValue) → tells t ≡ tells s → t ≡ s
 told_same t s e = cc
 
 -- one subscriber
-own_agrees : (pmus : Pmus) (p : Model) (x : SubscriberEvent) (t : Told) → IsOwn x → AgreesWith pmus p → AgreesWith pmus (private.next by_arrivals by_numbers p x t)
+own_agrees : (pmus : Pmus) (p : Model) (x : SubscriberEvent) (t : ReplyValue) → IsOwn x → AgreesWith pmus p → AgreesWith pmus (private.next by_arrivals by_numbers p x t)
 own_agrees pmus p (event.grant key config) t own is = absurd own
 own_agrees pmus p (event.announce list) t own is = absurd own
 own_agrees pmus p (event.measure soc quality frac samples) t own is = absurd own
@@ -63,7 +63,7 @@ own_agrees pmus p (event.drain n) (done made kept) own is = record { grants = is
 own_agrees pmus p (event.drain n) (refused r) own is = is
 own_agrees pmus p (event.drain n) (handed bytes begun gap) own is = record { grants = is.grants; listed = is.listed }
 
-noted_agree : (pmus : Pmus) (named : Option (ℕ × What)) (t : Told) (ss : SubscriberSlots) → AllAgree pmus ss → AllAgree pmus (slots_noted named t ss)
+noted_agree : (pmus : Pmus) (named : Option (ℕ × What)) (t : ReplyValue) (ss : SubscriberSlots) → AllAgree pmus ss → AllAgree pmus (slots_noted named t ss)
 noted_agree pmus None t ss all = all
 noted_agree pmus (Some named) t ss all = at_agrees pmus named.0 (with_note (named.1, code_of t)) ss (λ s at is. is) all
 
@@ -90,7 +90,7 @@ removed_keyed (p ∷ pmus) key keyed = by (key_eq key p.0) (removed_keyed pmus k
     by true rest = keyed.1
     by false rest = (keyed.0, rest)
 
-module _ (S : SharedMachine) (c : IsConsistent S) (t : Told) where
+module _ (S : SharedMachine) (c : IsConsistent S) (t : ReplyValue) where
   add_pmu_stays : (key : PmuKey) → May S (add_pmu key) (tells t) → IsConsistent (next S (add_pmu key) (tells t))
   add_pmu_stays key may = by _ (has_key S.pmus key) refl (nat_le 256 (length S.pmus)) refl may
     where
@@ -221,11 +221,7 @@ module _ (S : SharedMachine) (c : IsConsistent S) (t : Told) where
   told_stays (announce config) posted may = announce_stays (registered_of S.pmus config) (registered_said S.pmus config posted.distinct)
   told_stays (measure m) posted may = measure_stays m
   told_stays (tick soc) posted may = record { registered = c.registered; keyed = c.keyed; agree = tick_agree soc (is_refusal t) }
-  told_stays (stats u) posted may = record { registered = c.registered; keyed = c.keyed; agree = c.agree }
-  told_stays (pmu_stats key) posted may = record { registered = c.registered; keyed = c.keyed; agree = c.agree }
-  told_stays (who_waits us) posted may = record { registered = c.registered; keyed = c.keyed; agree = c.agree }
-  told_stays (audit u index) posted may = record { registered = c.registered; keyed = c.keyed; agree = c.agree }
-  told_stays (standing u place) posted may = record { registered = c.registered; keyed = c.keyed; agree = c.agree }
+  told_stays (inquires q) posted may = record { registered = c.registered; keyed = c.keyed; agree = c.agree }
 
 pub next_stays : (S : SharedMachine) (e : GatewayEvent) (a : Answer) → IsConsistent S → IsPosted e → May S e a → IsConsistent (next S e a)
 next_stays S e (tells t) c posted may = told_stays S c t e posted may

@@ -7,7 +7,7 @@ use Rattle.pg_wire.specs.declared.refusal.Refusal.TheVariants.{NoMemory, NoSuchS
 use Rattle.pg_audit.specs.declared.audit.What.{What}
 use Rattle.pg_session.specs.Events.{SubscriberEvent}
 use Rattle.pg_session.specs.Private as private
-use Rattle.pg_session.specs.Private.{Told, done, refused}
+use Rattle.pg_session.specs.Private.{ReplyValue, done, refused}
 use Rattle.pg_session.specs.ByAll.{by_arrivals, by_numbers}
 use Rattle.pg_gateway.specs.Related.{Related}
 use Rattle.pg_gateway.specs.Sharing.{SubscriberSlot, SubscriberSlots}
@@ -99,7 +99,7 @@ nobody_takes u x slots entries related none =
     by (Some what) = ap (λ l. at_slot u (with_note (what, Some NoSuchSub)) l) gone ∙ at_slot-none u (with_note (what, Some NoSuchSub)) slots none
 
 -- the subscriber is there
-pub one_takes : (u : ℕ) (x : SubscriberEvent) (t : Told) (named : Option What) (slots : SubscriberSlots) (entries : List (ℕ × SlotValue)) (v w : SlotValue) (s : SubscriberSlot) → noted_as x ≡ named
+pub one_takes : (u : ℕ) (x : SubscriberEvent) (t : ReplyValue) (named : Option What) (slots : SubscriberSlots) (entries : List (ℕ × SlotValue)) (v w : SlotValue) (s : SubscriberSlot) → noted_as x ≡ named
     → Related SlotShows entries slots → lookup (nat_eq u) entries ≡ Some v → slot_of u slots ≡ Some s → private.May by_arrivals by_numbers s.own x false t
     → ((s : SubscriberSlot) → SlotShows v s → SlotShows w (noted_by named t (moved x t s)))
     → TakesAt u x t slots (set_value (nat_eq u) entries w)
@@ -117,7 +117,7 @@ one_takes u x t named slots entries v w s is related at there may goes =
         (Related-at_slot SlotShows u (λ s. with_note (what, code_of t) (moved x t s)) entries slots v w related at goes)
 
 -- so the gateway goes by such an event
-pub own_may : (u : ℕ) (S : SharedMachine) (x : SubscriberEvent) (t : Told) → OwnMay (slot_of u S.subs) x t → May S (asks u x) (tells t)
+pub own_may : (u : ℕ) (S : SharedMachine) (x : SubscriberEvent) (t : ReplyValue) → OwnMay (slot_of u S.subs) x t → May S (asks u x) (tells t)
 own_may u S x t may = by (slot_of u S.subs) may
   where
     told_may : (s : SubscriberSlot) (r : Option Refusal)
@@ -132,7 +132,7 @@ own_may u S x t may = by (slot_of u S.subs) may
     by None m = ap tells m
     by (Some s) m = told_may s (private.refusal by_arrivals by_numbers s.own x) m
 
-pub asks_goes : (u : ℕ) (x : SubscriberEvent) (t : Told) (S : SharedMachine) (old : GatewayValue) (entries : List (ℕ × SlotValue)) → GatewayShows old S → TakesAt u x t S.subs entries
+pub asks_goes : (u : ℕ) (x : SubscriberEvent) (t : ReplyValue) (S : SharedMachine) (old : GatewayValue) (entries : List (ℕ × SlotValue)) → GatewayShows old S → TakesAt u x t S.subs entries
     → Steps S (asks u x) (tells t) (record { pmus = old.pmus; subs = entries; last_tick = old.last_tick })
 asks_goes u x t S old entries shown takes =
     record {

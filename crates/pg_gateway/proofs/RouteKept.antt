@@ -20,12 +20,12 @@ use Rattle.pg_audit.specs.declared.audit.What.{What}
 use Rattle.pg_session.specs.Events as event
 use Rattle.pg_session.specs.Events.{SubscriberEvent, Announcing, Sample, samples_at}
 use Rattle.pg_session.specs.Private as private
-use Rattle.pg_session.specs.Private.{Told, done, refused, handed}
+use Rattle.pg_session.specs.Private.{ReplyValue, done, refused, handed}
 use Rattle.pg_session.specs.Shown.{Model}
 use Rattle.pg_session.specs.ByAll.{by_arrivals, by_numbers}
 use Rattle.pg_gateway.specs.declared.event.Event.{Event}
 use Rattle.pg_gateway.specs.declared.event.Event.TheVariants as kind
-use Rattle.pg_gateway.specs.GatewayEvents.{gateway_event, GatewayEvent, add_pmu, drop_pmu, add_sub, drop_sub, grant, asks, announce, measure, tick, stats, pmu_stats, audit, standing, who_waits, Answer, tells, sub_counts, pmu_counts, entry, stands, those_waiting}
+use Rattle.pg_gateway.specs.GatewayEvents.{gateway_event, GatewayEvent, add_pmu, drop_pmu, add_sub, drop_sub, grant, asks, announce, measure, tick, Answer, tells, sub_counts, pmu_counts, entry, stands, those_waiting, inquires}
 use Rattle.pg_gateway.specs.Judging.{samples_in, sample_refusal, is_taken, judged, taken_of, registered_of, block_counted, blocks_counted, memory_counted, all_announced}
 use Rattle.pg_gateway.specs.Related.{Related}
 use Rattle.pg_gateway.specs.Sharing.{SubscriberSlot, SubscriberSlots, Broadcast, announces, measures, ticks, some_announced, some_measured, after_share, shared_to, broadcast}
@@ -101,11 +101,11 @@ at_grants u f each (s ∷ ss) = by (nat_eq u s.0) (at_grants u f each ss)
     by true rest = cons_same _ _ _ _ (each s.1) refl
     by false rest = cons_same _ _ _ _ refl rest
 
-noted_grants : (named : Option (ℕ × What)) (t : Told) (ss : SubscriberSlots) → grants_of (slots_noted named t ss) ≡ grants_of ss
+noted_grants : (named : Option (ℕ × What)) (t : ReplyValue) (ss : SubscriberSlots) → grants_of (slots_noted named t ss) ≡ grants_of ss
 noted_grants None t ss = refl
 noted_grants (Some named) t ss = at_grants named.0 (with_note (named.1, code_of t)) (λ s. refl) ss
 
-own_grants : (p : Model) (x : SubscriberEvent) (t : Told) → KeepsOwn x → (private.next by_arrivals by_numbers p x t).grants ≡ p.grants
+own_grants : (p : Model) (x : SubscriberEvent) (t : ReplyValue) → KeepsOwn x → (private.next by_arrivals by_numbers p x t).grants ≡ p.grants
 own_grants p (event.grant key config) t keeps = absurd keeps
 own_grants p (event.announce list) t keeps = absurd keeps
 own_grants p (event.measure soc quality frac samples) t keeps = absurd keeps
@@ -134,7 +134,7 @@ own_grants p (event.drain n) (done made kept) keeps = refl
 own_grants p (event.drain n) (refused r) keeps = refl
 own_grants p (event.drain n) (handed bytes begun gap) keeps = refl
 
-module _ (S : SharedMachine) (t : Told) where
+module _ (S : SharedMachine) (t : ReplyValue) where
   announced_slots : (list : List Announcing) → grants_of (slots_after (unless (announce_refusal list) (to_all (announces list))) t S.subs) ≡ grants_of S.subs
   announced_slots [] = refl
   announced_slots (a ∷ list) = one (is_refusal t)
@@ -165,11 +165,7 @@ module _ (S : SharedMachine) (t : Told) where
   grants_stay (announce config) keeps = announced_slots (registered_of S.pmus config)
   grants_stay (measure m) keeps = measured_slots m (refusal S (measure m))
   grants_stay (tick soc) keeps = ticked_slots soc (is_refusal t)
-  grants_stay (stats u) keeps = refl
-  grants_stay (pmu_stats key) keeps = refl
-  grants_stay (who_waits us) keeps = refl
-  grants_stay (audit u index) keeps = refl
-  grants_stay (standing u place) keeps = refl
+  grants_stay (inquires q) keeps = refl
 
 -- The PMUs stay where they are.
 keys_announced : (list : List Announcing) (pmus : Pmus) → keys_of (all_announced pmus list) ≡ keys_of pmus
@@ -184,7 +180,7 @@ keys_memory : (keys : List PmuKey) (pmus : Pmus) → keys_of (memory_counted pmu
 keys_memory [] pmus = refl
 keys_memory (key ∷ keys) pmus = keys-changed (refusing NoMemory) key pmus
 
-module _ (S : SharedMachine) (t : Told) where
+module _ (S : SharedMachine) (t : ReplyValue) where
   keys_stay : (e : GatewayEvent) → KeepsRoutes e → keys_of (next S e (tells t)).pmus ≡ keys_of S.pmus
   keys_stay (add_pmu key) keeps = absurd keeps
   keys_stay (drop_pmu key) keeps = absurd keeps
@@ -203,11 +199,7 @@ module _ (S : SharedMachine) (t : Told) where
       by true = keys_memory (map (λ b. b.0) (judged_in S m)) S.pmus
       by false = keys_counted (judged_in S m) S.pmus
   keys_stay (tick soc) keeps = refl
-  keys_stay (stats u) keeps = refl
-  keys_stay (pmu_stats key) keeps = refl
-  keys_stay (who_waits us) keeps = refl
-  keys_stay (audit u index) keeps = refl
-  keys_stay (standing u place) keeps = refl
+  keys_stay (inquires q) keeps = refl
 
 stays : (S : SharedMachine) (e : GatewayEvent) (a : Answer) → KeepsRoutes e → (grants_of (next S e a).subs ≡ grants_of S.subs) × (keys_of (next S e a).pmus ≡ keys_of S.pmus)
 stays S e (tells t) keeps = (grants_stay S t e keeps, keys_stay S t e keeps)

@@ -8,7 +8,7 @@ use Rattle.pg_data.specs.Measurements.{Measurement}
 use Rattle.pg_session.specs.Events.{SubscriberEvent, Sample}
 use Rattle.pg_session.specs.Shown.{Model}
 use Rattle.pg_session.specs.Standing.{standing_of}
-use Rattle.pg_gateway.specs.GatewayEvents.{GatewayEvent, gateway_event, told, asks, measure, stats, standing, Answer, tells, sub_counts, stands}
+use Rattle.pg_gateway.specs.GatewayEvents.{GatewayEvent, gateway_event, told, asks, measure, stats, standing, Answer, tells, sub_counts, stands, inquires}
 use Rattle.pg_gateway.specs.Sharing.{SubscriberSlot, measures, some_measured}
 use Rattle.pg_gateway.specs.State.{SharedMachine, opening, slot_of, own_of, taken_in, refusal, to_all, unless, stats_answer, standing_answer, May, next}
 use Rattle.pg_gateway.specs.Views.{shared_step, shared_run, private_run, as_seen, share_seen, part_of, part, view, full_told, full_by, full_answer, full_answers, AllLossless, handed_to, handed_in}
@@ -46,12 +46,12 @@ own_reply u S x p is =
     let found = slot_from (slot_of u S.subs) p is in
     own_full (slot_of u S.subs) x ∙ ap (λ o. tells (full_own o x)) found.1 ∙ ap (λ q. tells (full_told q x)) found.2
 
-pub own_counters : (u : ℕ) (S : SharedMachine) (p : Model) → own_of u S ≡ Some p → full_answer S (stats u) ≡ sub_counts p.output.stats
+pub own_counters : (u : ℕ) (S : SharedMachine) (p : Model) → own_of u S ≡ Some p → full_answer S (inquires (stats u)) ≡ sub_counts p.output.stats
 own_counters u S p is =
     let found = slot_from (slot_of u S.subs) p is in
     ap (λ o. full_by (refuse (not (is_some o)) NoSuchSub None) (stats_answer o)) found.1 ∙ ap (λ (q : Model). sub_counts q.output.stats) found.2
 
-pub own_standing : (u place : ℕ) (S : SharedMachine) (p : Model) → own_of u S ≡ Some p → full_answer S (standing u place) ≡ stands (standing_of p place)
+pub own_standing : (u place : ℕ) (S : SharedMachine) (p : Model) → own_of u S ≡ Some p → full_answer S (inquires (standing u place)) ≡ stands (standing_of p place)
 own_standing u place S p is =
     let found = slot_from (slot_of u S.subs) p is in
     ap (λ o. full_by (refuse (not (is_some o)) NoSuchSub None) (standing_answer o place)) found.1 ∙ ap (λ (q : Model). stands (standing_of q place)) found.2

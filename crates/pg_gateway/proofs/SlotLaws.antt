@@ -4,7 +4,7 @@ use Rattle.std.specs.Prelude.{option_map}
 use Rattle.std.specs.Map.{lookup, remove_entry}
 use Rattle.std.proofs.lemmas.Bool.Decides.{nat_tests}
 use Rattle.pg_audit.specs.declared.audit.What.{What}
-use Rattle.pg_session.specs.Private.{Told}
+use Rattle.pg_session.specs.Private.{ReplyValue}
 use Rattle.pg_session.specs.Shown.{Model}
 use Rattle.pg_gateway.specs.Related.{Related}
 use Rattle.pg_gateway.specs.Sharing.{SubscriberSlot, SubscriberSlots, Broadcast, frames_for, total, shared_to, broadcast}
@@ -118,7 +118,7 @@ slot_of-at_slot u w f (s ∷ ss) = by (nat_eq w s.0) refl (nat_eq u s.0) refl (n
     by false wb false uc false ud rest = rw uc rest
 
 -- what is noted changes no private gateway
-pub own-noted : (u : ℕ) (named : Option (ℕ × What)) (t : Told) (ss : SubscriberSlots) → owned (slot_of u (slots_noted named t ss)) ≡ owned (slot_of u ss)
+pub own-noted : (u : ℕ) (named : Option (ℕ × What)) (t : ReplyValue) (ss : SubscriberSlots) → owned (slot_of u (slots_noted named t ss)) ≡ owned (slot_of u ss)
 own-noted u None t ss = refl
 own-noted u (Some n) t ss = ap owned (slot_of-at_slot u n.0 (with_note (n.1, code_of t)) ss) ∙ by (nat_eq u n.0) (slot_of u ss)
   where

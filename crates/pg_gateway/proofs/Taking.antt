@@ -10,7 +10,7 @@ use Rattle.pg_data.specs.Measurements.{Measurement}
 use Rattle.pg_audit.specs.Noting as audit
 use Rattle.pg_session.specs.Events as event
 use Rattle.pg_session.specs.Events.{SubscriberEvent, Announcing, Sample, announced_at, samples_at}
-use Rattle.pg_session.specs.Private.{Told, done, refused, takes_memory, answer, frames_of, effect, next}
+use Rattle.pg_session.specs.Private.{ReplyValue, done, refused, takes_memory, answer, frames_of, effect, next}
 use Rattle.pg_session.specs.Shown.{Own, SubscriberValue, Takes, Follows, ShowsPrivate, OwnShows}
 use Rattle.pg_session.specs.ByAll.{by_arrivals, by_numbers}
 use Rattle.pg_session.specs.Ready.{AreRising, IsFor, IsReady, NeedsNone}
@@ -72,7 +72,7 @@ none_taken o lost v s shown none =
     }
 
 -- and one that has taken it
-pub some_taken : (o : Broadcast) (lost : Bool) (old new : SlotValue) (x : SubscriberEvent) (r : Told) (s : SubscriberSlot) → SlotShows old s → share o old.subscriber.own.grants ≡ Some x
+pub some_taken : (o : Broadcast) (lost : Bool) (old new : SlotValue) (x : SubscriberEvent) (r : ReplyValue) (s : SubscriberSlot) → SlotShows old s → share o old.subscriber.own.grants ≡ Some x
     → Takes old.subscriber x lost r new.subscriber → audit.ShowsAudit new.audit (s.noted ++ notes_of o) → TakesShare o lost (counts_of r).0 (counts_of r).1 s new
 some_taken o lost old new x r s shown some takes noted = by r (rw q.allowed at follows.may) follows.shows
   where
@@ -97,7 +97,7 @@ some_taken o lost old new x r s shown some takes noted = by r (rw q.allowed at f
           shows = subst (λ y. SlotShows new (after_share y (notes_of o) s k)) (sym same) (record { subscriber = shows; audit = noted });
         }
 
-    by : (t : Told) → (((k : ℕ) × (k ≤ length (frames_of by_arrivals by_numbers s.own x)) × (lost ≡ true → k ≡ 0) × (t ≡ answer by_arrivals by_numbers s.own x k)) ⊎ ((t ≡ refused NoMemory) × (takes_memory x ≡ true)))
+    by : (t : ReplyValue) → (((k : ℕ) × (k ≤ length (frames_of by_arrivals by_numbers s.own x)) × (lost ≡ true → k ≡ 0) × (t ≡ answer by_arrivals by_numbers s.own x k)) ⊎ ((t ≡ refused NoMemory) × (takes_memory x ≡ true)))
         → ShowsPrivate new.subscriber (next by_arrivals by_numbers s.own x t) → TakesShare o lost (counts_of t).0 (counts_of t).1 s new
     by t (inl a) shows =
         let is : t ≡ done (length (frames_of by_arrivals by_numbers s.own x)) a.0 = a.3 ∙ q.frames a.0 in
@@ -196,7 +196,7 @@ offer_none o lost v none awaits = record {
   none = prepared_none v.subscriber _ none awaits.prepared;
 }
 
-pub offer_some : (o : Broadcast) (lost : Bool) (old new : SlotValue) (x : SubscriberEvent) (t : Told) (counts : ℕ × ℕ) → share o old.subscriber.own.grants ≡ Some x
+pub offer_some : (o : Broadcast) (lost : Bool) (old new : SlotValue) (x : SubscriberEvent) (t : ReplyValue) (counts : ℕ × ℕ) → share o old.subscriber.own.grants ≡ Some x
     → Takes old.subscriber x lost t new.subscriber → ((s : SubscriberSlot) → SlotShows old s → audit.ShowsAudit new.audit (s.noted ++ notes_of o))
     → counts ≡ counts_of t → (counts.0 ≤ 640) × (counts.1 ≤ counts.0) → HasNoCopies new.subscriber → TakesBroadcast o lost old counts new
 offer_some o lost old new x t counts some takes noted is few none = record {

@@ -9,19 +9,19 @@ use Rattle.pg_audit.specs.declared.audit.What.{What}
 use Rattle.pg_registry.specs.Registered.{Pmu, pmu_of, has_key}
 use Rattle.pg_session.specs.Events.{SubscriberEvent}
 use Rattle.pg_session.specs.Private as private
-use Rattle.pg_session.specs.Private.{Told, done, refused, handed, refuse, frames_of}
+use Rattle.pg_session.specs.Private.{ReplyValue, done, refused, refuse, frames_of}
 use Rattle.pg_session.specs.Shown.{Model}
 use Rattle.pg_session.specs.ByAll.{by_arrivals, by_numbers}
-use Rattle.pg_gateway.specs.GatewayEvents.{GatewayEvent, add_pmu, drop_pmu, add_sub, drop_sub, grant, asks, announce, measure, tick, stats, pmu_stats, audit, standing, who_waits, Answer, tells, sub_counts, pmu_counts, entry, stands, those_waiting}
+use Rattle.pg_gateway.specs.GatewayEvents.{GatewayEvent, add_pmu, drop_pmu, add_sub, drop_sub, grant, asks, announce, measure, tick, stats, pmu_stats, audit, standing, who_waits, Answer, tells, sub_counts, pmu_counts, entry, stands, those_waiting, inquires}
 use Rattle.pg_gateway.specs.Judging.{registered_of}
 use Rattle.pg_gateway.specs.Sharing.{SubscriberSlot, SubscriberSlots, Broadcast, revokes, announces, measures, ticks, total, broadcast}
 use Rattle.pg_gateway.specs.State.{SharedMachine, slot_of, own_of, at_slot, own_refusal, grant_refusal, granting, taken_in, refusal, Target, to_all, to_one, adds, drops, to_none, unless, target, own_frames, frames_reached, made, own_answer, reached_answer, answer, stats_answer, pmu_answer, audit_answer, standing_answer, moved, added, is_refusal, kept_of, slots_after, names, with_note, code_of, slots_noted, next}
-use Rattle.pg_gateway.specs.Views.{Seen, begins, ends, takes, unless_refused, full_told, private_step, private_run, full_by, full_answer, shared_step, shared_run, part_of, part, view}
+use Rattle.pg_gateway.specs.Views.{ViewEvent, begins, ends, takes, unless_refused, full_told, private_step, private_run, full_by, full_answer, shared_step, shared_run, part_of, part, view}
 use Rattle.pg_gateway.proofs.SlotLaws.{owned, Alone, Alone-push, Alone-removed, Alone-same, same-at_slot, same-broadcast, lookup-push, lookup-removed, slot_of-at_slot, slot_of-broadcast, own-noted}
 use Rattle.pg_gateway.proofs.ShareLaws.{share_run}
 
 -- the reply of one subscriber, where it is there
-abbrev pub full_own : Option SubscriberSlot → SubscriberEvent → Told
+abbrev pub full_own : Option SubscriberSlot → SubscriberEvent → ReplyValue
 full_own None x = refused NoSuchSub
 full_own (Some s) x = full_told s.own x
 
@@ -73,7 +73,7 @@ drop_run u w ss alone = ap owned (lookup-removed u w ss alone) ∙ by (nat_eq u 
     by false = refl
 
 -- what is noted aside, an event leaves of u what it does to the one or to all that it reaches
-after : (u : ℕ) (S : SharedMachine) (e : GatewayEvent) (t : Told) → own_of u (next S e (tells t)) ≡ owned (slot_of u (slots_after (target S e) t S.subs))
+after : (u : ℕ) (S : SharedMachine) (e : GatewayEvent) (t : ReplyValue) → own_of u (next S e (tells t)) ≡ owned (slot_of u (slots_after (target S e) t S.subs))
 after u S e t = own-noted u (names e) t (slots_after (target S e) t S.subs)
 
 -- an event that reaches nobody where it is refused
@@ -139,28 +139,28 @@ own-step u S (asks w x) alone =
 own-step u S (announce config) alone = unless_run u S (announce config) _ refl refl (λ _. all_run u (announces (registered_of S.pmus config)) S.subs)
 own-step u S (measure m) alone = unless_run u S (measure m) _ refl refl (λ _. all_run u (measures m.soc m.quality m.frac (taken_in S m)) S.subs)
 own-step u S (tick soc) alone = after u S (tick soc) (reached_answer (to_all (ticks soc)) S.subs (total (ticks soc) S.subs)) ∙ all_run u (ticks soc) S.subs
-own-step u S (stats w) alone = by (refusal S (stats w)) (slot_of w S.subs)
+own-step u S (inquires (stats w)) alone = by (refusal S (inquires (stats w))) (slot_of w S.subs)
   where
-    by : (r : Option Refusal) (o : Option SubscriberSlot) → own_of u (next S (stats w) (full_by r (stats_answer o))) ≡ own_of u S
+    by : (r : Option Refusal) (o : Option SubscriberSlot) → own_of u (next S (inquires (stats w)) (full_by r (stats_answer o))) ≡ own_of u S
     by None None = refl
     by None (Some s) = refl
     by (Some r) o = refl
-own-step u S (pmu_stats key) alone = by (refusal S (pmu_stats key)) (pmu_of S.pmus key)
+own-step u S (inquires (pmu_stats key)) alone = by (refusal S (inquires (pmu_stats key))) (pmu_of S.pmus key)
   where
-    by : (r : Option Refusal) (o : Option Pmu) → own_of u (next S (pmu_stats key) (full_by r (pmu_answer o))) ≡ own_of u S
+    by : (r : Option Refusal) (o : Option Pmu) → own_of u (next S (inquires (pmu_stats key)) (full_by r (pmu_answer o))) ≡ own_of u S
     by None None = refl
     by None (Some pmu) = refl
     by (Some r) o = refl
-own-step u S (who_waits us) alone = refl
-own-step u S (audit w index) alone = by (refusal S (audit w index)) (slot_of w S.subs)
+own-step u S (inquires (who_waits us)) alone = refl
+own-step u S (inquires (audit w index)) alone = by (refusal S (inquires (audit w index))) (slot_of w S.subs)
   where
-    by : (r : Option Refusal) (o : Option SubscriberSlot) → own_of u (next S (audit w index) (full_by r (audit_answer o index))) ≡ own_of u S
+    by : (r : Option Refusal) (o : Option SubscriberSlot) → own_of u (next S (inquires (audit w index)) (full_by r (audit_answer o index))) ≡ own_of u S
     by None None = refl
     by None (Some s) = refl
     by (Some r) o = refl
-own-step u S (standing w place) alone = by (refusal S (standing w place)) (slot_of w S.subs)
+own-step u S (inquires (standing w place)) alone = by (refusal S (inquires (standing w place))) (slot_of w S.subs)
   where
-    by : (r : Option Refusal) (o : Option SubscriberSlot) → own_of u (next S (standing w place) (full_by r (standing_answer o place))) ≡ own_of u S
+    by : (r : Option Refusal) (o : Option SubscriberSlot) → own_of u (next S (inquires (standing w place)) (full_by r (standing_answer o place))) ≡ own_of u S
     by None None = refl
     by None (Some s) = refl
     by (Some r) o = refl
@@ -188,13 +188,9 @@ fresh_reach S (asks w x) = tt
 fresh_reach S (announce config) = fresh_unless (refusal S (announce config)) (to_all (announces (registered_of S.pmus config))) S.subs (λ _. tt)
 fresh_reach S (measure m) = fresh_unless (refusal S (measure m)) (to_all (measures m.soc m.quality m.frac (taken_in S m))) S.subs (λ _. tt)
 fresh_reach S (tick soc) = tt
-fresh_reach S (stats w) = tt
-fresh_reach S (pmu_stats key) = tt
-fresh_reach S (who_waits us) = tt
-fresh_reach S (audit w index) = tt
-fresh_reach S (standing w place) = tt
+fresh_reach S (inquires q) = tt
 
-Alone-after : (to : Target) (t : Told) (ss : SubscriberSlots) → Fresh to ss → Alone ss → Alone (slots_after to t ss)
+Alone-after : (to : Target) (t : ReplyValue) (ss : SubscriberSlots) → Fresh to ss → Alone ss → Alone (slots_after to t ss)
 Alone-after (to_all o) t ss fresh alone = by (is_refusal t)
   where
     by : (b : Bool) → Alone (if b then ss else broadcast o ss (kept_of t))
@@ -213,7 +209,7 @@ Alone-after (drops w) t ss fresh alone = by (is_refusal t)
     by false = Alone-removed (nat_eq w) ss alone
 Alone-after to_none t ss fresh alone = alone
 
-Alone-noted : (named : Option (ℕ × What)) (t : Told) (ss : SubscriberSlots) → Alone ss → Alone (slots_noted named t ss)
+Alone-noted : (named : Option (ℕ × What)) (t : ReplyValue) (ss : SubscriberSlots) → Alone ss → Alone (slots_noted named t ss)
 Alone-noted None t ss alone = alone
 Alone-noted (Some n) t ss alone = Alone-same ss (at_slot n.0 (with_note (n.1, code_of t)) ss) (same-at_slot n.0 (with_note (n.1, code_of t)) ss) alone
 
@@ -226,7 +222,7 @@ Alone-next S e (those_waiting us) alone = alone
 Alone-next S e (entry found) alone = alone
 Alone-next S e (stands s) alone = alone
 
-private_run-append : (o : Option Model) (xs ys : List Seen) → private_run o (xs ++ ys) ≡ private_run (private_run o xs) ys
+private_run-append : (o : Option Model) (xs ys : List ViewEvent) → private_run o (xs ++ ys) ≡ private_run (private_run o xs) ys
 private_run-append o [] ys = refl
 private_run-append o (x ∷ xs) ys = private_run-append (private_step o x) xs ys
 

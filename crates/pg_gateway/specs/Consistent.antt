@@ -8,7 +8,7 @@ use Rattle.pg_registry.specs.Registered.{Pmus, IsRegistry, config_in}
 use Rattle.pg_session.specs.Events as own
 use Rattle.pg_session.specs.Events.{SubscriberEvent}
 use Rattle.pg_session.specs.Shown.{Model}
-use Rattle.pg_gateway.specs.GatewayEvents.{GatewayEvent, add_pmu, drop_pmu, add_sub, drop_sub, grant, asks, announce, measure, tick, stats, pmu_stats, audit, standing, who_waits}
+use Rattle.pg_gateway.specs.GatewayEvents.{GatewayEvent, asks, announce}
 use Rattle.pg_gateway.specs.Sharing.{SubscriberSlots}
 use Rattle.pg_gateway.specs.State.{SharedMachine}
 use Rattle.pg_gateway.specs.Shown.{GatewayValue, GatewayShows}
@@ -44,27 +44,10 @@ IsOwn (own.grant key config) = ⊥
 IsOwn (own.announce list) = ⊥
 IsOwn (own.measure soc quality frac samples) = ⊥
 IsOwn (own.tick soc) = ⊥
-IsOwn (own.revoke key) = Unit {0}
-IsOwn (own.define definition) = Unit {0}
-IsOwn (own.remove number) = Unit {0}
-IsOwn own.connect = Unit {0}
-IsOwn own.hangup = Unit {0}
-IsOwn (own.command number word) = Unit {0}
-IsOwn (own.drain n) = Unit {0}
+IsOwn _ = Unit {0}
 
 -- An event of the code is so: what a source announced was read, and what is for one subscriber alone is of these seven.
 abbrev pub IsPosted : GatewayEvent → Type 0
 IsPosted (announce config) = IsSource config
 IsPosted (asks u x) = IsOwn x
-IsPosted (add_pmu key) = Unit {0}
-IsPosted (drop_pmu key) = Unit {0}
-IsPosted (add_sub u size bytes) = Unit {0}
-IsPosted (drop_sub u) = Unit {0}
-IsPosted (grant u key) = Unit {0}
-IsPosted (measure m) = Unit {0}
-IsPosted (tick soc) = Unit {0}
-IsPosted (stats u) = Unit {0}
-IsPosted (pmu_stats key) = Unit {0}
-IsPosted (who_waits us) = Unit {0}
-IsPosted (audit u index) = Unit {0}
-IsPosted (standing u place) = Unit {0}
+IsPosted _ = Unit {0}

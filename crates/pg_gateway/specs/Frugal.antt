@@ -9,7 +9,7 @@ use Rattle.pg_session.specs.Private.{refused}
 use Rattle.pg_session.specs.Events.{SubscriberEvent}
 use Rattle.pg_session.specs.Shown.{SubscriberValue}
 use Rattle.pg_session.specs.Ready.{NeedsNone}
-use Rattle.pg_gateway.specs.GatewayEvents.{GatewayEvent, add_pmu, drop_pmu, add_sub, drop_sub, grant, asks, announce, measure, tick, stats, pmu_stats, audit, standing, who_waits, Answer, tells}
+use Rattle.pg_gateway.specs.GatewayEvents.{GatewayEvent, add_pmu, add_sub, grant, asks, announce, measure, Answer, tells}
 use Rattle.pg_gateway.specs.Sharing.{Broadcast, measures, share}
 use Rattle.pg_gateway.specs.Judging.{taken_of}
 use Rattle.pg_gateway.specs.State.{SharedMachine, refusal}
@@ -38,14 +38,7 @@ NeedsNoMemory v (asks u x) = private.takes_memory x ≡ false
 NeedsNoMemory v (add_pmu key) = ⊥
 NeedsNoMemory v (add_sub u size bytes) = ⊥
 NeedsNoMemory v (announce config) = ⊥
-NeedsNoMemory v (drop_pmu key) = Unit {0}
-NeedsNoMemory v (drop_sub u) = Unit {0}
-NeedsNoMemory v (tick soc) = Unit {0}
-NeedsNoMemory v (stats u) = Unit {0}
-NeedsNoMemory v (pmu_stats key) = Unit {0}
-NeedsNoMemory v (who_waits us) = Unit {0}
-NeedsNoMemory v (audit u index) = Unit {0}
-NeedsNoMemory v (standing u place) = Unit {0}
+NeedsNoMemory v _ = Unit {0}
 
 -- Where no other refusal holds, such an event is not refused for want of memory.
 abbrev pub Frugal : GatewayValue → GatewayEvent → Answer → Type 0

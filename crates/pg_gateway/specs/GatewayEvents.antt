@@ -10,12 +10,21 @@ use Rattle.pg_audit.specs.declared.audit.Entry.{Entry}
 use Rattle.pg_session.specs.Events as session
 use Rattle.pg_session.specs.Events.{SubscriberEvent}
 use Rattle.pg_session.specs.Private as session_reply
-use Rattle.pg_session.specs.Private.{Told, drain_told}
+use Rattle.pg_session.specs.Private.{ReplyValue, drain_told}
 use Rattle.pg_session.specs.declared.standing.Standing.{Standing}
 use Rattle.pg_gateway.specs.declared.event.Event.{Event}
 use Rattle.pg_gateway.specs.declared.event.Event.TheVariants as event
 use Rattle.pg_gateway.specs.declared.event.Reply.{Reply}
 use Rattle.pg_gateway.specs.declared.event.Reply.TheVariants as reply
+
+-- what may be asked for: counters of a subscriber, counters of a PMU, an entry of a subscriber's audit, how a subscriber and its stream at
+-- a place stand, and for which of these subscribers something waits
+pub data Question : Type 0 where
+  stats : ℕ → Question
+  pmu_stats : PmuKey → Question
+  audit : ℕ → ℕ → Question
+  standing : ℕ → ℕ → Question
+  who_waits : List ℕ → Question
 
 pub data GatewayEvent : Type 0 where
   add_pmu : PmuKey → GatewayEvent
@@ -33,14 +42,8 @@ pub data GatewayEvent : Type 0 where
   measure : Measurement → GatewayEvent
   -- a tick, with its SOC
   tick : ℕ → GatewayEvent
-  -- counters of a subscriber, counters of a PMU, an entry of a subscriber's audit, and how a subscriber and its stream at a place
-  -- stand, are asked for
-  stats : ℕ → GatewayEvent
-  pmu_stats : PmuKey → GatewayEvent
-  audit : ℕ → ℕ → GatewayEvent
-  standing : ℕ → ℕ → GatewayEvent
-  -- for which of these subscribers something waits is asked for
-  who_waits : List ℕ → GatewayEvent
+  -- a question, which changes nothing
+  inquires : Question → GatewayEvent
 
 -- what an event says
 abbrev pub gateway_event : Event → GatewayEvent
@@ -59,15 +62,15 @@ gateway_event (event.Connect u) = asks u session.connect
 gateway_event (event.Hangup u) = asks u session.hangup
 gateway_event (event.Command u asked) = asks u (session.command asked.stream asked.word)
 gateway_event (event.Drain u buf) = asks u (session.drain (length buf.items))
-gateway_event (event.Stats u) = stats u
-gateway_event (event.PmuStats key) = pmu_stats key
-gateway_event (event.Audit u index) = audit u index
-gateway_event (event.Standing u place) = standing u place
-gateway_event (event.WhoWaits subs) = who_waits subs.items
+gateway_event (event.Stats u) = inquires (stats u)
+gateway_event (event.PmuStats key) = inquires (pmu_stats key)
+gateway_event (event.Audit u index) = inquires (audit u index)
+gateway_event (event.Standing u place) = inquires (standing u place)
+gateway_event (event.WhoWaits subs) = inquires (who_waits subs.items)
 
 pub data Answer : Type 0 where
   -- done, refused or handed out, as one subscriber tells it
-  tells : Told → Answer
+  tells : ReplyValue → Answer
   sub_counts : Stats → Answer
   pmu_counts : PmuStats → Answer
   entry : Option Entry → Answer

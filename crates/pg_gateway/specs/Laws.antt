@@ -5,7 +5,7 @@ use Rattle.pg_data.specs.Measurements.{Measurement}
 use Rattle.pg_session.specs.Events.{SubscriberEvent, Sample}
 use Rattle.pg_session.specs.Shown.{Model}
 use Rattle.pg_session.specs.Standing.{standing_of}
-use Rattle.pg_gateway.specs.GatewayEvents.{GatewayEvent, asks, measure, stats, standing, Answer, tells, sub_counts, stands}
+use Rattle.pg_gateway.specs.GatewayEvents.{GatewayEvent, asks, measure, stats, standing, Answer, tells, sub_counts, stands, inquires}
 use Rattle.pg_gateway.specs.State.{SharedMachine, opening, own_of, taken_in, refusal, May}
 use Rattle.pg_gateway.specs.Views.{shared_run, private_run, part, view, full_told, full_answer, full_answers, Lossless, AllLossless, handed_to, handed_in}
 use Rattle.pg_gateway.specs.Histories.{Legal, state_after}
@@ -25,9 +25,9 @@ pub record Isolation : Type 0 where
   pub replies : (u : ℕ) (es : List GatewayEvent) (x : SubscriberEvent) (p : Model) → own_of u (after es) ≡ Some p
       → full_answer (after es) (asks u x) ≡ tells (full_told p x)
   pub counters : (u : ℕ) (es : List GatewayEvent) (p : Model) → own_of u (after es) ≡ Some p
-      → full_answer (after es) (stats u) ≡ sub_counts p.output.stats
+      → full_answer (after es) (inquires (stats u)) ≡ sub_counts p.output.stats
   pub standings : (u place : ℕ) (es : List GatewayEvent) (p : Model) → own_of u (after es) ≡ Some p
-      → full_answer (after es) (standing u place) ≡ stands (standing_of p place)
+      → full_answer (after es) (inquires (standing u place)) ≡ stands (standing_of p place)
 
 -- Two lists of events that give a subscriber equal views leave it alike, and hand it the same.
 pub record EqualViews : Type 0 where

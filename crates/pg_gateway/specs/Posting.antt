@@ -5,7 +5,7 @@ use Rattle.pg_gateway.specs.declared.event.Event.TheVariants as event
 use Rattle.pg_session.specs.Ready.{handed_len}
 use Rattle.pg_gateway.specs.declared.event.Reply.{Reply}
 use Rattle.pg_gateway.specs.declared.event.Reply.TheVariants as reply
-use Rattle.pg_gateway.specs.GatewayEvents.{GatewayEvent, Answer, add_pmu, drop_pmu, add_sub, drop_sub, grant, asks, announce, measure, tick, stats, pmu_stats, audit, standing, who_waits}
+use Rattle.pg_gateway.specs.GatewayEvents.{GatewayEvent, Answer, measure}
 
 -- an event and what it was answered
 abbrev pub Posted : Type 0
@@ -19,19 +19,7 @@ posted_if false o a = []
 -- a source's data frame came
 abbrev pub IsMeasured : GatewayEvent → Type 0
 IsMeasured (measure m) = Unit {0}
-IsMeasured (add_pmu key) = ⊥
-IsMeasured (drop_pmu key) = ⊥
-IsMeasured (add_sub u size bytes) = ⊥
-IsMeasured (drop_sub u) = ⊥
-IsMeasured (grant u key) = ⊥
-IsMeasured (asks u h) = ⊥
-IsMeasured (announce config) = ⊥
-IsMeasured (tick soc) = ⊥
-IsMeasured (stats u) = ⊥
-IsMeasured (pmu_stats key) = ⊥
-IsMeasured (audit u index) = ⊥
-IsMeasured (standing u place) = ⊥
-IsMeasured (who_waits subs) = ⊥
+IsMeasured _ = ⊥
 
 -- What was posted grows by these, where the gate tells it.
 abbrev pub Notes : Option (List Posted) → Option (List Posted) → List Posted → Type 0
@@ -66,22 +54,4 @@ KeepsBuffer bytes (reply.Standing s) = ⊥
 -- Just a drain is answered with its buffer: as long as it was, and past what was handed out as it was.
 abbrev pub Answers : Event → Reply → Type 0
 Answers (event.Drain u buf) r = KeepsBuffer buf.items r
-Answers (event.AddPmu key) r = IsPlain r
-Answers (event.DropPmu key) r = IsPlain r
-Answers (event.AddSub u size bytes) r = IsPlain r
-Answers (event.DropSub u) r = IsPlain r
-Answers (event.Grant u key) r = IsPlain r
-Answers (event.Revoke u key) r = IsPlain r
-Answers (event.Define u definition) r = IsPlain r
-Answers (event.Remove u number) r = IsPlain r
-Answers (event.Announce config) r = IsPlain r
-Answers (event.Measure frame) r = IsPlain r
-Answers (event.Tick soc) r = IsPlain r
-Answers (event.Connect u) r = IsPlain r
-Answers (event.Hangup u) r = IsPlain r
-Answers (event.Command u asked) r = IsPlain r
-Answers (event.Stats u) r = IsPlain r
-Answers (event.PmuStats key) r = IsPlain r
-Answers (event.WhoWaits subs) r = IsPlain r
-Answers (event.Audit u index) r = IsPlain r
-Answers (event.Standing u place) r = IsPlain r
+Answers _ r = IsPlain r

@@ -9,7 +9,7 @@ use Rattle.pg_entitle.specs.Grants.{has_key}
 use Rattle.pg_registry.specs.Registered.{Pmus}
 use Rattle.pg_session.specs.Events as own
 use Rattle.pg_session.specs.Events.{SubscriberEvent}
-use Rattle.pg_gateway.specs.GatewayEvents.{GatewayEvent, add_pmu, drop_pmu, add_sub, drop_sub, grant, asks, announce, measure, tick, stats, pmu_stats, audit, standing, who_waits}
+use Rattle.pg_gateway.specs.GatewayEvents.{GatewayEvent, grant, asks, announce, measure, tick, inquires}
 use Rattle.pg_gateway.specs.Sharing.{Broadcast, share}
 use Rattle.pg_gateway.specs.Shown.{SlotValue, GatewayValue}
 use Rattle.pg_gateway.specs.Taking.{part_passes}
@@ -108,25 +108,12 @@ KeepsOwn (own.announce list) = ⊥
 KeepsOwn (own.measure soc quality frac samples) = ⊥
 KeepsOwn (own.tick soc) = ⊥
 KeepsOwn (own.revoke key) = ⊥
-KeepsOwn (own.define definition) = Unit {0}
-KeepsOwn (own.remove number) = Unit {0}
-KeepsOwn own.connect = Unit {0}
-KeepsOwn own.hangup = Unit {0}
-KeepsOwn (own.command number word) = Unit {0}
-KeepsOwn (own.drain n) = Unit {0}
+KeepsOwn _ = Unit {0}
 
 abbrev pub KeepsRoutes : GatewayEvent → Type 0
-KeepsRoutes (add_pmu key) = ⊥
-KeepsRoutes (drop_pmu key) = ⊥
-KeepsRoutes (add_sub u size bytes) = ⊥
-KeepsRoutes (drop_sub u) = ⊥
-KeepsRoutes (grant u key) = ⊥
 KeepsRoutes (asks u x) = KeepsOwn x
 KeepsRoutes (announce config) = Unit {0}
 KeepsRoutes (measure m) = Unit {0}
 KeepsRoutes (tick soc) = Unit {0}
-KeepsRoutes (stats u) = Unit {0}
-KeepsRoutes (pmu_stats key) = Unit {0}
-KeepsRoutes (who_waits us) = Unit {0}
-KeepsRoutes (audit u index) = Unit {0}
-KeepsRoutes (standing u place) = Unit {0}
+KeepsRoutes (inquires q) = Unit {0}
+KeepsRoutes _ = ⊥

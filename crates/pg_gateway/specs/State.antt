@@ -16,11 +16,11 @@ use Rattle.pg_ring.specs.Numbers.{shown_of}
 use Rattle.pg_session.specs.Events as own
 use Rattle.pg_session.specs.Events.{SubscriberEvent, Announcing, Sample}
 use Rattle.pg_session.specs.Private as private
-use Rattle.pg_session.specs.Private.{Told, done, refused, handed, refuse, frames_of}
+use Rattle.pg_session.specs.Private.{ReplyValue, done, refused, handed, refuse, frames_of}
 use Rattle.pg_session.specs.Shown.{Model, begin}
 use Rattle.pg_session.specs.ByAll.{by_arrivals, by_numbers}
 use Rattle.pg_session.specs.Standing.{standing_of}
-use Rattle.pg_gateway.specs.GatewayEvents.{GatewayEvent, add_pmu, drop_pmu, add_sub, drop_sub, grant, asks, announce, measure, tick, stats, pmu_stats, audit, standing, who_waits, Answer, tells, sub_counts, pmu_counts, entry, stands, those_waiting}
+use Rattle.pg_gateway.specs.GatewayEvents.{GatewayEvent, add_pmu, drop_pmu, add_sub, drop_sub, grant, asks, announce, measure, tick, stats, pmu_stats, audit, standing, who_waits, Answer, tells, sub_counts, pmu_counts, entry, stands, those_waiting, inquires}
 use Rattle.pg_gateway.specs.Judging.{registered_of, judged, taken_of, first_refusal, blocks_counted, all_announced, memory_counted}
 use Rattle.pg_gateway.specs.Sharing.{SubscriberSlot, SubscriberSlots, Broadcast, revokes, announces, measures, ticks, total, broadcast}
 
@@ -85,28 +85,20 @@ module _ (S : SharedMachine) where
   refusal (announce config) = announce_refusal (registered_of S.pmus config)
   refusal (measure m) = measure_refusal (judged_in m) (taken_in m)
   refusal (tick soc) = None
-  refusal (stats u) = refuse (not (is_some (slot_of u S.subs))) NoSuchSub None
-  refusal (pmu_stats key) = refuse (not (has_key S.pmus key)) NoSuchPmu None
-  refusal (who_waits us) = None
-  refusal (audit u index) = refuse (not (is_some (slot_of u S.subs))) NoSuchSub None
-  refusal (standing u place) = refuse (not (is_some (slot_of u S.subs))) NoSuchSub None
+  refusal (inquires (stats u)) = refuse (not (is_some (slot_of u S.subs))) NoSuchSub None
+  refusal (inquires (pmu_stats key)) = refuse (not (has_key S.pmus key)) NoSuchPmu None
+  refusal (inquires (who_waits us)) = None
+  refusal (inquires (audit u index)) = refuse (not (is_some (slot_of u S.subs))) NoSuchSub None
+  refusal (inquires (standing u place)) = refuse (not (is_some (slot_of u S.subs))) NoSuchSub None
 
 -- events that may be refused for want of memory
 abbrev pub takes_memory : GatewayEvent → Bool
-takes_memory (add_pmu key) = true
 takes_memory (drop_pmu key) = false
-takes_memory (add_sub u size bytes) = true
 takes_memory (drop_sub u) = false
-takes_memory (grant u key) = true
 takes_memory (asks u x) = private.takes_memory x
-takes_memory (announce config) = true
-takes_memory (measure m) = true
 takes_memory (tick soc) = false
-takes_memory (stats u) = false
-takes_memory (pmu_stats key) = false
-takes_memory (who_waits us) = false
-takes_memory (audit u index) = false
-takes_memory (standing u place) = false
+takes_memory (inquires q) = false
+takes_memory _ = true
 
 -- whom an event reaches, and as what
 pub data Target : Type 0 where
@@ -132,11 +124,7 @@ target S (asks u x) = to_one u x
 target S (announce config) = unless (refusal S (announce config)) (to_all (announces (registered_of S.pmus config)))
 target S (measure m) = unless (refusal S (measure m)) (to_all (measures m.soc m.quality m.frac (taken_in S m)))
 target S (tick soc) = to_all (ticks soc)
-target S (stats u) = to_none
-target S (pmu_stats key) = to_none
-target S (who_waits us) = to_none
-target S (audit u index) = to_none
-target S (standing u place) = to_none
+target S (inquires q) = to_none
 
 -- the frames that an event makes for the one that it reaches, or for all
 abbrev pub own_frames : Option SubscriberSlot → SubscriberEvent → ℕ
@@ -154,11 +142,11 @@ abbrev pub made : SharedMachine → GatewayEvent → ℕ
 made S e = frames_reached (target S e) S.subs
 
 -- the reply to an event that is not refused, with k of the frames made kept
-abbrev pub own_answer : Option SubscriberSlot → SubscriberEvent → ℕ → Told
+abbrev pub own_answer : Option SubscriberSlot → SubscriberEvent → ℕ → ReplyValue
 own_answer None x k = refused NoSuchSub
 own_answer (Some s) x k = private.answer by_arrivals by_numbers s.own x k
 
-abbrev pub reached_answer : Target → SubscriberSlots → ℕ → Told
+abbrev pub reached_answer : Target → SubscriberSlots → ℕ → ReplyValue
 reached_answer (to_all o) slots k = done (total o slots) k
 reached_answer (to_one u x) slots k = own_answer (slot_of u slots) x k
 reached_answer (adds u size bytes last) slots k = done 0 k
@@ -199,11 +187,11 @@ answer S (asks u x) k = tells (reached_answer (target S (asks u x)) S.subs k)
 answer S (announce config) k = tells (reached_answer (target S (announce config)) S.subs k)
 answer S (measure m) k = tells (reached_answer (target S (measure m)) S.subs k)
 answer S (tick soc) k = tells (reached_answer (target S (tick soc)) S.subs k)
-answer S (stats u) k = stats_answer (slot_of u S.subs)
-answer S (pmu_stats key) k = pmu_answer (pmu_of S.pmus key)
-answer S (who_waits us) k = those_waiting (waiting_among S.subs us)
-answer S (audit u index) k = audit_answer (slot_of u S.subs) index
-answer S (standing u place) k = standing_answer (slot_of u S.subs) place
+answer S (inquires (stats u)) k = stats_answer (slot_of u S.subs)
+answer S (inquires (pmu_stats key)) k = pmu_answer (pmu_of S.pmus key)
+answer S (inquires (who_waits us)) k = those_waiting (waiting_among S.subs us)
+answer S (inquires (audit u index)) k = audit_answer (slot_of u S.subs) index
+answer S (inquires (standing u place)) k = standing_answer (slot_of u S.subs) place
 
 -- This answer may come to the event: its first refusal, or the reply with some of the frames made kept, or want of memory.
 abbrev pub May : SharedMachine → GatewayEvent → Answer → Type 0
@@ -211,30 +199,30 @@ May S e a = MatchOption (refusal S e)
     (((k : ℕ) × (k ≤ made S e) × (a ≡ answer S e k)) ⊎ ((a ≡ tells (refused NoMemory)) × (takes_memory e ≡ true)))
     (λ first. a ≡ tells (refused first))
 
-abbrev pub is_refusal : Told → Bool
+abbrev pub is_refusal : ReplyValue → Bool
 is_refusal (done made kept) = false
 is_refusal (refused r) = true
 is_refusal (handed bytes begun gap) = false
 
 -- refused for want of memory
-abbrev pub wants_memory : Told → Bool
+abbrev pub wants_memory : ReplyValue → Bool
 wants_memory (done made kept) = false
 wants_memory (refused r) = number_of r == 1
 wants_memory (handed bytes begun gap) = false
 
-abbrev pub kept_of : Told → ℕ
+abbrev pub kept_of : ReplyValue → ℕ
 kept_of (done made kept) = kept
 kept_of (refused r) = 0
 kept_of (handed bytes begun gap) = 0
 
 -- the subscribers after a reply
-abbrev pub moved : SubscriberEvent → Told → SubscriberSlot → SubscriberSlot
+abbrev pub moved : SubscriberEvent → ReplyValue → SubscriberSlot → SubscriberSlot
 moved x t s = record s { own = private.next by_arrivals by_numbers s.own x t }
 
 abbrev pub added : ℕ → ℕ → Option ℕ → SubscriberSlot
 added size bytes last = record { own = begin size bytes last; noted = [] }
 
-abbrev pub slots_after : Target → Told → SubscriberSlots → SubscriberSlots
+abbrev pub slots_after : Target → ReplyValue → SubscriberSlots → SubscriberSlots
 slots_after (to_all o) t slots = if is_refusal t then slots else broadcast o slots (kept_of t)
 slots_after (to_one u x) t slots = at_slot u (moved x t) slots
 slots_after (adds u size bytes last) t slots = if is_refusal t then slots else slots ++ (u, added size bytes last) ∷ []
@@ -256,23 +244,13 @@ noted_as (own.command number word) = Some Command
 noted_as (own.drain n) = None
 
 abbrev pub names : GatewayEvent → Option (ℕ × What)
-names (add_pmu key) = None
-names (drop_pmu key) = None
 names (add_sub u size bytes) = Some (u, AddSub)
-names (drop_sub u) = None
 names (grant u key) = Some (u, Grant)
 names (asks u x) = option_map (λ what. (u, what)) (noted_as x)
-names (announce config) = None
-names (measure m) = None
-names (tick soc) = None
-names (stats u) = None
-names (pmu_stats key) = None
-names (who_waits us) = None
-names (audit u index) = None
-names (standing u place) = None
+names _ = None
 
 -- why it was refused, or None
-abbrev pub code_of : Told → Option Refusal
+abbrev pub code_of : ReplyValue → Option Refusal
 code_of (done made kept) = None
 code_of (refused r) = Some r
 code_of (handed bytes begun gap) = None
@@ -281,12 +259,12 @@ code_of (handed bytes begun gap) = None
 abbrev pub with_note : Noted → SubscriberSlot → SubscriberSlot
 with_note n s = record s { noted = s.noted ++ n ∷ [] }
 
-abbrev pub slots_noted : Option (ℕ × What) → Told → SubscriberSlots → SubscriberSlots
+abbrev pub slots_noted : Option (ℕ × What) → ReplyValue → SubscriberSlots → SubscriberSlots
 slots_noted None t slots = slots
 slots_noted (Some named) t slots = at_slot named.0 (with_note (named.1, code_of t)) slots
 
 -- the registered PMUs after a reply, with what each announced and with its counters
-abbrev pub pmus_after : SharedMachine → GatewayEvent → Told → Pmus
+abbrev pub pmus_after : SharedMachine → GatewayEvent → ReplyValue → Pmus
 pmus_after S (add_pmu key) t = if is_refusal t then S.pmus else S.pmus ++ (key, unannounced) ∷ []
 pmus_after S (drop_pmu key) t = if is_refusal t then S.pmus else remove_entry (key_eq key) S.pmus
 pmus_after S (add_sub u size bytes) t = S.pmus
@@ -302,27 +280,11 @@ pmus_after S (measure m) t =
     then memory_counted S.pmus (map (λ b. b.0) (judged_in S m))
     else blocks_counted S.pmus (judged_in S m)
 pmus_after S (tick soc) t = S.pmus
-pmus_after S (stats u) t = S.pmus
-pmus_after S (pmu_stats key) t = S.pmus
-pmus_after S (who_waits us) t = S.pmus
-pmus_after S (audit u index) t = S.pmus
-pmus_after S (standing u place) t = S.pmus
+pmus_after S (inquires q) t = S.pmus
 
 abbrev pub tick_after : Option ℕ → GatewayEvent → Option ℕ
-tick_after last (add_pmu key) = last
-tick_after last (drop_pmu key) = last
-tick_after last (add_sub u size bytes) = last
-tick_after last (drop_sub u) = last
-tick_after last (grant u key) = last
-tick_after last (asks u x) = last
-tick_after last (announce config) = last
-tick_after last (measure m) = last
 tick_after last (tick soc) = Some soc
-tick_after last (stats u) = last
-tick_after last (pmu_stats key) = last
-tick_after last (who_waits us) = last
-tick_after last (audit u index) = last
-tick_after last (standing u place) = last
+tick_after last _ = last
 
 -- the state after an event and its answer
 abbrev pub next : SharedMachine → GatewayEvent → Answer → SharedMachine

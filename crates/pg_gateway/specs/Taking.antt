@@ -9,7 +9,7 @@ use Rattle.pg_wire.specs.declared.refusal.Refusal.{Refusal}
 use Rattle.pg_wire.specs.declared.refusal.Refusal.TheVariants.{NoSuchSub, NoMemory}
 use Rattle.pg_session.specs.declared.event.PrivateEvent.{PrivateEvent}
 use Rattle.pg_session.specs.declared.event.PrivateEvent.TheVariants as private
-use Rattle.pg_session.specs.Private.{refusal, Told, done, refused, handed, May}
+use Rattle.pg_session.specs.Private.{refusal, ReplyValue, done, refused, handed, May}
 use Rattle.pg_session.specs.ByAll.{by_arrivals, by_numbers}
 use Rattle.pg_session.specs.Shown.{SubscriberValue}
 use Rattle.pg_session.specs.Steps.{HasNoCopies}
@@ -20,7 +20,7 @@ use Rattle.pg_gateway.specs.declared.event.Event.TheVariants as event
 use Rattle.pg_gateway.specs.Sharing.{SubscriberSlot, SubscriberSlots, Broadcast, revokes, announces, measures, ticks, share, frames_for, shared_to, total, broadcast}
 use Rattle.pg_audit.specs.declared.audit.What.{What}
 use Rattle.pg_audit.specs.declared.audit.What.TheVariants as audited
-use Rattle.pg_gateway.specs.GatewayEvents.{GatewayEvent, add_pmu, drop_pmu, add_sub, drop_sub, grant, asks, announce, measure, tick, stats, pmu_stats, audit, standing, who_waits, Answer, tells}
+use Rattle.pg_gateway.specs.GatewayEvents.{GatewayEvent, grant, asks, measure, audit, Answer, tells}
 use Rattle.pg_gateway.specs.State.{slot_of, at_slot, moved, names, with_note, code_of, slots_noted}
 use Rattle.pg_gateway.specs.Related.{Related}
 use Rattle.pg_gateway.specs.Shown.{SlotValue, SlotShows}
@@ -41,68 +41,18 @@ broadcast_of (event.DropPmu key) places = revokes key
 broadcast_of (event.Announce config) places = announces (announced_at (arc_value config) places)
 broadcast_of (event.Measure frame) places = measured (arc_value frame) places
 broadcast_of (event.Tick soc) places = ticks soc
-broadcast_of (event.AddPmu key) places = announces []
-broadcast_of (event.AddSub u size bytes) places = announces []
-broadcast_of (event.DropSub u) places = announces []
-broadcast_of (event.Grant u key) places = announces []
-broadcast_of (event.Revoke u key) places = announces []
-broadcast_of (event.Define u definition) places = announces []
-broadcast_of (event.Remove u number) places = announces []
-broadcast_of (event.Connect u) places = announces []
-broadcast_of (event.Hangup u) places = announces []
-broadcast_of (event.Command u asked) places = announces []
-broadcast_of (event.Drain u buf) places = announces []
-broadcast_of (event.Stats u) places = announces []
-broadcast_of (event.PmuStats key) places = announces []
-broadcast_of (event.WhoWaits subs) places = announces []
-broadcast_of (event.Audit u index) places = announces []
-broadcast_of (event.Standing u place) places = announces []
+broadcast_of _ places = announces []
 
 -- these are places of the frame's PMUs, and rise
 abbrev pub IsRising : Event → List ℕ → Type 0
 IsRising (event.Announce config) places = AreRising 0 (length (arc_value config).parts) places
 IsRising (event.Measure frame) places = AreRising 0 (length (arc_value frame).config.parts) places
-IsRising (event.DropPmu key) places = Unit {0}
-IsRising (event.Tick soc) places = Unit {0}
-IsRising (event.AddPmu key) places = Unit {0}
-IsRising (event.AddSub u size bytes) places = Unit {0}
-IsRising (event.DropSub u) places = Unit {0}
-IsRising (event.Grant u key) places = Unit {0}
-IsRising (event.Revoke u key) places = Unit {0}
-IsRising (event.Define u definition) places = Unit {0}
-IsRising (event.Remove u number) places = Unit {0}
-IsRising (event.Connect u) places = Unit {0}
-IsRising (event.Hangup u) places = Unit {0}
-IsRising (event.Command u asked) places = Unit {0}
-IsRising (event.Drain u buf) places = Unit {0}
-IsRising (event.Stats u) places = Unit {0}
-IsRising (event.PmuStats key) places = Unit {0}
-IsRising (event.WhoWaits subs) places = Unit {0}
-IsRising (event.Audit u index) places = Unit {0}
-IsRising (event.Standing u place) places = Unit {0}
+IsRising _ places = Unit {0}
 
 -- the event is no data frame
 abbrev pub IsNoFrame : Event → Type 0
 IsNoFrame (event.Measure frame) = ⊥
-IsNoFrame (event.Announce config) = Unit {0}
-IsNoFrame (event.DropPmu key) = Unit {0}
-IsNoFrame (event.Tick soc) = Unit {0}
-IsNoFrame (event.AddPmu key) = Unit {0}
-IsNoFrame (event.AddSub u size bytes) = Unit {0}
-IsNoFrame (event.DropSub u) = Unit {0}
-IsNoFrame (event.Grant u key) = Unit {0}
-IsNoFrame (event.Revoke u key) = Unit {0}
-IsNoFrame (event.Define u definition) = Unit {0}
-IsNoFrame (event.Remove u number) = Unit {0}
-IsNoFrame (event.Connect u) = Unit {0}
-IsNoFrame (event.Hangup u) = Unit {0}
-IsNoFrame (event.Command u asked) = Unit {0}
-IsNoFrame (event.Drain u buf) = Unit {0}
-IsNoFrame (event.Stats u) = Unit {0}
-IsNoFrame (event.PmuStats key) = Unit {0}
-IsNoFrame (event.WhoWaits subs) = Unit {0}
-IsNoFrame (event.Audit u index) = Unit {0}
-IsNoFrame (event.Standing u place) = Unit {0}
+IsNoFrame _ = Unit {0}
 
 -- the PMU at a place passes a test of its key
 abbrev pub part_passes : (PmuKey → Bool) → Source → Option Part → Bool
@@ -142,7 +92,7 @@ pub record IsBroadcast (o : Broadcast) (made kept : ℕ) (slots : SubscriberSlot
   pub shows : Related SlotShows entries (broadcast o slots kept)
 
 -- what a reply counts
-abbrev pub counts_of : Told → ℕ × ℕ
+abbrev pub counts_of : ReplyValue → ℕ × ℕ
 counts_of (done made kept) = (made, kept)
 counts_of (refused r) = (0, 0)
 counts_of (handed bytes begun gap) = (0, 0)
@@ -169,96 +119,63 @@ abbrev pub AsksNothing : PrivateEvent → Type 0
 AsksNothing (private.Grant key config) = ⊥
 AsksNothing (private.Announce config places) = ⊥
 AsksNothing (private.Measure frame places) = ⊥
-AsksNothing (private.Revoke key) = Unit {0}
-AsksNothing (private.Define definition) = Unit {0}
-AsksNothing (private.Remove number) = Unit {0}
-AsksNothing (private.Tick soc) = Unit {0}
-AsksNothing private.Connect = Unit {0}
-AsksNothing private.Hangup = Unit {0}
-AsksNothing (private.Command asked) = Unit {0}
-AsksNothing (private.Drain buf) = Unit {0}
+AsksNothing _ = Unit {0}
 
 -- this may come to an event for the subscriber, which may not be there
-abbrev pub OwnMay : Option SubscriberSlot → SubscriberEvent → Told → Type 0
+abbrev pub OwnMay : Option SubscriberSlot → SubscriberEvent → ReplyValue → Type 0
 OwnMay None x t = t ≡ refused NoSuchSub
 OwnMay (Some s) x t = May by_arrivals by_numbers s.own x false t
 
 -- The subscriber of a number took an event for it alone, which is noted where such are.
-pub record TakesAt (u : ℕ) (x : SubscriberEvent) (t : Told) (slots : SubscriberSlots) (entries : List (ℕ × SlotValue)) : Type 0 where
+pub record TakesAt (u : ℕ) (x : SubscriberEvent) (t : ReplyValue) (slots : SubscriberSlots) (entries : List (ℕ × SlotValue)) : Type 0 where
   pub may : OwnMay (slot_of u slots) x t
   pub shows : Related SlotShows entries (slots_noted (names (asks u x)) t (at_slot u (moved x t) slots))
 
 -- A subscriber took an event for it alone, which is noted as this, or not.
-abbrev pub noted_by : Option What → Told → SubscriberSlot → SubscriberSlot
+abbrev pub noted_by : Option What → ReplyValue → SubscriberSlot → SubscriberSlot
 noted_by None t s = s
 noted_by (Some what) t s = with_note (what, code_of t) s
 
-pub record Asks (s : SubscriberSlot) (x : SubscriberEvent) (t : Told) (named : Option What) (v : SlotValue) : Type 0 where
+pub record Asks (s : SubscriberSlot) (x : SubscriberEvent) (t : ReplyValue) (named : Option What) (v : SlotValue) : Type 0 where
   pub may : May by_arrivals by_numbers s.own x false t
   pub shows : SlotShows v (noted_by named t (moved x t s))
 
 -- The subscriber of a number was drained.
 pub record DrainsAt (u n : ℕ) (a : Answer) (slots : SubscriberSlots) (entries : List (ℕ × SlotValue)) : Type 0 where
-  pub t : Told
+  pub t : ReplyValue
   pub is : a ≡ tells t
   pub takes : TakesAt u (drain n) t slots entries
 
 -- this may come to a grant of a registered PMU to the subscriber, which may not be there
-abbrev pub GrantMay : Option SubscriberSlot → SubscriberEvent → Told → Type 0
+abbrev pub GrantMay : Option SubscriberSlot → SubscriberEvent → ReplyValue → Type 0
 GrantMay None x t = t ≡ refused NoSuchSub
 GrantMay (Some s) x t = May by_arrivals by_numbers s.own x false t ⊎ ((refusal by_arrivals by_numbers s.own x ≡ None) × (t ≡ refused NoMemory))
 
 -- A subscriber took a grant, or memory was refused before it did; it is noted as this, or not.
-pub record Grants (s : SubscriberSlot) (x : SubscriberEvent) (t : Told) (named : Option What) (v : SlotValue) : Type 0 where
+pub record Grants (s : SubscriberSlot) (x : SubscriberEvent) (t : ReplyValue) (named : Option What) (v : SlotValue) : Type 0 where
   pub may : GrantMay (Some s) x t
   pub shows : SlotShows v (noted_by named t (moved x t s))
 
 -- Whatever a subscriber shows, it took a grant, and no memory is refused to one that needs no copy. No copies lie ready.
-pub record TakesGrant (x : SubscriberEvent) (named : Option What) (old : SlotValue) (t : Told) (new : SlotValue) : Type 0 where
+pub record TakesGrant (x : SubscriberEvent) (named : Option What) (old : SlotValue) (t : ReplyValue) (new : SlotValue) : Type 0 where
   pub grants : (s : SubscriberSlot) → SlotShows old s → Grants s x t named new
   pub frugal : (s : SubscriberSlot) → SlotShows old s → refusal by_arrivals by_numbers s.own x ≡ None → NeedsNone old.subscriber x → t ≢ refused NoMemory
   pub none : HasNone new
 
-pub record GrantsAt (u : ℕ) (x : SubscriberEvent) (t : Told) (slots : SubscriberSlots) (entries : List (ℕ × SlotValue)) : Type 0 where
+pub record GrantsAt (u : ℕ) (x : SubscriberEvent) (t : ReplyValue) (slots : SubscriberSlots) (entries : List (ℕ × SlotValue)) : Type 0 where
   pub may : GrantMay (slot_of u slots) x t
   pub shows : Related SlotShows entries (at_slot u (with_note (audited.Grant, code_of t)) (at_slot u (moved x t) slots))
 
 -- events that are offered to all subscribers
 abbrev pub IsForAll : Event → Type 0
-IsForAll (event.AddPmu key) = ⊥
 IsForAll (event.DropPmu key) = Unit {0}
-IsForAll (event.AddSub u size bytes) = ⊥
-IsForAll (event.DropSub u) = ⊥
-IsForAll (event.Grant u key) = ⊥
-IsForAll (event.Revoke u key) = ⊥
-IsForAll (event.Define u definition) = ⊥
-IsForAll (event.Remove u number) = ⊥
 IsForAll (event.Announce config) = Unit {0}
 IsForAll (event.Measure frame) = Unit {0}
 IsForAll (event.Tick soc) = Unit {0}
-IsForAll (event.Connect u) = ⊥
-IsForAll (event.Hangup u) = ⊥
-IsForAll (event.Command u asked) = ⊥
-IsForAll (event.Drain u buf) = ⊥
-IsForAll (event.Stats u) = ⊥
-IsForAll (event.PmuStats key) = ⊥
-IsForAll (event.WhoWaits subs) = ⊥
-IsForAll (event.Audit u index) = ⊥
-IsForAll (event.Standing u place) = ⊥
+IsForAll _ = ⊥
 
 -- events whose copies of a PMU's configuration or block may be needed or not
 abbrev pub MayCopy : GatewayEvent → Type 0
 MayCopy (grant u key) = Unit {0}
 MayCopy (measure m) = Unit {0}
-MayCopy (asks u x) = ⊥
-MayCopy (add_pmu key) = ⊥
-MayCopy (add_sub u size bytes) = ⊥
-MayCopy (announce config) = ⊥
-MayCopy (drop_pmu key) = ⊥
-MayCopy (drop_sub u) = ⊥
-MayCopy (tick soc) = ⊥
-MayCopy (stats u) = ⊥
-MayCopy (pmu_stats key) = ⊥
-MayCopy (who_waits us) = ⊥
-MayCopy (audit u index) = ⊥
-MayCopy (standing u place) = ⊥
+MayCopy _ = ⊥

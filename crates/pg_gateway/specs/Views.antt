@@ -4,39 +4,39 @@ use Rattle.pg_wire.specs.declared.refusal.Refusal.{Refusal}
 use Rattle.pg_wire.specs.declared.refusal.Refusal.TheVariants.{NoMemory}
 use Rattle.pg_session.specs.Events.{SubscriberEvent}
 use Rattle.pg_session.specs.Private as session
-use Rattle.pg_session.specs.Private.{Told, done, refused, handed, frames_of}
+use Rattle.pg_session.specs.Private.{ReplyValue, done, refused, handed, frames_of}
 use Rattle.pg_session.specs.Shown.{Model, begin}
 use Rattle.pg_session.specs.ByAll.{by_arrivals, by_numbers}
-use Rattle.pg_gateway.specs.GatewayEvents.{GatewayEvent, add_pmu, drop_pmu, add_sub, drop_sub, grant, asks, announce, measure, tick, stats, pmu_stats, audit, standing, who_waits, Answer, tells, sub_counts, pmu_counts, entry, stands, those_waiting}
+use Rattle.pg_gateway.specs.GatewayEvents.{GatewayEvent, asks, Answer, tells, sub_counts, pmu_counts, entry, stands, those_waiting}
 use Rattle.pg_gateway.specs.Sharing.{Broadcast, share}
 use Rattle.pg_gateway.specs.State.{SharedMachine, own_of, refusal, Target, to_all, to_one, adds, drops, to_none, target, made, answer, next}
 
 -- what a private gateway is told
-pub data Seen : Type 0 where
+pub data ViewEvent : Type 0 where
   -- the subscriber is added: ring size, ring bytes, and the last tick or none
-  begins : ℕ → ℕ → Option ℕ → Seen
+  begins : ℕ → ℕ → Option ℕ → ViewEvent
   -- it is dropped
-  ends : Seen
-  takes : SubscriberEvent → Seen
+  ends : ViewEvent
+  takes : SubscriberEvent → ViewEvent
 
 -- the reply of a private gateway that lacks no memory: all frames are kept
-abbrev pub unless_refused : Option Refusal → Told → Told
+abbrev pub unless_refused : Option Refusal → ReplyValue → ReplyValue
 unless_refused None told = told
 unless_refused (Some r) told = refused r
 
-abbrev pub full_told : Model → SubscriberEvent → Told
+abbrev pub full_told : Model → SubscriberEvent → ReplyValue
 full_told p x =
     unless_refused (session.refusal by_arrivals by_numbers p x)
     (session.answer by_arrivals by_numbers p x (length (frames_of by_arrivals by_numbers p x)))
 
 -- one step of the private gateway; before its beginning and after its end nothing is there
-abbrev pub private_step : Option Model → Seen → Option Model
+abbrev pub private_step : Option Model → ViewEvent → Option Model
 private_step o (begins size bytes last) = Some (begin size bytes last)
 private_step o ends = None
 private_step None (takes x) = None
 private_step (Some p) (takes x) = Some (session.next by_arrivals by_numbers p x (full_told p x))
 
-abbrev pub private_run : Option Model → List Seen → Option Model
+abbrev pub private_run : Option Model → List ViewEvent → Option Model
 private_run o [] = o
 private_run o (x ∷ xs) = private_run (private_step o x) xs
 
@@ -44,19 +44,19 @@ private_run o (x ∷ xs) = private_run (private_step o x) xs
 abbrev pub Handed : Type 0
 Handed = List ℕ × ℕ × ℕ
 
-abbrev pub handed_by : Told → List Handed
+abbrev pub handed_by : ReplyValue → List Handed
 handed_by (done made kept) = []
 handed_by (refused r) = []
 handed_by (handed bytes begun gap) = (bytes, begun, gap) ∷ []
 
-abbrev pub handed_at : Option Model → Seen → List Handed
+abbrev pub handed_at : Option Model → ViewEvent → List Handed
 handed_at o (begins size bytes last) = []
 handed_at o ends = []
 handed_at None (takes x) = []
 handed_at (Some p) (takes x) = handed_by (full_told p x)
 
 -- all that the private gateway hands out
-abbrev pub handed_in : Option Model → List Seen → List Handed
+abbrev pub handed_in : Option Model → List ViewEvent → List Handed
 handed_in o [] = []
 handed_in o (x ∷ xs) = handed_at o x ++ handed_in (private_step o x) xs
 
@@ -79,27 +79,27 @@ abbrev pub full_answers : SharedMachine → List GatewayEvent → List Answer
 full_answers S [] = []
 full_answers S (e ∷ es) = full_answer S e ∷ full_answers (shared_step S e) es
 
-abbrev pub as_seen : Option SubscriberEvent → List Seen
+abbrev pub as_seen : Option SubscriberEvent → List ViewEvent
 as_seen None = []
 as_seen (Some x) = takes x ∷ []
 
-abbrev pub share_seen : Broadcast → Option Model → List Seen
+abbrev pub share_seen : Broadcast → Option Model → List ViewEvent
 share_seen o None = []
 share_seen o (Some p) = as_seen (share o p.grants)
 
 -- what u, which is this private gateway or not there, sees of an event that reaches so far
-abbrev pub part_of : ℕ → Option Model → Target → List Seen
+abbrev pub part_of : ℕ → Option Model → Target → List ViewEvent
 part_of u own (to_all o) = share_seen o own
 part_of u own (to_one w x) = if nat_eq u w && is_some own then takes x ∷ [] else []
 part_of u own (adds w size bytes last) = if nat_eq u w then begins size bytes last ∷ [] else []
 part_of u own (drops w) = if nat_eq u w then ends ∷ [] else []
 part_of u own to_none = []
 
-abbrev pub part : ℕ → SharedMachine → GatewayEvent → List Seen
+abbrev pub part : ℕ → SharedMachine → GatewayEvent → List ViewEvent
 part u S e = part_of u (own_of u S) (target S e)
 
 -- all that u sees of the events, each at the state that those before it leave
-abbrev pub view : ℕ → SharedMachine → List GatewayEvent → List Seen
+abbrev pub view : ℕ → SharedMachine → List GatewayEvent → List ViewEvent
 view u S [] = []
 view u S (e ∷ es) = part u S e ++ view u (shared_step S e) es
 
@@ -113,20 +113,8 @@ handed_out (entry found) = []
 handed_out (stands s) = []
 
 abbrev pub handed_one : ℕ → GatewayEvent → Answer → List Handed
-handed_one u (add_pmu key) a = []
-handed_one u (drop_pmu key) a = []
-handed_one u (add_sub w size bytes) a = []
-handed_one u (drop_sub w) a = []
-handed_one u (grant w key) a = []
 handed_one u (asks w x) a = if nat_eq u w then handed_out a else []
-handed_one u (announce config) a = []
-handed_one u (measure m) a = []
-handed_one u (tick soc) a = []
-handed_one u (stats w) a = []
-handed_one u (pmu_stats key) a = []
-handed_one u (who_waits us) a = []
-handed_one u (audit w index) a = []
-handed_one u (standing w place) a = []
+handed_one u _ a = []
 
 abbrev pub handed_to : ℕ → List GatewayEvent → List Answer → List Handed
 handed_to u [] answers = []

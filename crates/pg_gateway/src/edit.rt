@@ -1,8 +1,11 @@
 //! What an operator asks of the gateway.
 
+ghost use Rattle.std.specs.Prelude.{◌≡◌, IfOk};
+
 use pg_ring::{RingBytes, RingSize};
-use pg_stream::Definition;
+use pg_stream::{Definition, HeaderText, Members};
 use pg_wire::{PmuKey, StreamId, SubId};
+use std::alloc::{AllocError, Global};
 
 /// What an operator asks of the gateway: each is an event of the gateway of the same name.
 #[derive(Debug, Drop)]
@@ -29,4 +32,48 @@ pub enum Edit {
     PmuStats(PmuKey),
     /// An entry of a subscriber's audit is asked for: 0 the newest, at most 63.
     Audit(SubId, u8),
+}
+
+/// A copy of a definition.
+fn copy_definition(alloc: Global, definition: &Definition) -> Result<Definition, AllocError>
+    ensures same { IfOk result (λ copy. copy ≡ definition.now) }
+{
+    let header = definition.header.as_slice().to_vec(alloc)?;
+    let members = definition.members.as_slice().to_vec(alloc)?;
+    Ok(Definition {
+        stream: definition.stream,
+        rate: definition.rate,
+        base: definition.base,
+        wait: definition.wait,
+        window: definition.window,
+        header: HeaderText::new(header),
+        members: Members::new(members),
+    })
+}
+
+impl Edit {
+    /// A copy of the edit.
+    ///
+    /// # Errors
+    ///
+    /// There is no memory.
+    pub fn try_clone(&self, alloc: Global) -> Result<Edit, AllocError>
+        ensures same { IfOk result (λ copy. copy ≡ self.now) }
+    {
+        Ok(match self {
+            Edit::AddPmu(key) => Edit::AddPmu(*key),
+            Edit::DropPmu(key) => Edit::DropPmu(*key),
+            Edit::AddSub(sub, ring, bytes) => Edit::AddSub(*sub, *ring, *bytes),
+            Edit::DropSub(sub) => Edit::DropSub(*sub),
+            Edit::Grant(sub, key) => Edit::Grant(*sub, *key),
+            Edit::Revoke(sub, key) => Edit::Revoke(*sub, *key),
+            Edit::Define(sub, definition) => {
+                Edit::Define(*sub, copy_definition(alloc, definition)?)
+            }
+            Edit::Remove(sub, stream) => Edit::Remove(*sub, *stream),
+            Edit::Stats(sub) => Edit::Stats(*sub),
+            Edit::PmuStats(key) => Edit::PmuStats(*key),
+            Edit::Audit(sub, index) => Edit::Audit(*sub, *index),
+        })
+    }
 }

@@ -30,7 +30,7 @@ use std::sync::Arc;
 /// The gateway of one thread: at most 256 registered PMUs and 64 subscribers.
 #[derive(Drop)]
 pub struct Gateway {
-    kernel: GatewayState,
+    state: GatewayState,
     routes: Routes,
 }
 
@@ -41,9 +41,9 @@ impl Model for Gateway {
 
     ghost Value = { GatewayValue };
 
-    ghost view = { λ g. g.kernel };
+    ghost view = { λ g. g.state };
 
-    ghost invariant = { λ g. IsReached g.kernel × IsRouted g.kernel g.routes };
+    ghost invariant = { λ g. IsReached g.state × IsRouted g.state g.routes };
 }
 
 /// What an event says was read, where a source announced it.
@@ -77,7 +77,7 @@ impl Gateway {
         ensures memory { IfErr result (λ refusal. refusal ≡ Refusal.NoMemory) }
     {
         Ok(Gateway {
-            kernel: GatewayState::new(alloc)?,
+            state: GatewayState::new(alloc)?,
             routes: Routes::new(alloc)?,
         })
     }
@@ -115,8 +115,8 @@ impl Gateway {
         ensures frugal { Frugal self.old (measure (arc_value frame.now)) (told_to_all result) }
         ensures limits { IsWithinLimits self.new }
     {
-        let counts = self.kernel.measure(frame, &mut self.routes);
-        self.kernel.tell_limits();
+        let counts = self.state.measure(frame, &mut self.routes);
+        self.state.tell_limits();
         counts
     }
 
@@ -130,8 +130,8 @@ impl Gateway {
         ensures buffer { KeepsBuffer buf.items result }
         ensures limits { IsWithinLimits self.new }
     {
-        let reply = self.kernel.drain(sub, buf);
-        self.kernel.tell_limits();
+        let reply = self.state.drain(sub, buf);
+        self.state.tell_limits();
         reply
     }
 
@@ -147,8 +147,8 @@ impl Gateway {
     {
         posted(&event);
         let kept = keeps_routes(&event);
-        let reply = self.kernel.step(event, &mut self.routes);
-        self.kernel.tell_limits();
+        let reply = self.state.step(event, &mut self.routes);
+        self.state.tell_limits();
         self.routes.keep(kept);
         reply
     }
@@ -157,28 +157,28 @@ impl Gateway {
     pub fn has_sub(&self, sub: SubId) -> bool
         ensures value { (S : SharedMachine) → GatewayShows self.now S → result ≡ is_some (slot_of sub S.subs) }
     {
-        self.kernel.has_sub(sub)
+        self.state.has_sub(sub)
     }
 
     /// Whether a subscriber is there and connected.
     pub fn is_connected(&self, sub: SubId) -> bool
         ensures value { (S : SharedMachine) → GatewayShows self.now S → result ≡ option_map_or (λ p. p.connected) (own_of sub S) false }
     {
-        self.kernel.is_connected(sub)
+        self.state.is_connected(sub)
     }
 
     /// Whether a PMU of a source is registered. It looks through the keys.
     pub fn has_source(&self, source: PmuId) -> bool
         ensures value { (S : SharedMachine) → GatewayShows self.now S → result ≡ has_source S.pmus source }
     {
-        self.kernel.has_source(source)
+        self.state.has_source(source)
     }
 
     /// Whether 256 PMUs are registered, so that there is no room for another.
     pub fn is_full(&self) -> bool
         ensures value { (S : SharedMachine) → GatewayShows self.now S → result ≡ nat_le 256 (length S.pmus) }
     {
-        self.kernel.is_full()
+        self.state.is_full()
     }
 
     /// What waits to be handed out to a subscriber, where it is there.
@@ -186,6 +186,6 @@ impl Gateway {
         ensures value { option_map (λ queue. queue.now) result
             ≡ option_map (λ (s : SlotValue). s.subscriber.own.output.queue) (lookup (nat_eq sub) self.now.subs) }
     {
-        self.kernel.queue(sub)
+        self.state.queue(sub)
     }
 }

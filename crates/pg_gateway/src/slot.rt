@@ -454,12 +454,12 @@ fn counts(reply: PrivateReply) -> (u64, u64)
     }
 }
 
-/// Whether the PMU at a place is granted to the subscriber, where it is guessed to stand at `next`.
-fn is_held(subscriber: &Subscriber, config: &SourceConfig, place: usize, next: &mut usize) -> bool
+/// Whether the PMU at a place is granted to the subscriber.
+fn is_held(subscriber: &Subscriber, config: &SourceConfig, place: usize) -> bool
     requires place { place < length config.now.parts }
     ensures { result ≡ part_passes (has_key subscriber.now.own.grants) config.now (slice_get config.now.parts place) }
 {
-    subscriber.holds_next(config.key(place), next)
+    subscriber.holds(config.key(place))
 }
 
 /// Of a source's PMUs at these places, those that the subscriber is granted. It answers whether there are any.
@@ -480,9 +480,8 @@ fn hold(
 {
     let _count = config.count();
     held.clear();
-    let mut next = 0;
     for place in places {
-        if is_held(subscriber, config, *place, &mut next) {
+        if is_held(subscriber, config, *place) {
             held.push_reserved(*place);
         }
     }

@@ -6,7 +6,7 @@ ghost use Rattle.pg_session.specs.Events.{announced_at, subscriber_event, drain}
 ghost use Rattle.pg_session.specs.Private.{told as private_told};
 ghost use Rattle.pg_gateway.specs.Related.{Related};
 ghost use Rattle.pg_gateway.specs.Sharing.{SubscriberSlots, announces, revokes, ticks};
-ghost use Rattle.pg_gateway.specs.GatewayEvents.{gateway_event, told, tells, add_pmu, drop_pmu, add_sub, drop_sub, asks, tick, stats, pmu_stats, audit, standing, who_waits, announce, measure, grant};
+ghost use Rattle.pg_gateway.specs.GatewayEvents.{gateway_event, told, tells, add_pmu, drop_pmu, add_sub, drop_sub, asks, tick, stats, pmu_stats, audit, standing, who_waits, announce, measure, grant, inquires};
 ghost use Rattle.std.specs.Map.{lookup};
 ghost use Rattle.std.specs.Option.{option_map_or};
 ghost use Rattle.pg_registry.specs.Registered.{has_source};
@@ -413,7 +413,7 @@ impl GatewayState {
 
     /// A subscriber's counters are asked for.
     pub(crate) fn stats(&self, sub: SubId) -> Reply
-        ensures goes { Goes self.now (stats sub) (told result) self.now }
+        ensures goes { Goes self.now (inquires (stats sub)) (told result) self.now }
         ensures plain { IsPlain result }
     {
         match self.subs.get(&sub) {
@@ -424,7 +424,7 @@ impl GatewayState {
 
     /// A registered PMU's counters are asked for.
     pub(crate) fn pmu_stats(&self, key: PmuKey) -> Reply
-        ensures goes { Goes self.now (pmu_stats key) (told result) self.now }
+        ensures goes { Goes self.now (inquires (pmu_stats key)) (told result) self.now }
         ensures plain { IsPlain result }
     {
         match self.registry.stats_of(key) {
@@ -435,7 +435,7 @@ impl GatewayState {
 
     /// An entry of a subscriber's audit is asked for.
     pub(crate) fn audit(&self, sub: SubId, index: u8) -> Reply
-        ensures goes { Goes self.now (audit sub index) (told result) self.now }
+        ensures goes { Goes self.now (inquires (audit sub index)) (told result) self.now }
         ensures plain { IsPlain result }
     {
         match self.subs.get(&sub) {
@@ -446,7 +446,7 @@ impl GatewayState {
 
     /// How a subscriber stands is asked for.
     pub(crate) fn standing(&self, sub: SubId, place: u8) -> Reply
-        ensures goes { Goes self.now (standing sub place) (told result) self.now }
+        ensures goes { Goes self.now (inquires (standing sub place)) (told result) self.now }
         ensures plain { IsPlain result }
     {
         match self.subs.get(&sub) {
@@ -457,7 +457,7 @@ impl GatewayState {
 
     /// For which of these subscribers something waits is asked for.
     pub(crate) fn who_waits(&self, subs: Vec<SubId>) -> Reply
-        ensures goes { Goes self.now (who_waits subs.items) (told result) self.now }
+        ensures goes { Goes self.now (inquires (who_waits subs.items)) (told result) self.now }
         ensures plain { IsPlain result }
     {
         Reply::Waiting(waiting_among(&self.subs, subs))

@@ -1,10 +1,10 @@
 -- Where the last Connect of two equal views is the one of a seat, the views up to it are equal.
-use Rattle.std.proofs.Common.{◌≡◌, ◌≢◌, refl, sym, ap, ap₂, subst, ◌∙◌, ℕ, List, [], ◌∷◌, ◌++◌, append_assoc}
+use Rattle.std.proofs.Common.{◌≡◌, refl, sym, ap, ap₂, subst, ◌∙◌, ℕ, List, [], ◌∷◌, ◌++◌, append_assoc}
 use Rattle.pg_session.specs.Events.{connect}
 use Rattle.pg_gateway.specs.GatewayEvents.{GatewayEvent, gateway_event}
 use Rattle.pg_gateway.specs.State.{SharedMachine, opening}
 use Rattle.pg_gateway.specs.Laws.{after}
-use Rattle.pg_gateway.specs.Views.{Seen, takes, part, shared_step, shared_run, view}
+use Rattle.pg_gateway.specs.Views.{ViewEvent, takes, part, shared_step, shared_run, view}
 use Rattle.pg_shared.specs.Sharing.{Call}
 use Rattle.pg_shared.specs.Delivery.{events_in}
 use Rattle.pg_laws.specs.Since.{SeesNoConnect, ConnectsLast}
@@ -27,21 +27,21 @@ view_behind u whole before since split =
     ∙ view_more u opening (events_in before) (events_in since)
 
 -- there is a Connect
-sees : (xs ys : List Seen) → SeesNoConnect ((xs ++ takes connect ∷ []) ++ ys) → ⊥
+sees : (xs ys : List ViewEvent) → SeesNoConnect ((xs ++ takes connect ∷ []) ++ ys) → ⊥
 sees [] ys none = none.0 refl
 sees (x ∷ xs) ys none = sees xs ys none.1
 
-none_as : (xs ys : List Seen) → xs ≡ ys → SeesNoConnect xs → SeesNoConnect ys
+none_as : (xs ys : List ViewEvent) → xs ≡ ys → SeesNoConnect xs → SeesNoConnect ys
 none_as xs ys same none = subst SeesNoConnect same none
 
-head_same : (x y : Seen) (xs ys : List Seen) → x ∷ xs ≡ y ∷ ys → x ≡ y
+head_same : (x y : ViewEvent) (xs ys : List ViewEvent) → x ∷ xs ≡ y ∷ ys → x ≡ y
 head_same x y xs ys same = cc
 
-tail_same : (x y : Seen) (xs ys : List Seen) → x ∷ xs ≡ y ∷ ys → xs ≡ ys
+tail_same : (x y : ViewEvent) (xs ys : List ViewEvent) → x ∷ xs ≡ y ∷ ys → xs ≡ ys
 tail_same x y xs ys same = cc
 
 -- The last Connect of a list stands at one place.
-last_same : (xs ys more others : List Seen) → SeesNoConnect more → SeesNoConnect others
+last_same : (xs ys more others : List ViewEvent) → SeesNoConnect more → SeesNoConnect others
     → (xs ++ takes connect ∷ []) ++ more ≡ (ys ++ takes connect ∷ []) ++ others → xs ≡ ys
 last_same [] [] more others none none' same = refl
 last_same [] (y ∷ ys) more others none none' same =

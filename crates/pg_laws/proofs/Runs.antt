@@ -11,7 +11,7 @@ use Rattle.pg_align.specs.Histories.{StreamHistory}
 use Rattle.pg_outcfg.specs.Listing.{Listing, without_config}
 use Rattle.pg_session.specs.Events.{SubscriberEvent, grant, revoke, announce, measure, define, remove, tick, connect, hangup, command, drain}
 use Rattle.pg_session.specs.Streams.{StreamOf, frame_len, still, reshape_turn, measure_turn, tick_turn}
-use Rattle.pg_session.specs.Private.{Told, done, refused, handed, May, next, refusal, refuse, refused_at, effect, turns_of, stream_at, defined, stopped, switched, at_stream, put_first, put_all, with_refusal}
+use Rattle.pg_session.specs.Private.{ReplyValue, done, refused, handed, May, next, refusal, refuse, refused_at, effect, turns_of, stream_at, defined, stopped, switched, at_stream, put_first, put_all, with_refusal}
 use Rattle.pg_session.specs.ByAll.{by_arrivals, by_numbers}
 use Rattle.pg_session.specs.Shown.{Model, begin}
 use Rattle.pg_session.specs.Laws.{Run, after}
@@ -179,11 +179,11 @@ refused_kept p hangup r w = w
 refused_kept p (drain n) r w = w
 
 -- where the reply is no refusal, none holds
-none_holds : (B : Type 0) (r : Told) → ((first : Refusal) → r ≡ refused first → ⊥) → (o : Option Refusal) → MatchOption o B (λ first. r ≡ refused first) → o ≡ None
+none_holds : (B : Type 0) (r : ReplyValue) → ((first : Refusal) → r ≡ refused first → ⊥) → (o : Option Refusal) → MatchOption o B (λ first. r ≡ refused first) → o ≡ None
 none_holds B r plain None h = refl
 none_holds B r plain (Some first) h = absurd (plain first h)
 
-next_kept : (p : Model) (e : SubscriberEvent) (r : Told) → May by_arrivals by_numbers p e false r → IsRead p.listed e → IsKept p
+next_kept : (p : Model) (e : SubscriberEvent) (r : ReplyValue) → May by_arrivals by_numbers p e false r → IsRead p.listed e → IsKept p
     → IsKept (next by_arrivals by_numbers p e r)
 next_kept p e (done made kept) may read w =
     effect_kept p e kept (none_holds _ (done made kept) (λ first h. cc h) (refusal by_arrivals by_numbers p e) may) read w
@@ -217,7 +217,7 @@ turns_long p hangup number s read w found = tt
 turns_long p (command asked word) number s read w found = tt
 turns_long p (drain n) number s read w found = tt
 
-made_long : (p : Model) (e : SubscriberEvent) (r : Told) (number : ℕ) (s : OneStream) → IsRead p.listed e → IsKept p → stream_at p.streams number ≡ Some s
+made_long : (p : Model) (e : SubscriberEvent) (r : ReplyValue) (number : ℕ) (s : OneStream) → IsRead p.listed e → IsKept p → stream_at p.streams number ≡ Some s
     → AreOfLayout s (made_at number p e r)
 made_long p e (done made kept) number s read w found = turns_long p e number s read w found
 made_long p e (refused r) number s read w found = tt
@@ -305,7 +305,7 @@ refused_streams p connect r = refl
 refused_streams p hangup r = refl
 refused_streams p (drain n) r = refl
 
-next_known : (p : Model) (e : SubscriberEvent) (r : Told) (number : ℕ) (s t : OneStream) → IsRead p.listed e → IsKept p → stream_at p.streams number ≡ Some s
+next_known : (p : Model) (e : SubscriberEvent) (r : ReplyValue) (number : ℕ) (s t : OneStream) → IsRead p.listed e → IsKept p → stream_at p.streams number ≡ Some s
     → stream_at (next by_arrivals by_numbers p e r).streams number ≡ Some t → AreKnownSince 1 s.layouts t.layouts
 next_known p e (done made kept) number s t read w found there = effect_known p e kept number s t read w found there
 next_known p e (refused r) number s t read w found there =
@@ -331,7 +331,7 @@ pub head-told : (p : Model) (number : ℕ) (s : StreamOf (StreamHistory Piece)) 
     → slice_index s.layouts.lengths 0 ≡ frame_len p.listed s.definition.members
 head-told p number s is found = (found-so (IsFit p.listed) number p.streams s (reached_kept p is).streams.fit found).head
 
-pub frames-told : (p : Model) (number : ℕ) (s : StreamOf (StreamHistory Piece)) (e : SubscriberEvent) (r : Told) → IsReached p → stream_at p.streams number ≡ Some s
+pub frames-told : (p : Model) (number : ℕ) (s : StreamOf (StreamHistory Piece)) (e : SubscriberEvent) (r : ReplyValue) → IsReached p → stream_at p.streams number ≡ Some s
     → IsRead p.listed e → AllByRecursion (λ frame. length frame ≡ slice_index s.layouts.lengths 0) (made_at number p e r)
 frames-told p number s e r is found read = made_long p e r number s read (reached_kept p is) found
 

@@ -9,10 +9,10 @@ use Rattle.pg_align.specs.Histories.{StreamHistory}
 use Rattle.pg_outcfg.specs.Listing.{Listing, config_at}
 use Rattle.pg_session.specs.declared.event.PrivateEvent.{PrivateEvent}
 use Rattle.pg_session.specs.declared.event.PrivateEvent.TheVariants as private
-use Rattle.pg_session.specs.Events.{SubscriberEvent, Announcing, Sample, subscriber_event, grant, revoke, announce, measure, define, remove, tick, connect, hangup, command, drain}
+use Rattle.pg_session.specs.Events.{SubscriberEvent, Announcing, Sample, subscriber_event, grant, announce, measure}
 use Rattle.pg_session.specs.declared.layouts.Layouts.{Layouts}
 use Rattle.pg_session.specs.Streams.{StreamOf, frame_len}
-use Rattle.pg_session.specs.Private.{Told, next, stream_at}
+use Rattle.pg_session.specs.Private.{ReplyValue, next, stream_at}
 use Rattle.pg_session.specs.ByAll.{by_arrivals, by_numbers}
 use Rattle.pg_session.specs.Shown.{Model, SubscriberValue, ShowsPrivate, begin}
 use Rattle.pg_session.specs.Ready.{Accepts}
@@ -37,14 +37,7 @@ abbrev pub IsRead : Listing → SubscriberEvent → Type 0
 IsRead listed (grant key config) = IfSome config IsPart
 IsRead listed (announce list) = AllByRecursion IsChecked list
 IsRead listed (measure soc quality frac samples) = AllByRecursion (IsLongBy listed) samples
-IsRead listed (revoke key) = Unit {0}
-IsRead listed (define definition) = Unit {0}
-IsRead listed (remove number) = Unit {0}
-IsRead listed (tick soc) = Unit {0}
-IsRead listed connect = Unit {0}
-IsRead listed hangup = Unit {0}
-IsRead listed (command number word) = Unit {0}
-IsRead listed (drain n) = Unit {0}
+IsRead listed _ = Unit {0}
 
 -- the same of each event of a run, by the CFG-1 list before it
 abbrev pub AreRead : Model → Run → Type 0
@@ -80,14 +73,7 @@ abbrev pub WasChecked : PrivateEvent → Type 0
 WasChecked (private.Grant key config) = IfSome config (λ c. IsPart (arc_value c.now))
 WasChecked (private.Announce config places) = IsSource config.now
 WasChecked (private.Measure frame places) = IsMeasurement (arc_value frame.now)
-WasChecked (private.Revoke key) = Unit {0}
-WasChecked (private.Define definition) = Unit {0}
-WasChecked (private.Remove number) = Unit {0}
-WasChecked (private.Tick soc) = Unit {0}
-WasChecked private.Connect = Unit {0}
-WasChecked private.Hangup = Unit {0}
-WasChecked (private.Command asked) = Unit {0}
-WasChecked (private.Drain buf) = Unit {0}
+WasChecked _ = Unit {0}
 
 -- What is known of the layouts of a stream, in each state that can be reached.
 pub record LengthsAreKnown : Type 0 where
@@ -96,7 +82,7 @@ pub record LengthsAreKnown : Type 0 where
       → slice_index s.layouts.lengths 0 ≡ frame_len p.listed s.definition.members
   -- Each data frame that the stream makes at the next event has that length. Where the event changes the layout, its frames are still of
   -- the layout before it.
-  pub frames : (p : Model) (number : ℕ) (s : StreamOf (StreamHistory Piece)) (e : SubscriberEvent) (r : Told) → IsReached p → stream_at p.streams number ≡ Some s
+  pub frames : (p : Model) (number : ℕ) (s : StreamOf (StreamHistory Piece)) (e : SubscriberEvent) (r : ReplyValue) → IsReached p → stream_at p.streams number ≡ Some s
       → IsRead p.listed e → AllByRecursion (λ frame. length frame ≡ slice_index s.layouts.lengths 0) (made_at number p e r)
   -- Behind more events the lengths are still known, so that the layout's number when a frame was made gives the frame's length.
   pub known : (p : Model) (run : Run) (number : ℕ) (s t : StreamOf (StreamHistory Piece)) → IsReached p → IsLegal p run → AreRead p run

@@ -9,7 +9,7 @@ use Rattle.pg_gateway.specs.GatewayEvents.{gateway_event, asks}
 use Rattle.pg_gateway.specs.State.{opening}
 use Rattle.pg_gateway.specs.Histories.{Legal}
 use Rattle.pg_gateway.specs.Laws.{after, answers_of}
-use Rattle.pg_gateway.specs.Views.{Seen, takes, view, AllLossless}
+use Rattle.pg_gateway.specs.Views.{ViewEvent, takes, view, AllLossless}
 use Rattle.pg_shared.specs.Sharing.{Call, history_of}
 use Rattle.pg_shared.specs.Onward.{calls_in}
 use Rattle.pg_shared.specs.Delivery.{events_in, OwnDrains, Delivers, HasHeard}
@@ -45,13 +45,13 @@ pub record SinceConnect (u : ℕ) (session : Hearing) (v v' : Known Event Reply)
 -- ---- two services
 
 -- Nothing of this is a Connect.
-abbrev pub SeesNoConnect : List Seen → Type 0
+abbrev pub SeesNoConnect : List ViewEvent → Type 0
 SeesNoConnect [] = Unit {0}
 SeesNoConnect (x ∷ xs) = (x ≢ takes connect) × SeesNoConnect xs
 
 -- By u's view of the history the calls before end with a Connect of u, and it sees none in those since: it is the last one.
 pub record ConnectsLast (u : ℕ) (before since : List Call) : Type 0 where
-  pub earlier : List Seen
+  pub earlier : List ViewEvent
   pub there : view u opening (events_in before) ≡ earlier ++ takes connect ∷ []
   pub last : SeesNoConnect (view u (after (events_in before)) (events_in since))
 

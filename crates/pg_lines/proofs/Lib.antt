@@ -5,3 +5,5 @@ pub mod NoVerb
 pub mod Cutting
 pub mod Numerals
 pub mod Counts
+pub mod EditLaws
+pub mod PrintLaws

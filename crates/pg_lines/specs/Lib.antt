@@ -2,6 +2,9 @@
 pub mod Words
 pub mod Verbs
 pub mod Lines
+pub mod Edits
+-- the line that answers an edit, a question or a refusal
+pub mod Printing
 pub mod Addresses
 pub mod Steers
 -- how clap reads a line: only private contracts and proofs use these

@@ -30,7 +30,7 @@ impl HoldTime {
         HoldTime { millis: 1_000 }
     }
 
-    /// That behind the next line: `has_repeated` tells whether some were held back before it.
+    /// That behind the next line: `has_repeated` says whether some were held back before it.
     pub fn next(self, has_repeated: bool) -> HoldTime
         ensures { result ≡ if has_repeated then min 60000 (2 * self) else 1000 }
     {

@@ -39,7 +39,7 @@ pub enum LogEvent {
     /// A connection was refused by the gateway.
     Refused = 10,
     /// A subscriber's connection ended or failed.
-    GuestEnded = 11,
+    SubscriberEnded = 11,
     /// A subscriber was disconnected, since its socket took no data.
     Stalled = 12,
     /// A subscriber was disconnected, since there was no traffic.
@@ -71,7 +71,7 @@ pub enum LogEvent {
     /// A port is listened on.
     Listening = 26,
     /// Entries were lost, since too many waited for the log.
-    Untold = 27,
+    EntriesLost = 27,
     /// No connection to a source is made any more.
     Undialed = 28,
     /// A port was closed.
@@ -141,7 +141,7 @@ impl LogEvent {
         LogEvent::ClockFault,
         LogEvent::MailFault,
         LogEvent::ConsoleFault,
-        LogEvent::Untold,
+        LogEvent::EntriesLost,
         LogEvent::Unanswered,
     ];
 
@@ -172,7 +172,7 @@ impl LogEvent {
             | LogEvent::ConsoleFault
             | LogEvent::Ignored
             | LogEvent::Gap
-            | LogEvent::Untold
+            | LogEvent::EntriesLost
             | LogEvent::Unanswered
             | LogEvent::NotDone
             | LogEvent::NotBound
@@ -188,7 +188,7 @@ impl LogEvent {
             LogEvent::Called
             | LogEvent::Made
             | LogEvent::Connected
-            | LogEvent::GuestEnded
+            | LogEvent::SubscriberEnded
             | LogEvent::HungUp
             | LogEvent::Replaced
             | LogEvent::Announced
@@ -363,7 +363,7 @@ impl Journal {
     }
 
     /// Counts an entry, and keeps it for the log with the current time. If too many wait there, it is only counted.
-    pub fn tell<R: Wait + Clock>(&self, rt: &R, mut entry: Entry) {
+    pub fn log<R: Wait + Clock>(&self, rt: &R, mut entry: Entry) {
         entry.time = SystemTime::now(rt).ok();
         let event = entry.event;
         let times = entry.times;
@@ -372,7 +372,7 @@ impl Journal {
         let is_kept = keep(&mut *entries, entry);
         drop(entries);
         if !is_kept {
-            self.add(LogEvent::Untold, times);
+            self.add(LogEvent::EntriesLost, times);
         }
     }
 

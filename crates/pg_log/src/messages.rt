@@ -23,7 +23,7 @@ impl fmt::Display for Entry {
             write!(f, "stream {stream}: ")?;
         }
         match self.event {
-            LogEvent::Gap | LogEvent::Untold => return write_count(self, f),
+            LogEvent::Gap | LogEvent::EntriesLost => return write_count(self, f),
             _ => {}
         }
         let said = said(self.event);
@@ -67,7 +67,7 @@ fn said(event: LogEvent) -> &'static str {
         LogEvent::NotFound =>
             "the name in `connect` is not found: no answer of a name server for 5 s; still waiting",
         LogEvent::SourceEnded => "connection lost",
-        LogEvent::GuestEnded => "the connection ended",
+        LogEvent::SubscriberEnded => "the connection ended",
         LogEvent::Silent => "no data for the time that `silence` allows; connecting again",
         LogEvent::FarMeasurement => "data refused (21 FarClock): their timestamps are",
         LogEvent::AskedAgain => "sends no data; asking again for its configuration and data",
@@ -82,7 +82,7 @@ fn said(event: LogEvent) -> &'static str {
         LogEvent::Replaced => "disconnected: replaced by a new connection",
         LogEvent::NotBound => "its port can't be bound",
         // What is known beside says it, or the count.
-        LogEvent::NotDone | LogEvent::Edited | LogEvent::Gap | LogEvent::Untold => "",
+        LogEvent::NotDone | LogEvent::Edited | LogEvent::Gap | LogEvent::EntriesLost => "",
         LogEvent::NotAccepted => "a connection can't be accepted",
         LogEvent::SocketFault => "a connection's socket can't be waited for",
         LogEvent::NoDelayFault => "TCP_NODELAY can't be set, what is sent may be late",

@@ -19,7 +19,7 @@ struct Recent {
     // What of it was logged or held back last.
     last: Entry,
     // When it was logged, in milliseconds.
-    told: u64,
+    logged_at: u64,
     // How often it happened since, or how many frames.
     held: u64,
     // How long it is held back, unless its kind says.
@@ -29,14 +29,14 @@ struct Recent {
 impl Recent {
     /// Whether it may be logged again.
     fn is_over(&self, now: u64) -> bool {
-        now.saturating_sub(self.told) >= held_for(self.last.event, self.hold)
+        now.saturating_sub(self.logged_at) >= held_for(self.last.event, self.hold)
     }
 
     /// It is logged now, and what was held back is counted with it.
-    fn tell(&mut self, now: u64) {
+    fn log(&mut self, now: u64) {
         self.hold = self.hold.next(self.held > 0);
         self.held = 0;
-        self.told = now;
+        self.logged_at = now;
     }
 }
 
@@ -47,7 +47,7 @@ impl Recent {
 #[derive(Drop)]
 pub struct LogThrottle {
     recent: Vec<Recent>,
-    untold: u64,
+    lost: u64,
 }
 
 impl LogThrottle {
@@ -55,17 +55,17 @@ impl LogThrottle {
     pub fn new(alloc: Global) -> LogThrottle {
         LogThrottle {
             recent: Vec::new(alloc),
-            untold: 0,
+            lost: 0,
         }
     }
 
     /// What is logged at once of an entry of now.
-    pub fn met(&mut self, entry: Entry, now: u64) -> Option<Entry> {
+    pub fn offer(&mut self, entry: Entry, now: u64) -> Option<Entry> {
         for recent in self.recent.iter_mut() {
             if recent.last.is_like(&entry) {
                 recent.last = entry;
                 if recent.held == 0 && recent.is_over(now) {
-                    recent.tell(now);
+                    recent.log(now);
                     return Some(entry);
                 }
                 recent.held = recent.held.saturating_add(entry.times);
@@ -75,7 +75,7 @@ impl LogThrottle {
         if self.remember(entry, now) {
             return Some(entry);
         }
-        self.untold = self.untold.saturating_add(entry.times);
+        self.lost = self.lost.saturating_add(entry.times);
         None
     }
 
@@ -87,17 +87,17 @@ impl LogThrottle {
                     times: recent.held,
                     ..recent.last
                 };
-                recent.tell(now);
+                recent.log(now);
                 return Some(entry);
             }
         }
-        if self.untold == 0 {
+        if self.lost == 0 {
             return None;
         }
-        let times = self.untold;
-        self.untold = 0;
+        let times = self.lost;
+        self.lost = 0;
         Some(Entry {
-            event: LogEvent::Untold,
+            event: LogEvent::EntriesLost,
             subject: Subject::Nobody,
             detail: Detail::Nothing,
             times,
@@ -106,15 +106,15 @@ impl LogThrottle {
     }
 
     /// So many entries could not be logged.
-    pub fn missed(&mut self, times: u64) {
-        self.untold = self.untold.saturating_add(times);
+    pub fn not_written(&mut self, times: u64) {
+        self.lost = self.lost.saturating_add(times);
     }
 
     /// Keeps that this was logged now; if there are too many kinds, in the place of one of which nothing is held back.
     fn remember(&mut self, entry: Entry, now: u64) -> bool {
         let new = Recent {
             last: entry,
-            told: now,
+            logged_at: now,
             held: 0,
             hold: HoldTime::first(),
         };

@@ -12,7 +12,7 @@ use Rattle.pg_limits.specs.Hosts.{Net}
 use Rattle.pg_limits.specs.declared.layouts.OnChange.{OnChange}
 use Rattle.pg_limits.specs.declared.layouts.OnChange.TheVariants as on_change
 use Rattle.pg_reload.specs.Ports.{Opened, allow_eq, change_eq, is_same_bool, net_eq, opened_eq, opened_of}
-use Rattle.pg_reload.specs.Orders.{Called, SameCalls, SamePorts, Told, begun, called_by, called_eq, called_of, calls_by, closed, dialled, ended, is_about, is_of, listened, listened_of, orders_between, port_orders_between, undialled, unlistened}
+use Rattle.pg_reload.specs.Orders.{Called, SameCalls, SamePorts, OrderValue, begun, called_by, called_eq, called_of, calls_by, closed, dialled, ended, is_about, is_of, listened, listened_of, orders_between, port_orders_between, undialled, unlistened}
 use Rattle.pg_reload.proofs.Adding.{any_made, made_of}
 use Rattle.pg_reload.proofs.Same.{all_same, nat_same, number_same, or_left, or_right}
 
@@ -40,7 +40,7 @@ begun_not others x c is there =
 
 -- calls that end, then links whose calls begin
 pub whole_orders : {X : Type 0} (view : X → ℕ × List ℕ) (links : List X) (sources : List SourceRules) (before after : List Call) (old : List Called)
-    (none some all : List Told)
+    (none some all : List OrderValue)
     → map called_of before ≡ old → map called_of after ≡ calls_by (map view links) sources → none ≡ []
     → some ≡ none ++ filter_map (λ c. ended (map called_of after) (called_of c)) before
     → all ≡ some ++ filter_map (λ l. begun (map called_of before) (called_by sources (view l))) links
@@ -66,7 +66,7 @@ called_same c =
     λ i. (number_same c.source i && all_same nat_eq nat_same c.address i)
     && (((number_same c.rules.source i && number_same c.rules.silence i) && clock_same c.rules.clock_ms i) && number_same c.rules.ahead_ms i)
 
-abbrev some_told : (Told → Bool) → Option Told → Bool
+abbrev some_told : (OrderValue → Bool) → Option OrderValue → Bool
 some_told p None = false
 some_told p (Some t) = p t
 
@@ -92,7 +92,7 @@ port_same o =
     truth_same false = refl
 
 -- an order is given only where the other setup has the thing not, which it has where it is one of these
-unsaid : (p : Told → Bool) (t : Told) (there mine : Bool) → p t ≡ mine → (mine ≡ true → there ≡ true) → some_told p (if there then None else Some t) ≡ false
+unsaid : (p : OrderValue → Bool) (t : OrderValue) (there mine : Bool) → p t ≡ mine → (mine ≡ true → there ≡ true) → some_told p (if there then None else Some t) ≡ false
 unsaid p t true mine is has = refl
 unsaid p t false true is has = absurd (false≢true (has refl))
 unsaid p t false false is has = is
@@ -100,7 +100,7 @@ unsaid p t false false is has = is
 abbrev is_in : {X : Type 0} → (X → X → Bool) → List X → X → Bool
 is_in eq xs x = list_any (λ y. eq y x) xs
 
-quiet_in : {X : Type 0} (eq : X → X → Bool) (same : (x : X) → eq x x ≡ true) (p : Told → Bool) (f : X → Option Told) (all xs : List X)
+quiet_in : {X : Type 0} (eq : X → X → Bool) (same : (x : X) → eq x x ≡ true) (p : OrderValue → Bool) (f : X → Option OrderValue) (all xs : List X)
     → ((x : X) → is_in eq xs x ≡ true → is_in eq all x ≡ true)
     → ((x : X) → is_in eq all x ≡ true → some_told p (f x) ≡ false) → list_any p (filter_map f xs) ≡ false
 quiet_in eq same p f all [] within each = refl
@@ -108,11 +108,11 @@ quiet_in eq same p f all (x ∷ xs) within each =
     by (f x) (each x (within x (or_left (eq x x) (is_in eq xs x) (same x))))
     (quiet_in eq same p f all xs (λ c there. within c (or_right (eq x c) (is_in eq xs c) there)) each)
   where
-    by : (o : Option Told) → some_told p o ≡ false → list_any p (filter_map f xs) ≡ false → list_any p (cons_option o (filter_map f xs)) ≡ false
+    by : (o : Option OrderValue) → some_told p o ≡ false → list_any p (filter_map f xs) ≡ false → list_any p (cons_option o (filter_map f xs)) ≡ false
     by None none rest = rest
     by (Some t) none rest = ap (λ a. a || list_any p (filter_map f xs)) none ∙ rest
 
-no_orders : {X : Type 0} (eq : X → X → Bool) (same : (x : X) → eq x x ≡ true) (end begin : X → Told) (p : Told → Bool) (q : X → Bool)
+no_orders : {X : Type 0} (eq : X → X → Bool) (same : (x : X) → eq x x ≡ true) (end begin : X → OrderValue) (p : OrderValue → Bool) (q : X → Bool)
     → ((x : X) → p (end x) ≡ q x) → ((x : X) → p (begin x) ≡ q x)
     → (old new : List X) → ((x : X) → q x ≡ true → is_in eq old x ≡ is_in eq new x)
     → list_any p (filter_map (λ x. if is_in eq new x then None else Some (end x)) old ++ filter_map (λ x. if is_in eq old x then None else Some (begin x)) new) ≡ false
@@ -125,15 +125,15 @@ no_orders eq same end begin p q of_end of_begin old new agree =
     (λ x there. unsaid p (begin x) (is_in eq old x) (q x) (of_begin x) (λ mine. agree x mine ∙ there))
 
 -- of calls and of ports
-calls_left : (p : Told → Bool) (q : Called → Bool) → ((c : Called) → p (undialled c.source) ≡ q c) → ((c : Called) → p (dialled c) ≡ q c)
+calls_left : (p : OrderValue → Bool) (q : Called → Bool) → ((c : Called) → p (undialled c.source) ≡ q c) → ((c : Called) → p (dialled c) ≡ q c)
     → (old new : List Called) → SameCalls q old new → list_any p (orders_between old new) ≡ false
 calls_left p q a b old new agree = no_orders called_eq called_same (λ c. undialled c.source) dialled p q a b old new agree
 
-ports_left : (p : Told → Bool) (q : Opened → Bool) → ((o : Opened) → p (unlistened o.rules.sub) ≡ q o) → ((o : Opened) → p (listened o) ≡ q o)
+ports_left : (p : OrderValue → Bool) (q : Opened → Bool) → ((o : Opened) → p (unlistened o.rules.sub) ≡ q o) → ((o : Opened) → p (listened o) ≡ q o)
     → (old new : List Opened) → SamePorts q old new → list_any p (port_orders_between old new) ≡ false
 ports_left p q a b old new agree = no_orders opened_eq port_same (λ o. unlistened o.rules.sub) listened p q a b old new agree
 
-either_none : (p : Told → Bool) (xs ys : List Told) → list_any p xs ≡ false → list_any p ys ≡ false → list_any p (xs ++ ys) ≡ false
+either_none : (p : OrderValue → Bool) (xs ys : List OrderValue) → list_any p xs ≡ false → list_any p ys ≡ false → list_any p (xs ++ ys) ≡ false
 either_none p xs ys a b = list_any-append p xs ys ∙ ap (λ t. t || list_any p ys) a ∙ b
 
 pub source_left : (old new : List Called) (before after : List Opened) (s : ℕ) → SameCalls (λ c. c.source == s) old new
@@ -150,7 +150,7 @@ port_left old new before after u agree =
     (calls_left (is_of u) (λ c. false) (λ c. refl) (λ c. refl) old new (λ c h. absurd (false≢true h)))
     (ports_left (is_of u) (λ o. o.rules.sub == u) (λ o. refl) (λ o. refl) before after agree)
 
-none_told : (ts : List Told) → list_any (λ t. true) ts ≡ false → ts ≡ []
+none_told : (ts : List OrderValue) → list_any (λ t. true) ts ≡ false → ts ≡ []
 none_told [] h = refl
 none_told (t ∷ ts) h = absurd (true≢false h)
 
@@ -185,7 +185,7 @@ pub listened_not : (others : List Port) (x : Port) → is_open_there others x �
 listened_not others x there =
     ap (λ t. if t then None else Some (listened (opened_of x))) (any_made (λ d. opened_eq d (opened_of x)) opened_of others ∙ there)
 
-pub whole_ports : (none some all : List Told) (ports others : List Port) (before after : List Opened)
+pub whole_ports : (none some all : List OrderValue) (ports others : List Port) (before after : List Opened)
     → map opened_of ports ≡ before → map opened_of others ≡ after
     → some ≡ none ++ filter_map (λ p. closed (map opened_of others) (opened_of p)) ports
     → all ≡ some ++ filter_map (λ p. listened_of (map opened_of ports) (opened_of p)) others
@@ -198,5 +198,5 @@ whole_ports none some all ports others before after is_before is_after first sec
     second ∙ (λ i. first i ++ right i) ∙ (λ i. (none ++ left i) ++ filter_map (listened_of before) after)
     ∙ append_assoc none (filter_map (closed after) before) (filter_map (listened_of before) after)
 
-pub orders_joined : (all some calls ports : List Told) → all ≡ some ++ ports → some ≡ calls → all ≡ calls ++ ports
+pub orders_joined : (all some calls ports : List OrderValue) → all ≡ some ++ ports → some ≡ calls → all ≡ calls ++ ports
 orders_joined all some calls ports whole is = whole ∙ ap (λ t. t ++ ports) is

@@ -43,38 +43,38 @@ is_called calls c = list_any (λ d. called_eq d c) calls
 
 -- ---- orders
 
-pub data Told : Type 0 where
-  undialled : ℕ → Told
-  dialled : Called → Told
-  unlistened : ℕ → Told
-  listened : Opened → Told
+pub data OrderValue : Type 0 where
+  undialled : ℕ → OrderValue
+  dialled : Called → OrderValue
+  unlistened : ℕ → OrderValue
+  listened : Opened → OrderValue
 
--- the same, of an order of the code
-abbrev pub told : Order → Told
-told (order.Undial source) = undialled source
-told (order.Dial call) = dialled (called_of call)
-told (order.Unlisten sub) = unlistened sub
-told (order.Listen port) = listened (opened_of port)
+-- the value of an order
+abbrev pub order_value : Order → OrderValue
+order_value (order.Undial source) = undialled source
+order_value (order.Dial call) = dialled (called_of call)
+order_value (order.Unlisten sub) = unlistened sub
+order_value (order.Listen port) = listened (opened_of port)
 
 -- calls that are not among the others end, or begin
-abbrev pub ended : List Called → Called → Option Told
+abbrev pub ended : List Called → Called → Option OrderValue
 ended others c = if is_called others c then None else Some (undialled c.source)
 
-abbrev pub begun : List Called → Called → Option Told
+abbrev pub begun : List Called → Called → Option OrderValue
 begun others c = if is_called others c then None else Some (dialled c)
 
 -- first end those that are gone or changed, then begin the new and changed ones
-abbrev pub orders_between : List Called → List Called → List Told
+abbrev pub orders_between : List Called → List Called → List OrderValue
 orders_between old new = filter_map (ended new) old ++ filter_map (begun old) new
 
 -- ports that are not among the others are closed, or opened
-abbrev pub closed : List Opened → Opened → Option Told
+abbrev pub closed : List Opened → Opened → Option OrderValue
 closed others p = if is_open others p then None else Some (unlistened p.rules.sub)
 
-abbrev pub listened_of : List Opened → Opened → Option Told
+abbrev pub listened_of : List Opened → Opened → Option OrderValue
 listened_of others p = if is_open others p then None else Some (listened p)
 
-abbrev pub port_orders_between : List Opened → List Opened → List Told
+abbrev pub port_orders_between : List Opened → List Opened → List OrderValue
 port_orders_between old new = filter_map (closed new) old ++ filter_map (listened_of old) new
 
 -- ---- what orders leave alone
@@ -84,7 +84,7 @@ abbrev pub SameCalls : (Called → Bool) → List Called → List Called → Typ
 SameCalls p old new = (c : Called) → p c ≡ true → is_called old c ≡ is_called new c
 
 -- an order about this source
-abbrev pub is_about : ℕ → Told → Bool
+abbrev pub is_about : ℕ → OrderValue → Bool
 is_about s (undialled t) = t == s
 is_about s (dialled c) = c.source == s
 is_about s t = false
@@ -94,7 +94,7 @@ abbrev pub SamePorts : (Opened → Bool) → List Opened → List Opened → Typ
 SamePorts p old new = (o : Opened) → p o ≡ true → is_open old o ≡ is_open new o
 
 -- an order about this subscriber
-abbrev pub is_of : ℕ → Told → Bool
+abbrev pub is_of : ℕ → OrderValue → Bool
 is_of u (unlistened v) = v == u
 is_of u (listened p) = p.rules.sub == u
 is_of u t = false

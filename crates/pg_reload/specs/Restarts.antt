@@ -31,7 +31,7 @@ keys_of s = record {
 abbrev pub endpoint_eq : Endpoint → Endpoint → Bool
 endpoint_eq a b = a.0 == b.0 && a.1 == b.1
 
--- a key is told where its two values differ
+-- a key is reported where its two values differ
 abbrev pub told_unless : Bool → Restart → List Restart
 told_unless is_same key = if is_same then [] else key ∷ []
 

@@ -4,7 +4,7 @@ ghost use Rattle.std.specs.List.{list_any};
 ghost use Rattle.pg_reload.specs.Apart.{Agree, AgreeOn, touches};
 ghost use Rattle.pg_reload.specs.Edits.{edits_between};
 ghost use Rattle.pg_reload.specs.Leading.{IsSound, LeadsFrom};
-ghost use Rattle.pg_reload.specs.Orders.{SameCalls, SamePorts, calls_by, is_about, is_of, orders_between, port_orders_between, told};
+ghost use Rattle.pg_reload.specs.Orders.{SameCalls, SamePorts, calls_by, is_about, is_of, orders_between, port_orders_between, order_value};
 ghost use Rattle.pg_reload.specs.Ports.{ports_by};
 ghost use Rattle.pg_operator.specs.Setups.{port_rules_of};
 ghost use Rattle.pg_reload.specs.Restarts.{keys_of, restarts_between};
@@ -56,21 +56,21 @@ pub fn changes_between(alloc: Global, old: &Setup, new: &Setup) -> Result<Change
     ensures nothing { IfOk result (λ c. Agree old.now.edits.items new.now.edits.items → c.edits.items ≡ []) }
     ensures leads { IfOk result (λ c. IsSound old.now.edits.items → IsSound new.now.edits.items
         → LeadsFrom old.now.edits.items new.now.edits.items c.edits.items) }
-    ensures orders { IfOk result (λ c. map told c.orders.items ≡ orders_between
+    ensures orders { IfOk result (λ c. map order_value c.orders.items ≡ orders_between
         (calls_by (map (λ l. (l.0, string_bytes l.1)) old.now.links.items) old.now.sources.items)
         (calls_by (map (λ l. (l.0, string_bytes l.1)) new.now.links.items) new.now.sources.items)
         ++ port_orders_between (ports_by old.now.ports.items (map port_rules_of old.now.port_rules.items)) (ports_by new.now.ports.items (map port_rules_of new.now.port_rules.items))) }
     ensures sources { IfOk result (λ c. let before = calls_by (map (λ l. (l.0, string_bytes l.1)) old.now.links.items) old.now.sources.items in
         let after = calls_by (map (λ l. (l.0, string_bytes l.1)) new.now.links.items) new.now.sources.items in
-        (s : ℕ) → SameCalls (λ call. call.source == s) before after → list_any (is_about s) (map told c.orders.items) ≡ false) }
+        (s : ℕ) → SameCalls (λ call. call.source == s) before after → list_any (is_about s) (map order_value c.orders.items) ≡ false) }
     ensures ports { IfOk result (λ c. let before = ports_by old.now.ports.items (map port_rules_of old.now.port_rules.items) in
         let after = ports_by new.now.ports.items (map port_rules_of new.now.port_rules.items) in
-        (u : ℕ) → SamePorts (λ port. port.rules.sub == u) before after → list_any (is_of u) (map told c.orders.items) ≡ false) }
+        (u : ℕ) → SamePorts (λ port. port.rules.sub == u) before after → list_any (is_of u) (map order_value c.orders.items) ≡ false) }
     ensures quiet { IfOk result (λ c. SameCalls (λ call. true)
         (calls_by (map (λ l. (l.0, string_bytes l.1)) old.now.links.items) old.now.sources.items)
         (calls_by (map (λ l. (l.0, string_bytes l.1)) new.now.links.items) new.now.sources.items)
         → SamePorts (λ port. true) (ports_by old.now.ports.items (map port_rules_of old.now.port_rules.items)) (ports_by new.now.ports.items (map port_rules_of new.now.port_rules.items))
-        → map told c.orders.items ≡ []) }
+        → map order_value c.orders.items ≡ []) }
     ensures restarts { IfOk result (λ c. c.restarts.items ≡ restarts_between (keys_of old.now) (keys_of new.now)) }
     ensures refused { IfErr result (λ r. r ≡ Refusal.NoMemory) }
 {

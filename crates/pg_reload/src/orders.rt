@@ -1,7 +1,7 @@
 //! Sources that are called by one setup and not, or otherwise, by another.
 ghost use Rattle.std.specs.Prelude.{◌≡◌, ◌++◌, IfOk, IfErr, OnOk, map, string_bytes};
 ghost use Rattle.std.specs.List.{filter_map, list_any};
-ghost use Rattle.pg_reload.specs.Orders.{begun, called_by, called_eq, called_of, calls_by, ended, orders_between, rules_eq, rules_for, told};
+ghost use Rattle.pg_reload.specs.Orders.{begun, called_by, called_eq, called_of, calls_by, ended, orders_between, rules_eq, rules_for, order_value};
 
 use crate::ports::Port;
 use pg_operator::{Setup, SourceRules};
@@ -120,7 +120,7 @@ fn is_called(calls: &[Call], call: &Call) -> bool
 
 /// Ends the calls that are not among the others.
 fn end_calls(orders: &mut Vec<Order>, calls: &[Call], others: &[Call]) -> Result<(), Refusal>
-    ensures ok { OnOk result (map told orders.new.items ≡ map told orders.old.items ++ filter_map (λ c. ended (map called_of others.now) (called_of c)) calls.now) }
+    ensures ok { OnOk result (map order_value orders.new.items ≡ map order_value orders.old.items ++ filter_map (λ c. ended (map called_of others.now) (called_of c)) calls.now) }
     ensures err { IfErr result (λ r. r ≡ Refusal.NoMemory) }
 {
     'calls: for call in calls {
@@ -139,7 +139,7 @@ fn begin_calls(
     sources: &[SourceRules],
     others: &[Call],
 ) -> Result<(), Refusal>
-    ensures ok { OnOk result (map told orders.new.items ≡ map told orders.old.items ++ filter_map (λ l. begun (map called_of others.now) (called_by sources.now (l.0, string_bytes l.1))) links.now) }
+    ensures ok { OnOk result (map order_value orders.new.items ≡ map order_value orders.old.items ++ filter_map (λ l. begun (map called_of others.now) (called_by sources.now (l.0, string_bytes l.1))) links.now) }
     ensures err { IfErr result (λ r. r ≡ Refusal.NoMemory) }
 {
     'links: for link in links {
@@ -156,7 +156,7 @@ fn begin_calls(
 
 /// The orders of what differs.
 pub(crate) fn orders_between(alloc: Global, old: &Setup, new: &Setup) -> Result<Vec<Order>, Refusal>
-    ensures ok { IfOk result (λ orders. map told orders.items ≡ orders_between
+    ensures ok { IfOk result (λ orders. map order_value orders.items ≡ orders_between
         (calls_by (map (λ l. (l.0, string_bytes l.1)) old.now.links.items) old.now.sources.items)
         (calls_by (map (λ l. (l.0, string_bytes l.1)) new.now.links.items) new.now.sources.items)) }
     ensures err { IfErr result (λ r. r ≡ Refusal.NoMemory) }

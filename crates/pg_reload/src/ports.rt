@@ -2,7 +2,7 @@
 ghost use Rattle.std.specs.Prelude.{◌≡◌, ◌++◌, IfOk, IfErr, OnOk, find, map, option_map, ◌==◌, if◌then◌else◌, Some, None};
 ghost use Rattle.std.specs.List.{filter_map, list_any};
 ghost use Rattle.pg_operator.specs.Setups.{port_rules_of};
-ghost use Rattle.pg_reload.specs.Orders.{closed, listened_of, port_orders_between, told};
+ghost use Rattle.pg_reload.specs.Orders.{closed, listened_of, port_orders_between, order_value};
 ghost use Rattle.pg_reload.specs.Ports.{allow_eq, change_eq, port_rules_eq, opened_by, opened_eq, opened_of, ports_by};
 
 use crate::orders::Order;
@@ -152,7 +152,7 @@ fn is_open(ports: &[Port], port: &Port) -> bool
 
 /// Closes the ports that are not among the others.
 fn close_ports(orders: &mut Vec<Order>, ports: &[Port], others: &[Port]) -> Result<(), Refusal>
-    ensures ok { OnOk result (map told orders.new.items ≡ map told orders.old.items ++ filter_map (λ p. closed (map opened_of others.now) (opened_of p)) ports.now) }
+    ensures ok { OnOk result (map order_value orders.new.items ≡ map order_value orders.old.items ++ filter_map (λ p. closed (map opened_of others.now) (opened_of p)) ports.now) }
     ensures err { IfErr result (λ r. r ≡ Refusal.NoMemory) }
 {
     'ports: for port in ports {
@@ -170,7 +170,7 @@ fn open_ports(
     ports: &[Port],
     others: &[Port],
 ) -> Result<(), Refusal>
-    ensures ok { OnOk result (map told orders.new.items ≡ map told orders.old.items ++ filter_map (λ p. listened_of (map opened_of others.now) (opened_of p)) ports.now) }
+    ensures ok { OnOk result (map order_value orders.new.items ≡ map order_value orders.old.items ++ filter_map (λ p. listened_of (map opened_of others.now) (opened_of p)) ports.now) }
     ensures err { IfErr result (λ r. r ≡ Refusal.NoMemory) }
 {
     'ports: for port in ports {
@@ -192,7 +192,7 @@ pub(crate) fn add_orders(
     old: &Setup,
     new: &Setup,
 ) -> Result<(), Refusal>
-    ensures ok { OnOk result (map told orders.new.items ≡ map told orders.old.items ++ port_orders_between
+    ensures ok { OnOk result (map order_value orders.new.items ≡ map order_value orders.old.items ++ port_orders_between
         (ports_by old.now.ports.items (map port_rules_of old.now.port_rules.items)) (ports_by new.now.ports.items (map port_rules_of new.now.port_rules.items))) }
     ensures err { IfErr result (λ r. r ≡ Refusal.NoMemory) }
 {

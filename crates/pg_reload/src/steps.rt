@@ -120,12 +120,9 @@ fn added_sub(
                 Ok(None)
             }
         }
-        Edit::Define(sub, definition) => {
+        Edit::Define(sub, _) => {
             if comes(old, new, *sub) {
-                match copying::definition_of(alloc, definition) {
-                    Ok(copy) => Ok(Some(Edit::Define(*sub, copy))),
-                    Err(refusal) => Err(refusal),
-                }
+                Ok(Some(edit.try_clone(alloc)?))
             } else {
                 Ok(None)
             }
@@ -191,12 +188,9 @@ fn defined(alloc: Global, old: &[Edit], new: &[Edit], edit: &Edit) -> Result<Opt
     ensures err { IfErr result (λ r. r ≡ Refusal.NoMemory) }
 {
     match edit {
-        Edit::Define(sub, definition) => {
+        Edit::Define(sub, _) => {
             if stays(old, new, *sub) && !alike::has(old, edit) {
-                match copying::definition_of(alloc, definition) {
-                    Ok(copy) => Ok(Some(Edit::Define(*sub, copy))),
-                    Err(refusal) => Err(refusal),
-                }
+                Ok(Some(edit.try_clone(alloc)?))
             } else {
                 Ok(None)
             }

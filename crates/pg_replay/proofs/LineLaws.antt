@@ -2,8 +2,8 @@
 use Rattle.std.proofs.Common.{◌≡◌, false, List, ℕ, None, refl}
 use Rattle.std.specs.Str.{is_utf8, IsUtf8}
 use Rattle.std.proofs.lemmas.Str.{is_utf8-from_IsUtf8}
-use Rattle.pg_answers.specs.Edits.{is_comment}
-use Rattle.pg_answers.proofs.EditLaws.{not_text}
+use Rattle.pg_lines.specs.Edits.{is_comment}
+use Rattle.pg_lines.proofs.EditLaws.{not_text}
 use Rattle.pg_replay.specs.Lines.{text_asks, asked_in}
 
 pub asked_text : (line : List ℕ) → is_comment line ≡ false → IsUtf8 line → asked_in line ≡ text_asks line

@@ -6,8 +6,8 @@ use Rattle.std.proofs.Math.Seq.{take-suc}
 use Rattle.std.proofs.lemmas.List.{append_assoc, append-nil, length-take, length-drop, take_min, drop_min}
 use Rattle.std.proofs.lemmas.Grind.{flat_map-append}
 use Rattle.std.proofs.lemmas.Option.{slice_get_within, get_or_from_slice_get}
-use Rattle.pg_answers.specs.Printing.{hex_end}
-use Rattle.pg_answers.proofs.PrintLaws.{appends_more}
+use Rattle.pg_lines.specs.Printing.{hex_end}
+use Rattle.pg_lines.proofs.PrintLaws.{appends_more}
 use Rattle.pg_replay.specs.Printing.{send_line, send_from, send_lines}
 
 pub flat_taken : {X : Type 0} (f : X → List ℕ) (l : List X) (n : ℕ) (x : X) → slice_get l n ≡ Some x → flat_map f (take (n + 1) l) ≡ flat_map f (take n l) ++ f x

@@ -17,11 +17,11 @@ use Rattle.pg_serve.proofs.Isolating.{isolated}
 use Rattle.pg_serve.specs.Shown.{WorldValue, queue_shown, link_counted, session_counted}
 use Rattle.pg_replay.specs.Lines.{Asked, nothing, hands, queue, link_stats, session_stats, asked_in}
 use Rattle.pg_lines.specs.Words.{Text}
-use Rattle.pg_answers.specs.Edits.{without_end}
+use Rattle.pg_lines.specs.Edits.{without_end}
 use Rattle.pg_replay.specs.Printing.{output_lines}
 use Rattle.pg_replay.specs.Replaying.{lines_by, lines_in, asked_of, Took, Does, Runs, PrintsScript, SessionText, handed_over, handed_in, text_at, text_of, refused_line, outputs_lines, queue_text, link_text, session_text}
 use Rattle.pg_replay.specs.Answering.{PrintsSession, DoesAsked, AnswersLine, AnswersScript}
-use Rattle.pg_answers.proofs.PrintLaws.{appends_more}
+use Rattle.pg_lines.proofs.PrintLaws.{appends_more}
 
 pub appends-none : (a : Option (List ℕ)) → Appends a a []
 appends-none None = tt

@@ -1,8 +1,8 @@
 -- What ends a replay, and how it is told.
 use Rattle.pg_wire.specs.declared.refusal.Refusal.{Refusal}
 use Rattle.pg_wire.specs.declared.refusal.Refusal.TheVariants as refusal
-use Rattle.pg_answers.specs.declared.answers.NotPrinted.{NotPrinted}
-use Rattle.pg_answers.specs.declared.answers.NotPrinted.TheVariants as printed
+use Rattle.pg_lines.specs.declared.answers.NotPrinted.{NotPrinted}
+use Rattle.pg_lines.specs.declared.answers.NotPrinted.TheVariants as printed
 use Rattle.pg_replay.specs.declared.script.Fault.{Fault}
 use Rattle.pg_replay.specs.declared.script.Fault.TheVariants as fault
 

@@ -7,7 +7,7 @@ use Rattle.pg_shared.specs.Edits.{edited}
 use Rattle.pg_serve.specs.Inputs.{InputValue, input_value, link_up, pmu_bytes, sub_bytes, names}
 use Rattle.pg_lines.specs.Words.{Text, number_in, pmu_id_in, subscriber_in, frame_in}
 use Rattle.pg_lines.specs.Lines.{words_of, one, two, edit_of}
-use Rattle.pg_answers.specs.Edits.{is_comment}
+use Rattle.pg_lines.specs.Edits.{is_comment}
 use Rattle.pg_replay.specs.declared.lines.Kind.{Kind}
 use Rattle.pg_replay.specs.declared.lines.Kind.TheVariants as kind
 use Rattle.pg_replay.specs.declared.lines.Line.{Line}

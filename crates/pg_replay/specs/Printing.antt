@@ -4,7 +4,7 @@ use Rattle.std.specs.List.{flat_map}
 use Rattle.pg_ring.specs.Shown.{Framed, Queue}
 use Rattle.pg_serve.specs.Inputs.{Noted, replied, ignored, closed, Outcome}
 use Rattle.pg_lines.specs.Words.{Text}
-use Rattle.pg_answers.specs.Printing.{hex_end, refusal_line, answer_line}
+use Rattle.pg_lines.specs.Printing.{hex_end, refusal_line, answer_line}
 
 abbrev pub note_line : Noted → Text
 note_line (replied a) = answer_line a

@@ -17,7 +17,7 @@ use Rattle.pg_serve.specs.Full.{full_turn, world_state_of, queue_of, view_of, li
 use Rattle.pg_serve.specs.Headline.{OutcomesLossless, HasAnswered}
 use Rattle.pg_replay.specs.Lines.{Asked, nothing, hands, queue, link_stats, session_stats, asked_in}
 use Rattle.pg_lines.specs.Words.{Text}
-use Rattle.pg_answers.specs.Printing.{refusal_line, counters_line}
+use Rattle.pg_lines.specs.Printing.{refusal_line, counters_line}
 use Rattle.pg_replay.specs.Printing.{queue_lines, output_lines}
 
 -- at most so many lines of a script; LF ends a line, and the last may have none

@@ -6,7 +6,7 @@ ghost use Rattle.std.specs.Io.KnownBytes.{Appends};
 ghost use Rattle.pg_serve.specs.Inputs.{all_noted, outcome};
 ghost use Rattle.pg_replay.specs.Printing.{note_lines, reply_line, frame_line, queue_lines, output_lines, send_lines};
 
-use pg_answers::{NotPrinted, print_hex, print_refusal, print_reply};
+use pg_lines::{NotPrinted, print_hex, print_refusal, print_reply};
 use pg_ring::OutQueue;
 use pg_serve::{Note, Output};
 use std::alloc::Global;

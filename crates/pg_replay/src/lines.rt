@@ -4,9 +4,8 @@ ghost use Rattle.pg_lines.specs.Words.{number_in, pmu_id_in, subscriber_in};
 ghost use Rattle.pg_lines.specs.Lines.{one, two};
 ghost use Rattle.pg_replay.specs.Lines.{asked_in, asked, kind_of, line_by, text_asks};
 
-use pg_answers::is_comment;
 use pg_lines::words::{self, frame_bytes};
-use pg_lines::{parse_line, words_of};
+use pg_lines::{is_comment, parse_line, words_of};
 use pg_serve::Input;
 use pg_wire::{PmuId, Refusal, SubId};
 use std::alloc::Global;

@@ -12,7 +12,7 @@ ghost use Rattle.pg_replay.specs.Answering.{AnswersAll, AnswersLine, PrintsSessi
 use crate::answers::{print_output, print_queue};
 use crate::lines::{Line, read_line};
 use crate::reading::read_line_bytes;
-use pg_answers::{NotPrinted, print_counters, print_refusal, without_end};
+use pg_lines::{NotPrinted, print_counters, print_refusal, without_end};
 use pg_serve::{Input, Output, World};
 use pg_wire::{PmuId, Refusal, SubId};
 use std::alloc::Global;

@@ -71,7 +71,7 @@ pub(crate) fn opened<
     let AdminListeners { lines, page } = openings;
     if let Some(listener) = lines {
         window.take_lines(listener)?;
-        journal.tell(
+        journal.log(
             rt,
             Entry::new(LogEvent::Opened, Subject::Nobody, Detail::Nothing),
         );
@@ -79,7 +79,7 @@ pub(crate) fn opened<
     if let Some(listener) = page {
         let detail = Detail::At(listener.local_addr()?);
         window.show_page(listener)?;
-        journal.tell(rt, Entry::new(LogEvent::Shown, Subject::Nobody, detail));
+        journal.log(rt, Entry::new(LogEvent::Shown, Subject::Nobody, detail));
     }
     Ok(window)
 }

@@ -259,7 +259,7 @@ fn tell_ports<R: Wait + Clock>(rt: &R, journal: &Journal, ports: &[Port]) {
     for port in ports {
         if let Ok(address) = port.address() {
             let subject = Subject::Subscriber(port.sub());
-            journal.tell(
+            journal.log(
                 rt,
                 Entry::new(LogEvent::Listening, subject, Detail::At(address)),
             );

@@ -5,10 +5,10 @@ use crate::running::{connection_rules, dial_by, rules_of};
 use crate::workers::told_as;
 use log::LevelFilter;
 use mio::net::TcpListener as PortListener;
-use pg_answers::{NotPrinted, print_refusal};
 use pg_check::check_setup;
 use pg_console::{Console, ServiceHandle};
 use pg_gateway::{Gate, Reply};
+use pg_lines::{NotPrinted, print_refusal};
 use pg_log::{Asked, Detail, Entry, Journal, LogEvent, Subject, system_words};
 use pg_operator::{LogLevel, Setup, SourceRules, read_setup};
 use pg_reload::{Call, Changes, Order, Port, Restart, changes_between};
@@ -131,7 +131,7 @@ impl<R: Net + Clock> SetupManager<'_, R> {
         Ok((changes, started))
     }
 
-    /// Does what changes, and reports what was done. Once all workers are to end, the orders that are left are not done: none would obey them.
+    /// Does what changes, and reports what was done. Once all workers are to end, the orders that are left are not done: no worker would carry them out.
     fn change<W: Write, Q: Wait + Clock, G: Gate>(
         &self,
         rt: &Q,
@@ -161,7 +161,7 @@ impl<R: Net + Clock> SetupManager<'_, R> {
             if service.is_over() {
                 break;
             }
-            self.obey(rt, service, order, &mut report);
+            self.carry_out(rt, service, order, &mut report);
         }
         for restart in restarts {
             report.restarted(restart);
@@ -226,7 +226,7 @@ impl Report {
         error: io::Error,
     ) {
         let detail = Detail::of_error(&error);
-        journal.tell(
+        journal.log(
             rt,
             Entry::new(LogEvent::NotBound, Subject::Subscriber(sub), detail),
         );
@@ -261,7 +261,7 @@ impl Report {
 
 impl<R: Net + Clock> SetupManager<'_, R> {
     /// Has workers do what is to be done about a source or a port.
-    fn obey<Q: Wait + Clock>(
+    fn carry_out<Q: Wait + Clock>(
         &self,
         rt: &Q,
         service: ServiceHandle<'_>,
@@ -333,7 +333,7 @@ impl<R: Net + Clock> SetupManager<'_, R> {
             },
         ) = self.read(alloc, console.out_mut())?
         else {
-            journal.tell(
+            journal.log(
                 rt,
                 Entry::new(LogEvent::NotReloaded, Subject::Nobody, Detail::Nothing),
             );
@@ -346,18 +346,18 @@ impl<R: Net + Clock> SetupManager<'_, R> {
                 journal.set_filter(rt, filter_of(new.log));
                 *self.setup.lock(rt) = new;
                 drop(turn);
-                journal.tell(
+                journal.log(
                     rt,
                     Entry::new(LogEvent::Reloaded, Subject::Nobody, Detail::Nothing),
                 );
                 if has_warnings {
                     let entry = Entry::new(LogEvent::Warned, Subject::Nobody, Detail::Nothing);
-                    journal.tell(rt, entry);
+                    journal.log(rt, entry);
                 }
                 report.print(console.out_mut())
             }
             Err(refusal) => {
-                journal.tell(
+                journal.log(
                     rt,
                     Entry::new(LogEvent::NotReloaded, Subject::Nobody, Detail::Nothing),
                 );

@@ -3,11 +3,10 @@
 use crate::reloading::SetupManager;
 use crate::running::{connection_rules, dial_to, port_rules_of};
 use crate::workers::told_as;
-use pg_answers::{NotPrinted, print_refusal};
 use pg_console::{Console, ServiceCommands};
 use pg_gateway::{Event, Gate, Reply};
 use pg_limits::{Allow, OnChange};
-use pg_lines::Steer;
+use pg_lines::{NotPrinted, Steer, print_refusal};
 use pg_log::system_words;
 use pg_operator::PortRules;
 use pg_service::{Address, MeteredGate};

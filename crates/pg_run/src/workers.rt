@@ -68,7 +68,10 @@ impl<R: Runtime, N: Named> HoldsSeat for Worker<'_, R, N> {
             Worker::Lines(worker) => Some(worker.into_gate().into_seat()),
             Worker::Admin(worker) => Some(worker.into_backend().into_gate().into_seat()),
             Worker::Reloads(worker) => Some(worker.into_gate().into_seat()),
-            Worker::Log(_) => None,
+            Worker::Log(mut worker) => {
+                worker.finish();
+                None
+            }
         }
     }
 }

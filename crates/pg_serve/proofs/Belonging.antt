@@ -22,11 +22,11 @@ use Rattle.pg_ingest.specs.Items as link
 use Rattle.pg_session.specs.Events as session
 use Rattle.pg_session.specs.Events.{SubscriberEvent, Announcing, Sample}
 use Rattle.pg_session.specs.Private as private
-use Rattle.pg_session.specs.Private.{Told, done, refuse, refused_at}
+use Rattle.pg_session.specs.Private.{ReplyValue, done, refuse}
 use Rattle.pg_session.specs.Shown.{Model}
 use Rattle.pg_session.specs.ByAll.{by_arrivals, by_numbers}
 use Rattle.pg_session.specs.Commands.{Item, commands, ignores, item_of, items_of, break_in}
-use Rattle.pg_gateway.specs.GatewayEvents.{GatewayEvent, add_pmu, drop_pmu, add_sub, drop_sub, grant, asks, announce, measure, tick, stats, pmu_stats, audit, standing, who_waits, Answer, tells, sub_counts, pmu_counts, entry, stands, those_waiting}
+use Rattle.pg_gateway.specs.GatewayEvents.{GatewayEvent, add_pmu, drop_pmu, add_sub, drop_sub, grant, asks, announce, measure, tick, Answer, tells, sub_counts, pmu_counts, entry, stands, those_waiting, inquires}
 use Rattle.pg_gateway.specs.Judging.{registered_of, block_counted, blocks_counted, memory_counted, all_announced}
 use Rattle.pg_gateway.specs.Sharing.{SubscriberSlot, Broadcast, revokes, announces, measures, ticks, some_announced, some_measured, share}
 use Rattle.pg_gateway.specs.State.{SharedMachine, slot_of, own_of, refusal, Target, to_all, to_one, adds, drops, to_none, unless, target, reached_answer, frames_reached, granting, judged_in, is_refusal, wants_memory, pmus_after, next}
@@ -70,13 +70,9 @@ KeepsKeys (asks u x) = Unit {0}
 KeepsKeys (announce config) = Unit {0}
 KeepsKeys (measure m) = Unit {0}
 KeepsKeys (tick soc) = Unit {0}
-KeepsKeys (stats u) = Unit {0}
-KeepsKeys (pmu_stats key) = Unit {0}
-KeepsKeys (who_waits us) = Unit {0}
-KeepsKeys (audit u index) = Unit {0}
-KeepsKeys (standing u place) = Unit {0}
+KeepsKeys (inquires q) = Unit {0}
 
-keys_after : (S : SharedMachine) (e : GatewayEvent) (t : Told) → KeepsKeys e → keys_of (pmus_after S e t) ≡ keys_of S.pmus
+keys_after : (S : SharedMachine) (e : GatewayEvent) (t : ReplyValue) → KeepsKeys e → keys_of (pmus_after S e t) ≡ keys_of S.pmus
 keys_after S (add_pmu key) t keeps = absurd keeps
 keys_after S (drop_pmu key) t keeps = absurd keeps
 keys_after S (add_sub u size bytes) t keeps = refl
@@ -100,11 +96,7 @@ keys_after S (measure m) t keeps = by (wants_memory t)
     by true = keys_memory S.pmus (map (λ x. x.0) blocks)
     by false = keys_counted S.pmus blocks
 keys_after S (tick soc) t keeps = refl
-keys_after S (stats u) t keeps = refl
-keys_after S (pmu_stats key) t keeps = refl
-keys_after S (who_waits us) t keeps = refl
-keys_after S (audit u index) t keeps = refl
-keys_after S (standing u place) t keeps = refl
+keys_after S (inquires q) t keeps = refl
 
 pub sources_kept : (S : SharedMachine) (e : GatewayEvent) (a : Answer) (s : ℕ) → KeepsKeys e → has_source (next S e a) s ≡ has_source S s
 sources_kept S e (tells t) s keeps = ap (list_source s) (keys_after S e t keeps)
@@ -327,11 +319,7 @@ KeepsSessions (asks u x) = Keeps x
 KeepsSessions (announce config) = Unit {0}
 KeepsSessions (measure m) = Unit {0}
 KeepsSessions (tick soc) = Unit {0}
-KeepsSessions (stats u) = Unit {0}
-KeepsSessions (pmu_stats key) = Unit {0}
-KeepsSessions (who_waits us) = Unit {0}
-KeepsSessions (audit u index) = Unit {0}
-KeepsSessions (standing u place) = Unit {0}
+KeepsSessions (inquires q) = Unit {0}
 
 unless_keeps : (r : Option Refusal) (o : Broadcast) → KeepsTarget (unless r (to_all o))
 unless_keeps None o = tt
@@ -351,11 +339,7 @@ keeps_reach S (asks u x) k = k
 keeps_reach S (announce config) k = unless_keeps (refusal S (announce config)) _
 keeps_reach S (measure m) k = unless_keeps (refusal S (measure m)) _
 keeps_reach S (tick soc) k = tt
-keeps_reach S (stats u) k = tt
-keeps_reach S (pmu_stats key) k = tt
-keeps_reach S (who_waits us) k = tt
-keeps_reach S (audit u index) k = tt
-keeps_reach S (standing u place) k = tt
+keeps_reach S (inquires q) k = tt
 
 sessions_kept : (S : SharedMachine) (e : GatewayEvent) (u : ℕ) → Alone S.subs → KeepsSessions e → connected_in (own_of u (shared_step S e)) ≡ connected_in (own_of u S)
 sessions_kept S e u alone k = ap connected_in (own-step u S e alone) ∙ target_keeps u (own_of u S) (target S e) (keeps_reach S e k)
@@ -738,7 +722,7 @@ drop_belongs m key is = keys_belong m (drop_pmu key) _ is tt (by (refusal m.shar
     lines : SharedMachine → List (ℕ × SourceLinkPast)
     lines T = if has_source T key.source then m.lines else remove_entry (nat_eq key.source) m.lines
 
-    left : (t : Told) (b : Bool) → is_refusal t ≡ b → LinesBelong (lines (next m.shared (drop_pmu key) (tells t))) (next m.shared (drop_pmu key) (tells t)).pmus
+    left : (t : ReplyValue) (b : Bool) → is_refusal t ≡ b → LinesBelong (lines (next m.shared (drop_pmu key) (tells t))) (next m.shared (drop_pmu key) (tells t)).pmus
     left t true e = rw e (left_lines m.lines m.shared.pmus m.shared.pmus key.source (is.lines_alone, is.lines) (λ s apart. refl) (λ h. h))
     left t false e =
         rw e (left_lines m.lines m.shared.pmus (remove_entry (key_eq key) m.shared.pmus) key.source (is.lines_alone, is.lines)
@@ -844,11 +828,7 @@ named_belongs m (asks w x) is = asks_belong m w x is
 named_belongs m (announce config) is = quiet_belongs m (announce config) is tt tt
 named_belongs m (measure x) is = quiet_belongs m (measure x) is tt tt
 named_belongs m (tick soc) is = quiet_belongs m (tick soc) is tt tt
-named_belongs m (stats w) is = quiet_belongs m (stats w) is tt tt
-named_belongs m (pmu_stats key) is = quiet_belongs m (pmu_stats key) is tt tt
-named_belongs m (who_waits us) is = quiet_belongs m (who_waits us) is tt tt
-named_belongs m (audit w index) is = quiet_belongs m (audit w index) is tt tt
-named_belongs m (standing w place) is = quiet_belongs m (standing w place) is tt tt
+named_belongs m (inquires q) is = quiet_belongs m (inquires q) is tt tt
 
 -- ---- all inputs
 

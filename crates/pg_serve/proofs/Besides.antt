@@ -3,7 +3,7 @@ use Rattle.std.proofs.Common.{◌≡◌, ℕ, List, [], ◌∷◌, ◌++◌, Non
 use Rattle.std.proofs.lemmas.List.{append_assoc}
 use Rattle.pg_gateway.specs.GatewayEvents.{GatewayEvent}
 use Rattle.pg_gateway.specs.State.{SharedMachine, opening as shared_opening, own_of}
-use Rattle.pg_gateway.specs.Views.{Seen, shared_step, shared_run, part, view, private_run, handed_in}
+use Rattle.pg_gateway.specs.Views.{ViewEvent, shared_step, shared_run, part, view, private_run, handed_in}
 use Rattle.pg_gateway.proofs.SlotLaws.{Alone}
 use Rattle.pg_gateway.proofs.ViewLaws.{own-run}
 use Rattle.pg_gateway.proofs.RunLaws.{Alone-run, agreeing_parts}
@@ -36,7 +36,7 @@ same_views u S T (x ∷ pairs) alone alone' own agree =
     let own' : own_of u (shared_run S (mine_by x)) ≡ own_of u (shared_run T (other_by x)) =
     own-run u S (mine_by x) alone ∙ ap₂ private_run own part ∙ sym (own-run u T (other_by x) alone') in
     view-append u S (mine_by x) (mine_of pairs)
-    ∙ ap₂ (λ (a b : List Seen). a ++ b) part
+    ∙ ap₂ (λ (a b : List ViewEvent). a ++ b) part
     (same_views u (shared_run S (mine_by x)) (shared_run T (other_by x)) pairs (Alone-run S (mine_by x) alone) (Alone-run T (other_by x) alone') own' agree.1)
     ∙ sym (view-append u T (other_by x) (other_of pairs))
 

@@ -10,11 +10,11 @@ use Rattle.pg_wire.specs.declared.refusal.Refusal.{Refusal}
 use Rattle.pg_wire.specs.declared.refusal.Refusal.TheVariants.{NoMemory}
 use Rattle.pg_wire.specs.Number.{number_of}
 use Rattle.pg_ingest.specs.Items as link
-use Rattle.pg_ingest.specs.Items.{AreTold, is_want, told_of, break_in}
+use Rattle.pg_ingest.specs.Items.{is_want, told_of, break_in}
 use Rattle.pg_ingest.specs.Commands.{Act, tells, asks, told_in}
 use Rattle.pg_ingest.specs.Shown.{IsAllTold}
 use Rattle.pg_ingest.proofs.Past.{told_of-only}
-use Rattle.pg_gateway.specs.GatewayEvents.{GatewayEvent, add_pmu, drop_pmu, add_sub, drop_sub, grant, asks as asks_for, announce, measure, tick, stats, pmu_stats, audit, standing, who_waits, Answer}
+use Rattle.pg_gateway.specs.GatewayEvents.{GatewayEvent, add_pmu, drop_pmu, add_sub, drop_sub, grant, asks as asks_for, announce, measure, tick, Answer, inquires}
 use Rattle.pg_gateway.specs.State.{SharedMachine, opening as shared_opening, next}
 use Rattle.pg_gateway.specs.Histories.{Legal, state_after}
 use Rattle.pg_gateway.specs.Views.{full_answer, full_answers, shared_step, shared_run}
@@ -184,11 +184,7 @@ full_by lines S T (asks_for u x) done full = full
 full_by lines S T (announce config) done full = full
 full_by lines S T (measure m) done full = full
 full_by lines S T (tick soc) done full = full
-full_by lines S T (stats u) done full = full
-full_by lines S T (pmu_stats key) done full = full
-full_by lines S T (who_waits us) done full = full
-full_by lines S T (audit u index) done full = full
-full_by lines S T (standing u place) done full = full
+full_by lines S T (inquires q) done full = full
 
 full_named : (lines : List (ℕ × SourceLinkPast)) (S T : SharedMachine) (pairs : List (GatewayEvent × Answer)) → AllFull lines → AllFull (lines_named lines S T pairs)
 full_named lines S T [] full = full

@@ -4,7 +4,7 @@ use Rattle.std.specs.List.{flat_map}
 use Rattle.std.specs.Map.{lookup}
 use Rattle.pg_wire.specs.declared.refusal.Refusal.{Refusal}
 use Rattle.pg_ingest.specs.Items as link
-use Rattle.pg_gateway.specs.GatewayEvents.{GatewayEvent, add_pmu, drop_pmu, add_sub, drop_sub, grant, asks, announce, measure, tick, stats, pmu_stats, audit, standing, who_waits, Answer}
+use Rattle.pg_gateway.specs.GatewayEvents.{GatewayEvent, add_pmu, drop_pmu, add_sub, drop_sub, grant, asks, announce, measure, tick, Answer, inquires}
 use Rattle.pg_gateway.specs.State.{SharedMachine, slot_of}
 use Rattle.pg_gateway.specs.Views.{Handed, handed_one, handed_to, full_answer, shared_step}
 use Rattle.pg_gateway.specs.Laws.{events_of, answers_of}
@@ -91,11 +91,7 @@ named_handed u (asks w x) a = by (nat_eq u w)
 named_handed u (announce config) a = refl
 named_handed u (measure m) a = refl
 named_handed u (tick soc) a = refl
-named_handed u (stats w) a = refl
-named_handed u (pmu_stats key) a = refl
-named_handed u (who_waits us) a = refl
-named_handed u (audit w index) a = refl
-named_handed u (standing w place) a = refl
+named_handed u (inquires q) a = refl
 
 turn_handed : (u : ℕ) (m : WorldState) (f : InputValue) → handed_at u f (notes_of (full_turn m f).effects) ≡ paired u (pairs_of (full_turn m f).effects)
 turn_handed u m (link_up s) = silent_none u m.shared (up_action (lookup (nat_eq s) m.lines)) (up_silent u (lookup (nat_eq s) m.lines))

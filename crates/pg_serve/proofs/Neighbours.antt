@@ -13,9 +13,9 @@ use Rattle.pg_ingest.specs.Items as link
 use Rattle.pg_audit.specs.declared.audit.What.{What}
 use Rattle.pg_session.specs.Events as session
 use Rattle.pg_session.specs.Events.{SubscriberEvent}
-use Rattle.pg_session.specs.Private.{Told, done, refuse}
+use Rattle.pg_session.specs.Private.{ReplyValue, done, refuse}
 use Rattle.pg_session.specs.Commands.{Item, commands, ignores, items_of, break_in}
-use Rattle.pg_gateway.specs.GatewayEvents.{GatewayEvent, add_pmu, drop_pmu, add_sub, drop_sub, grant, asks, announce, measure, tick, stats, pmu_stats, audit, standing, who_waits, Answer, tells, sub_counts, pmu_counts, entry, stands, those_waiting}
+use Rattle.pg_gateway.specs.GatewayEvents.{GatewayEvent, add_pmu, drop_pmu, add_sub, drop_sub, grant, asks, announce, measure, tick, Answer, tells, sub_counts, pmu_counts, entry, stands, those_waiting, inquires}
 use Rattle.pg_gateway.specs.Judging.{registered_of}
 use Rattle.pg_gateway.specs.Sharing.{SubscriberSlot, SubscriberSlots, revokes, announces, measures, broadcast}
 use Rattle.pg_gateway.specs.State.{SharedMachine, slot_of, own_of, at_slot, refusal, Target, to_all, to_one, adds, drops, to_none, unless, target, reached_answer, frames_reached, granting, moved, added, with_note, code_of, is_refusal, kept_of, slots_after, slots_noted, names as named, taken_in, pmus_after, tick_after, next}
@@ -47,13 +47,9 @@ KeepsPmus (asks u x) = Unit {0}
 KeepsPmus (announce config) = ⊥
 KeepsPmus (measure m) = ⊥
 KeepsPmus (tick soc) = Unit {0}
-KeepsPmus (stats u) = Unit {0}
-KeepsPmus (pmu_stats key) = Unit {0}
-KeepsPmus (who_waits us) = Unit {0}
-KeepsPmus (audit u index) = Unit {0}
-KeepsPmus (standing u place) = Unit {0}
+KeepsPmus (inquires q) = Unit {0}
 
-told_pmus : (S : SharedMachine) (e : GatewayEvent) (t : Told) → KeepsPmus e → pmus_after S e t ≡ S.pmus
+told_pmus : (S : SharedMachine) (e : GatewayEvent) (t : ReplyValue) → KeepsPmus e → pmus_after S e t ≡ S.pmus
 told_pmus S (add_pmu key) t k = absurd k
 told_pmus S (drop_pmu key) t k = absurd k
 told_pmus S (add_sub u size bytes) t k = refl
@@ -63,11 +59,7 @@ told_pmus S (asks u x) t k = refl
 told_pmus S (announce config) t k = absurd k
 told_pmus S (measure m) t k = absurd k
 told_pmus S (tick soc) t k = refl
-told_pmus S (stats u) t k = refl
-told_pmus S (pmu_stats key) t k = refl
-told_pmus S (who_waits us) t k = refl
-told_pmus S (audit u index) t k = refl
-told_pmus S (standing u place) t k = refl
+told_pmus S (inquires q) t k = refl
 
 kept_pmus : (S : SharedMachine) (e : GatewayEvent) (a : Answer) → KeepsPmus e → (next S e a).pmus ≡ S.pmus
 kept_pmus S e (tells t) k = told_pmus S e t k
@@ -87,11 +79,7 @@ KeepsTick (asks u x) = Unit {0}
 KeepsTick (announce config) = Unit {0}
 KeepsTick (measure m) = Unit {0}
 KeepsTick (tick soc) = ⊥
-KeepsTick (stats u) = Unit {0}
-KeepsTick (pmu_stats key) = Unit {0}
-KeepsTick (who_waits us) = Unit {0}
-KeepsTick (audit u index) = Unit {0}
-KeepsTick (standing u place) = Unit {0}
+KeepsTick (inquires q) = Unit {0}
 
 told_tick : (last : Option ℕ) (e : GatewayEvent) → KeepsTick e → tick_after last e ≡ last
 told_tick last (add_pmu key) k = refl
@@ -103,11 +91,7 @@ told_tick last (asks u x) k = refl
 told_tick last (announce config) k = refl
 told_tick last (measure m) k = refl
 told_tick last (tick soc) k = absurd k
-told_tick last (stats u) k = refl
-told_tick last (pmu_stats key) k = refl
-told_tick last (who_waits us) k = refl
-told_tick last (audit u index) k = refl
-told_tick last (standing u place) k = refl
+told_tick last (inquires q) k = refl
 
 pub kept_tick : (S : SharedMachine) (e : GatewayEvent) (a : Answer) → KeepsTick e → (next S e a).last_tick ≡ S.last_tick
 kept_tick S e (tells t) k = told_tick S.last_tick e k
@@ -137,11 +121,7 @@ HasRoom (asks u x) S = Unit {0}
 HasRoom (announce config) S = Unit {0}
 HasRoom (measure m) S = Unit {0}
 HasRoom (tick soc) S = Unit {0}
-HasRoom (stats u) S = Unit {0}
-HasRoom (pmu_stats key) S = Unit {0}
-HasRoom (who_waits us) S = Unit {0}
-HasRoom (audit u index) S = Unit {0}
-HasRoom (standing u place) S = Unit {0}
+HasRoom (inquires q) S = Unit {0}
 
 -- a state of these parts
 abbrev parts : Pmus → Option ℕ → SubscriberSlots → SharedMachine
@@ -186,11 +166,7 @@ same_reach u pmus last ss ts (asks w x) own mine_so room room' = refl
 same_reach u pmus last ss ts (announce config) own mine_so room room' = refl
 same_reach u pmus last ss ts (measure m) own mine_so room room' = refl
 same_reach u pmus last ss ts (tick soc) own mine_so room room' = refl
-same_reach u pmus last ss ts (stats w) own mine_so room room' = refl
-same_reach u pmus last ss ts (pmu_stats key) own mine_so room room' = refl
-same_reach u pmus last ss ts (who_waits us) own mine_so room room' = refl
-same_reach u pmus last ss ts (audit w index) own mine_so room room' = refl
-same_reach u pmus last ss ts (standing w place) own mine_so room room' = refl
+same_reach u pmus last ss ts (inquires q) own mine_so room room' = refl
 
 -- and the registry and the last tick go on alike
 same_pmus : (pmus : Pmus) (last : Option ℕ) (ss ts : SubscriberSlots) (e : GatewayEvent) → (shared_step (parts pmus last ss) e).pmus ≡ (shared_step (parts pmus last ts) e).pmus
@@ -234,11 +210,7 @@ same_pmus pmus last ss ts (drop_sub w) = kept_pmus (parts pmus last ss) (drop_su
 same_pmus pmus last ss ts (grant w key) = kept_pmus (parts pmus last ss) (grant w key) (full_answer (parts pmus last ss) (grant w key)) tt ∙ sym (kept_pmus (parts pmus last ts) (grant w key) (full_answer (parts pmus last ts) (grant w key)) tt)
 same_pmus pmus last ss ts (asks w x) = kept_pmus (parts pmus last ss) (asks w x) (full_answer (parts pmus last ss) (asks w x)) tt ∙ sym (kept_pmus (parts pmus last ts) (asks w x) (full_answer (parts pmus last ts) (asks w x)) tt)
 same_pmus pmus last ss ts (tick soc) = refl
-same_pmus pmus last ss ts (stats w) = kept_pmus (parts pmus last ss) (stats w) (full_answer (parts pmus last ss) (stats w)) tt ∙ sym (kept_pmus (parts pmus last ts) (stats w) (full_answer (parts pmus last ts) (stats w)) tt)
-same_pmus pmus last ss ts (pmu_stats key) = kept_pmus (parts pmus last ss) (pmu_stats key) (full_answer (parts pmus last ss) (pmu_stats key)) tt ∙ sym (kept_pmus (parts pmus last ts) (pmu_stats key) (full_answer (parts pmus last ts) (pmu_stats key)) tt)
-same_pmus pmus last ss ts (who_waits us) = kept_pmus (parts pmus last ss) (who_waits us) (full_answer (parts pmus last ss) (who_waits us)) tt ∙ sym (kept_pmus (parts pmus last ts) (who_waits us) (full_answer (parts pmus last ts) (who_waits us)) tt)
-same_pmus pmus last ss ts (audit w index) = kept_pmus (parts pmus last ss) (audit w index) (full_answer (parts pmus last ss) (audit w index)) tt ∙ sym (kept_pmus (parts pmus last ts) (audit w index) (full_answer (parts pmus last ts) (audit w index)) tt)
-same_pmus pmus last ss ts (standing w place) = kept_pmus (parts pmus last ss) (standing w place) (full_answer (parts pmus last ss) (standing w place)) tt ∙ sym (kept_pmus (parts pmus last ts) (standing w place) (full_answer (parts pmus last ts) (standing w place)) tt)
+same_pmus pmus last ss ts (inquires q) = kept_pmus (parts pmus last ss) (inquires q) (full_answer (parts pmus last ss) (inquires q)) tt ∙ sym (kept_pmus (parts pmus last ts) (inquires q) (full_answer (parts pmus last ts) (inquires q)) tt)
 
 is_tick : (e : GatewayEvent) → (KeepsTick e) ⊎ ((soc : ℕ) × (e ≡ tick soc))
 is_tick (add_pmu key) = inl tt
@@ -250,11 +222,7 @@ is_tick (asks u x) = inl tt
 is_tick (announce config) = inl tt
 is_tick (measure m) = inl tt
 is_tick (tick soc) = inr (soc, refl)
-is_tick (stats u) = inl tt
-is_tick (pmu_stats key) = inl tt
-is_tick (who_waits us) = inl tt
-is_tick (audit u index) = inl tt
-is_tick (standing u place) = inl tt
+is_tick (inquires q) = inl tt
 
 same_tick : (pmus : Pmus) (last : Option ℕ) (ss ts : SubscriberSlots) (e : GatewayEvent) → (shared_step (parts pmus last ss) e).last_tick ≡ (shared_step (parts pmus last ts) e).last_tick
 same_tick pmus last ss ts e = by (is_tick e)
@@ -316,11 +284,7 @@ none_seen u S (asks w x) other = rw (not_mine u w other) refl
 none_seen u S (announce config) other = absurd (cc)
 none_seen u S (measure m) other = absurd (cc)
 none_seen u S (tick soc) other = absurd (cc)
-none_seen u S (stats w) other = refl
-none_seen u S (pmu_stats key) other = refl
-none_seen u S (who_waits us) other = refl
-none_seen u S (audit w index) other = refl
-none_seen u S (standing w place) other = refl
+none_seen u S (inquires q) other = refl
 
 other_keeps : (u : ℕ) (e : GatewayEvent) → names_other u e ≡ true → KeepsPmus e × KeepsTick e
 other_keeps u (add_pmu key) other = absurd (cc)
@@ -332,11 +296,7 @@ other_keeps u (asks w x) other = (tt, tt)
 other_keeps u (announce config) other = absurd (cc)
 other_keeps u (measure m) other = absurd (cc)
 other_keeps u (tick soc) other = absurd (cc)
-other_keeps u (stats w) other = (tt, tt)
-other_keeps u (pmu_stats key) other = (tt, tt)
-other_keeps u (who_waits us) other = (tt, tt)
-other_keeps u (audit w index) other = (tt, tt)
-other_keeps u (standing w place) other = (tt, tt)
+other_keeps u (inquires q) other = (tt, tt)
 
 other_alike : (u : ℕ) (S T : SharedMachine) (e : GatewayEvent) → Alike u S T → names_other u e ≡ true → Alike u (shared_step S e) T
 other_alike u S T e alike other = record {
@@ -566,11 +526,7 @@ named_apart u fed (asks w (session.drain n)) done_so other alone = refl
 named_apart u fed (announce config) done_so other alone = refl
 named_apart u fed (measure m) done_so other alone = refl
 named_apart u fed (tick soc) done_so other alone = refl
-named_apart u fed (stats w) done_so other alone = refl
-named_apart u fed (pmu_stats key) done_so other alone = refl
-named_apart u fed (who_waits us) done_so other alone = refl
-named_apart u fed (audit w index) done_so other alone = refl
-named_apart u fed (standing w place) done_so other alone = refl
+named_apart u fed (inquires q) done_so other alone = refl
 
 other_lines : (u : ℕ) (lines : List (ℕ × SourceLinkPast)) (S T : SharedMachine) (e : GatewayEvent) (done_so : Bool) → names_other u e ≡ true → lines_by lines S T e done_so ≡ lines
 other_lines u lines S T (add_pmu key) done_so other = absurd (cc)
@@ -582,11 +538,7 @@ other_lines u lines S T (asks w x) done_so other = refl
 other_lines u lines S T (announce config) done_so other = refl
 other_lines u lines S T (measure m) done_so other = refl
 other_lines u lines S T (tick soc) done_so other = refl
-other_lines u lines S T (stats w) done_so other = refl
-other_lines u lines S T (pmu_stats key) done_so other = refl
-other_lines u lines S T (who_waits us) done_so other = refl
-other_lines u lines S T (audit w index) done_so other = refl
-other_lines u lines S T (standing w place) done_so other = refl
+other_lines u lines S T (inquires q) done_so other = refl
 
 pub other_turn : (u : ℕ) (m n : WorldState) (f : InputValue) → AlikeStates u m n → is_of_other u f ≡ true
     → AlikeStates u (turned m f) n × (view u m.shared (posted (actions_of m f)) ≡ [])
@@ -705,11 +657,7 @@ own_lines u m n (asks w x) alike after = alike.lines
 own_lines u m n (announce config) alike after = alike.lines
 own_lines u m n (measure x) alike after = alike.lines
 own_lines u m n (tick soc) alike after = alike.lines
-own_lines u m n (stats w) alike after = alike.lines
-own_lines u m n (pmu_stats key) alike after = alike.lines
-own_lines u m n (who_waits us) alike after = alike.lines
-own_lines u m n (audit w index) alike after = alike.lines
-own_lines u m n (standing w place) alike after = alike.lines
+own_lines u m n (inquires q) alike after = alike.lines
 
 -- and so does what u's session was fed
 connect_here : (u : ℕ) (fed fed' : List (ℕ × List ℕ)) (b c : Bool) → b ≡ c → lookup (nat_eq u) fed ≡ lookup (nat_eq u) fed'
@@ -761,11 +709,7 @@ fed_named u m n (asks w x) alike own = subst (λ v. FedAlike u m n (asks v x)) (
 fed_named u m n (announce config) alike own = alike.fed
 fed_named u m n (measure x) alike own = alike.fed
 fed_named u m n (tick soc) alike own = alike.fed
-fed_named u m n (stats w) alike own = alike.fed
-fed_named u m n (pmu_stats key) alike own = alike.fed
-fed_named u m n (who_waits us) alike own = alike.fed
-fed_named u m n (audit w index) alike own = alike.fed
-fed_named u m n (standing w place) alike own = alike.fed
+fed_named u m n (inquires q) alike own = alike.fed
 
 abbrev pub RoomFor : InputValue → SharedMachine → Type 0
 RoomFor (link_up s) S = Unit {0}
@@ -858,7 +802,7 @@ length_removed test (s ∷ ss) = by (test s.0) (length_removed test ss)
     by true h = omega arith
     by false h = omega (arith, h)
 
-length_reached : (to : Target) (t : Told) (ss : SubscriberSlots) → length (slots_after to t ss) ≤ length ss + target_adds to
+length_reached : (to : Target) (t : ReplyValue) (ss : SubscriberSlots) → length (slots_after to t ss) ≤ length ss + target_adds to
 length_reached (to_all o) t ss = by (is_refusal t)
   where
     by : (b : Bool) → length (if b then ss else broadcast o ss (kept_of t)) ≤ length ss + 0
@@ -878,7 +822,7 @@ length_reached (drops w) t ss = by (is_refusal t)
     by false = omega (arith, length_removed (nat_eq w) ss)
 length_reached to_none t ss = omega arith
 
-length_noted : (name : Option (ℕ × What)) (t : Told) (ss : SubscriberSlots) → length (slots_noted name t ss) ≡ length ss
+length_noted : (name : Option (ℕ × What)) (t : ReplyValue) (ss : SubscriberSlots) → length (slots_noted name t ss) ≡ length ss
 length_noted None t ss = refl
 length_noted (Some n) t ss =
     Related-length (λ v w. Unit {0}) (at_slot n.0 (with_note (n.1, code_of t)) ss) ss (same-at_slot n.0 (with_note (n.1, code_of t)) ss)
@@ -901,11 +845,7 @@ target_by S (asks w x) = omega arith
 target_by S (announce config) = adds_unless (refusal S (announce config)) (to_all (announces (registered_of S.pmus config)))
 target_by S (measure m) = adds_unless (refusal S (measure m)) (to_all (measures m.soc m.quality m.frac (taken_in S m)))
 target_by S (tick soc) = omega arith
-target_by S (stats w) = omega arith
-target_by S (pmu_stats key) = omega arith
-target_by S (who_waits us) = omega arith
-target_by S (audit w index) = omega arith
-target_by S (standing w place) = omega arith
+target_by S (inquires q) = omega arith
 
 length_next : (S : SharedMachine) (e : GatewayEvent) (a : Answer) → length (next S e a).subs ≤ length S.subs + adds_by e
 length_next S e (tells t) =
@@ -985,11 +925,7 @@ has_room (asks u x) S others h = tt
 has_room (announce config) S others h = tt
 has_room (measure m) S others h = tt
 has_room (tick soc) S others h = tt
-has_room (stats u) S others h = tt
-has_room (pmu_stats key) S others h = tt
-has_room (who_waits us) S others h = tt
-has_room (audit u index) S others h = tt
-has_room (standing u place) S others h = tt
+has_room (inquires q) S others h = tt
 
 pub room_for : (f : InputValue) (S : SharedMachine) (others : ℕ) → length S.subs + (adds_at f + others) ≤ 64 → RoomFor f S
 room_for (link_up s) S others h = tt

@@ -12,9 +12,9 @@ use Rattle.pg_session.specs.Commands.{items_of, session_stats}
 use Rattle.pg_ingest.specs.Items as link
 use Rattle.pg_ingest.specs.Items.{told_of, break_in}
 use Rattle.pg_ingest.specs.Linking.{link_stats}
-use Rattle.pg_gateway.specs.GatewayEvents.{GatewayEvent, add_pmu, drop_pmu, add_sub, drop_sub, grant, asks, announce, measure, tick, stats, pmu_stats, audit, standing, who_waits, Answer}
+use Rattle.pg_gateway.specs.GatewayEvents.{GatewayEvent, asks, measure, Answer}
 use Rattle.pg_gateway.specs.State.{SharedMachine, opening as shared_opening, slot_of, own_of, refusal}
-use Rattle.pg_gateway.specs.Views.{Seen, full_answer, shared_step, view, Handed, handed_out}
+use Rattle.pg_gateway.specs.Views.{ViewEvent, full_answer, shared_step, view, Handed, handed_out}
 use Rattle.pg_gateway.specs.Laws.{after, events_of, answers_of, AgreeOn}
 use Rattle.pg_serve.specs.Inputs.{InputValue, link_up, pmu_bytes, sub_bytes, names, Noted, replied, ignored, closed, Outcome}
 use Rattle.pg_serve.specs.Actions.{Action, posts, ignores_frame, closes, refuses, Effect, answered, ignored_frame, closed_at, refused, pairs_of, link_action}
@@ -84,7 +84,7 @@ abbrev pub events_at : List InputValue → InputValue → List GatewayEvent
 events_at inputs f = events_of (pairs_of (full_turn (world_state_of inputs) f).effects)
 
 -- all that a subscriber sees of the inputs
-abbrev pub view_of : ℕ → List InputValue → List Seen
+abbrev pub view_of : ℕ → List InputValue → List ViewEvent
 view_of u inputs = view u shared_opening (events_made inputs)
 
 -- what is answered to the inputs
@@ -93,20 +93,8 @@ full_outcomes inputs = all_outcomes opening (full_turns opening inputs)
 
 -- the input asks something for u, or is of its bytes
 abbrev pub is_asked : ℕ → GatewayEvent → Bool
-is_asked u (add_pmu key) = false
-is_asked u (drop_pmu key) = false
-is_asked u (add_sub w size bytes) = false
-is_asked u (drop_sub w) = false
-is_asked u (grant w key) = false
 is_asked u (asks w x) = nat_eq u w
-is_asked u (announce config) = false
-is_asked u (measure m) = false
-is_asked u (tick soc) = false
-is_asked u (stats w) = false
-is_asked u (pmu_stats key) = false
-is_asked u (who_waits us) = false
-is_asked u (audit w index) = false
-is_asked u (standing w place) = false
+is_asked u _ = false
 
 abbrev pub is_for : ℕ → InputValue → Bool
 is_for u (link_up s) = false

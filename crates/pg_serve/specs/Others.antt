@@ -1,25 +1,19 @@
 -- Inputs that name other subscribers.
 use Rattle.std.specs.Prelude.{◌≡◌, ℕ, ◌+◌, ◌≤◌, nat_eq, Bool, false, not, List, [], ◌∷◌, filter}
-use Rattle.pg_gateway.specs.GatewayEvents.{GatewayEvent, add_pmu, drop_pmu, add_sub, drop_sub, grant, asks, announce, measure, tick, stats, pmu_stats, audit, standing, who_waits}
+use Rattle.pg_gateway.specs.GatewayEvents.{GatewayEvent, add_sub, drop_sub, grant, asks, stats, audit, standing, inquires}
 use Rattle.pg_serve.specs.Inputs.{InputValue, link_up, pmu_bytes, sub_bytes, names}
 use Rattle.pg_serve.specs.Full.{view_of}
 
 -- the event names another subscriber than u
 abbrev pub names_other : ℕ → GatewayEvent → Bool
-names_other u (add_pmu key) = false
-names_other u (drop_pmu key) = false
 names_other u (add_sub w size bytes) = not (nat_eq u w)
 names_other u (drop_sub w) = not (nat_eq u w)
 names_other u (grant w key) = not (nat_eq u w)
 names_other u (asks w x) = not (nat_eq u w)
-names_other u (announce config) = false
-names_other u (measure m) = false
-names_other u (tick soc) = false
-names_other u (stats w) = not (nat_eq u w)
-names_other u (pmu_stats key) = false
-names_other u (who_waits us) = false
-names_other u (audit w index) = not (nat_eq u w)
-names_other u (standing w place) = not (nat_eq u w)
+names_other u (inquires (stats w)) = not (nat_eq u w)
+names_other u (inquires (audit w index)) = not (nat_eq u w)
+names_other u (inquires (standing w place)) = not (nat_eq u w)
+names_other u _ = false
 
 abbrev pub is_of_other : ℕ → InputValue → Bool
 is_of_other u (link_up s) = false
@@ -34,20 +28,8 @@ without_others u inputs = filter (λ f. not (is_of_other u f)) inputs
 
 -- how often a subscriber is to be added
 abbrev pub adds_by : GatewayEvent → ℕ
-adds_by (add_pmu key) = 0
-adds_by (drop_pmu key) = 0
 adds_by (add_sub u size bytes) = 1
-adds_by (drop_sub u) = 0
-adds_by (grant u key) = 0
-adds_by (asks u x) = 0
-adds_by (announce config) = 0
-adds_by (measure m) = 0
-adds_by (tick soc) = 0
-adds_by (stats u) = 0
-adds_by (pmu_stats key) = 0
-adds_by (who_waits us) = 0
-adds_by (audit u index) = 0
-adds_by (standing u place) = 0
+adds_by _ = 0
 
 abbrev pub adds_at : InputValue → ℕ
 adds_at (link_up s) = 0

@@ -10,12 +10,12 @@ use Rattle.pg_registry.specs.Registered as registered
 use Rattle.pg_session.specs.Events as session
 use Rattle.pg_session.specs.Events.{SubscriberEvent}
 use Rattle.pg_session.specs.Private as private
-use Rattle.pg_session.specs.Private.{Told}
+use Rattle.pg_session.specs.Private.{ReplyValue}
 use Rattle.pg_session.specs.Commands.{break_in as session_break}
 use Rattle.pg_ingest.specs.Items as link
 use Rattle.pg_ingest.specs.Items.{break_in as link_break}
 use Rattle.pg_ingest.specs.Shown.{LinkPast, beginning, feeding, renewed, IsAllTold}
-use Rattle.pg_gateway.specs.GatewayEvents.{GatewayEvent, add_pmu, drop_pmu, add_sub, drop_sub, grant, asks, announce, measure, tick, stats, pmu_stats, audit, standing, who_waits, Answer, tells, sub_counts, pmu_counts, entry, stands, those_waiting}
+use Rattle.pg_gateway.specs.GatewayEvents.{GatewayEvent, add_pmu, drop_pmu, add_sub, drop_sub, grant, asks, announce, measure, tick, Answer, tells, sub_counts, pmu_counts, entry, stands, those_waiting, inquires}
 use Rattle.pg_gateway.specs.State.{SharedMachine, opening as shared_opening, slot_of, refusal}
 use Rattle.pg_gateway.specs.Histories.{Legal, state_after}
 use Rattle.pg_serve.specs.Inputs.{InputValue, link_up, pmu_bytes, sub_bytes, names, Outcome}
@@ -72,29 +72,8 @@ up_action (Some line) = []
 -- the events for which the world makes a link or a session first
 abbrev pub begins : GatewayEvent → Bool
 begins (add_pmu key) = true
-begins (drop_pmu key) = false
-begins (add_sub u size bytes) = false
-begins (drop_sub u) = false
-begins (grant u key) = false
 begins (asks u session.connect) = true
-begins (asks u (session.grant key config)) = false
-begins (asks u (session.revoke key)) = false
-begins (asks u (session.announce list)) = false
-begins (asks u (session.measure soc quality frac samples)) = false
-begins (asks u (session.define definition)) = false
-begins (asks u (session.remove number)) = false
-begins (asks u (session.tick soc)) = false
-begins (asks u session.hangup) = false
-begins (asks u (session.command number word)) = false
-begins (asks u (session.drain n)) = false
-begins (announce config) = false
-begins (measure m) = false
-begins (tick soc) = false
-begins (stats u) = false
-begins (pmu_stats key) = false
-begins (who_waits us) = false
-begins (audit u index) = false
-begins (standing u place) = false
+begins _ = false
 
 -- The event of the input's name is posted; or there is no memory for its link or session, and it would not be refused.
 abbrev pub Posts : SharedMachine → GatewayEvent → List Action → Type 0
@@ -116,7 +95,7 @@ pub record LegalTurn (m : WorldState) (t : Turn) : Type 0 where
 
 -- ---- what it leaves
 
-abbrev pub is_done_so : Told → Bool
+abbrev pub is_done_so : ReplyValue → Bool
 is_done_so (private.done made kept) = true
 is_done_so (private.refused r) = false
 is_done_so (private.handed bytes begun gap) = false
@@ -150,11 +129,7 @@ lines_by lines S T (asks u x) done = lines
 lines_by lines S T (announce config) done = lines
 lines_by lines S T (measure m) done = lines
 lines_by lines S T (tick soc) done = lines
-lines_by lines S T (stats u) done = lines
-lines_by lines S T (pmu_stats key) done = lines
-lines_by lines S T (who_waits us) done = lines
-lines_by lines S T (audit u index) done = lines
-lines_by lines S T (standing u place) done = lines
+lines_by lines S T (inquires q) done = lines
 
 -- A session begins with a Connect, and ends with a Hangup and with its subscriber, where these are done.
 abbrev pub fed_by_one : List (ℕ × List ℕ) → ℕ → SubscriberEvent → Bool → List (ℕ × List ℕ)
@@ -173,18 +148,7 @@ fed_by_one fed u (session.drain n) done = fed
 abbrev pub fed_by : List (ℕ × List ℕ) → GatewayEvent → Bool → List (ℕ × List ℕ)
 fed_by fed (asks u x) done = fed_by_one fed u x done
 fed_by fed (drop_sub u) done = if done then remove_entry (nat_eq u) fed else fed
-fed_by fed (add_pmu key) done = fed
-fed_by fed (drop_pmu key) done = fed
-fed_by fed (add_sub u size bytes) done = fed
-fed_by fed (grant u key) done = fed
-fed_by fed (announce config) done = fed
-fed_by fed (measure m) done = fed
-fed_by fed (tick soc) done = fed
-fed_by fed (stats u) done = fed
-fed_by fed (pmu_stats key) done = fed
-fed_by fed (who_waits us) done = fed
-fed_by fed (audit u index) done = fed
-fed_by fed (standing u place) done = fed
+fed_by fed _ done = fed
 
 -- a link whose connection was up gives all commands that are owed
 abbrev pub words_given : SourceLinkPast → List Word

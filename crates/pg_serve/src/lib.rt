@@ -3,7 +3,6 @@
 //! What no clause of IEEE C37.118.2 is named for is a rule of this project.
 #![tactic(auto)]
 
-mod edits;
 mod feeding;
 mod input;
 mod laws;

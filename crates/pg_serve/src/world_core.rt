@@ -12,13 +12,13 @@ ghost use Rattle.pg_serve.specs.Inputs.{input_value, link_up, pmu_bytes, sub_byt
 ghost use Rattle.pg_serve.specs.Shown.{WorldStateShows, SourceLinkShows, SessionShows};
 ghost use Rattle.pg_serve.specs.Taking.{held, Takes, TakesInput, Spares, Ends};
 
-use crate::edits::event_of;
 use crate::feeding::{commands_owed, feed_link, feed_session, note, post};
 use crate::input::{Input, Note, Output};
 use crate::source_link::SourceLink;
 use indexmap::IndexMap;
 use pg_gateway::{Edit, Event, Gateway, Reply};
 use pg_session::Session;
+use pg_shared::event_of;
 use pg_wire::{PmuId, PmuKey, Refusal, SubId};
 use std::alloc::{AllocError, Global};
 use std::mem;
@@ -254,8 +254,8 @@ impl Core {
             Edit::DropPmu(key) => self.drop_pmu(*key),
             Edit::DropSub(sub) => self.end_session(Event::DropSub(*sub), *sub),
             _ => {
-                let event = event_of(self.alloc, edit)?;
-                self.answer(event)
+                let copy = edit.try_clone(self.alloc)?;
+                self.answer(event_of(copy))
             }
         }
     }

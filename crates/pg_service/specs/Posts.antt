@@ -4,26 +4,14 @@ use Rattle.std.specs.Option.{option_map_or}
 use Rattle.pg_session.specs.Events.{SubscriberEvent}
 use Rattle.pg_data.specs.Measurements.{Measurement, resolution}
 use Rattle.pg_limits.specs.Clocks.{is_ahead, is_near}
-use Rattle.pg_gateway.specs.GatewayEvents.{GatewayEvent, Answer, add_pmu, drop_pmu, add_sub, drop_sub, grant, asks, announce, measure, tick, stats, pmu_stats, audit, standing, who_waits}
+use Rattle.pg_gateway.specs.GatewayEvents.{GatewayEvent, Answer, add_pmu, drop_pmu, add_sub, drop_sub, grant, asks, announce, measure, tick, standing, inquires}
 use Rattle.pg_gateway.specs.Posting.{IsMeasured, Posted, Notes}
 use Rattle.pg_service.specs.declared.metered_gate.ClockCheck.{ClockCheck}
 
 -- a data frame, where an event is one
 abbrev pub frame_in : GatewayEvent → Option Measurement
 frame_in (measure m) = Some m
-frame_in (add_pmu key) = None
-frame_in (drop_pmu key) = None
-frame_in (add_sub u size bytes) = None
-frame_in (drop_sub u) = None
-frame_in (grant u key) = None
-frame_in (asks u h) = None
-frame_in (announce config) = None
-frame_in (tick soc) = None
-frame_in (stats u) = None
-frame_in (pmu_stats key) = None
-frame_in (audit u index) = None
-frame_in (standing u place) = None
-frame_in (who_waits subs) = None
+frame_in _ = None
 
 -- A data frame's time, SOC + numerator / resolution, is near enough to this machine's clock, and not too far ahead of the reference,
 -- as far as there are such limits.
@@ -52,15 +40,11 @@ frames_passed g takes frames (grant u key) e = frames (grant u key) e
 frames_passed g takes frames (asks u h) e = frames (asks u h) e
 frames_passed g takes frames (announce config) e = frames (announce config) e
 frames_passed g takes frames (tick soc) e = frames (tick soc) e
-frames_passed g takes frames (stats u) e = frames (stats u) e
-frames_passed g takes frames (pmu_stats key) e = frames (pmu_stats key) e
-frames_passed g takes frames (audit u index) e = frames (audit u index) e
-frames_passed g takes frames (standing u place) e = frames (standing u place) e
-frames_passed g takes frames (who_waits subs) e = frames (who_waits subs) e
+frames_passed g takes frames (inquires q) e = frames (inquires q) e
 
 -- It was asked of this subscriber, or how a stream of it stands.
 abbrev pub IsOf : ℕ → Posted → Type 0
-IsOf sub p = ((h : SubscriberEvent) × (p.0 ≡ asks sub h)) ⊎ ((place : ℕ) × (p.0 ≡ standing sub place))
+IsOf sub p = ((h : SubscriberEvent) × (p.0 ≡ asks sub h)) ⊎ ((place : ℕ) × (p.0 ≡ inquires (standing sub place)))
 
 -- What was posted meanwhile is of this subscriber alone, where the gate tells it.
 pub record OwnOnly (sub : ℕ) (before after : Option (List Posted)) : Type 0 where

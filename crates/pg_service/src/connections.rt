@@ -149,7 +149,7 @@ impl<'a, R: Wait + Clock> ConnectionsWorker<'a, R> {
             self.is_reported = true;
             let detail = Detail::of_error(&error);
             let entry = Entry::new(LogEvent::NoTable, Subject::Nobody, detail);
-            self.journal.tell(self.rt, entry);
+            self.journal.log(self.rt, entry);
         }
     }
 }

@@ -3,6 +3,7 @@
 //! of this project.
 #![tactic(auto)]
 
+mod acceptor;
 mod assignment;
 mod connections;
 mod directory;
@@ -20,6 +21,7 @@ mod stderr_poll;
 mod targets;
 mod worker_handles;
 
+pub use acceptor::{ACCEPTED, AcceptTimer, Acceptor};
 pub use assignment::Assignment;
 pub use connections::{Connections, ConnectionsWorker};
 pub use directory::{Change, Directory, FollowUp};

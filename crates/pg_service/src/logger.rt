@@ -13,7 +13,7 @@ use std::sync::Wait;
 use std::time::{Duration, Instant, SystemTime};
 use std::{fmt, io, thread};
 
-/// How long a turn waits for what is met, in milliseconds.
+/// How long a turn waits for events, in milliseconds.
 const PAUSE_MS: u64 = 100;
 
 /// The lines of what was held back that one turn writes at most.
@@ -30,9 +30,9 @@ pub struct Logger<'a, R: Wait + Clock + Eprint + Net> {
     // Whether each line begins with its priority, as the system's journal reads it.
     has_priority: bool,
     throttle: LogThrottle,
-    outlet: StderrPoll,
+    stderr: StderrPoll,
     started: Instant,
-    // How often each kind without a name was met before.
+    // How often each kind without a name happened before.
     counted: [u64; 6],
 }
 
@@ -56,7 +56,7 @@ impl<'a, R: Wait + Clock + Eprint + Net> Logger<'a, R> {
             journal,
             has_priority,
             throttle: LogThrottle::new(alloc),
-            outlet: StderrPoll::new(rt, alloc)?,
+            stderr: StderrPoll::new(rt, alloc)?,
             started: now,
             counted: [0; 6],
         })
@@ -73,7 +73,7 @@ impl<'a, R: Wait + Clock + Eprint + Net> Logger<'a, R> {
         if !self.journal.filter(self.rt).allows(level) {
             return true;
         }
-        if !self.outlet.takes_a_line() {
+        if !self.stderr.takes_a_line() {
             return false;
         }
         let priority = if self.has_priority {
@@ -104,24 +104,51 @@ impl<'a, R: Wait + Clock + Eprint + Net> Logger<'a, R> {
         self.write(entry.event.level(), entry.time, entry)
     }
 
-    /// Writes what waits in the journal, once no worker does that any more.
+    /// Writes what waits in the journal.
     pub fn write_rest(&mut self) {
         for entry in self.journal.take(self.rt, self.alloc) {
             self.write_entry(&entry);
         }
     }
 
-    /// Writes this, or holds it back.
-    fn meet(&mut self, entry: Entry, now: u64) {
-        if let Some(due) = self.throttle.met(entry, now) {
+    /// Writes what waits in the journal and all that was held back: once no other worker runs.
+    pub fn finish(&mut self) {
+        self.read_journal(self.now_ms());
+        self.write_due(u64::MAX, u32::MAX);
+    }
+
+    /// Reads what waits in the journal, and what was counted there. It is written, or held back.
+    fn read_journal(&mut self, now: u64) {
+        for entry in self.journal.take(self.rt, self.alloc) {
+            self.offer(entry, now);
+        }
+        self.offer_unnamed(now);
+    }
+
+    /// Writes what was held back and is due at this time, so many lines at most.
+    fn write_due(&mut self, now: u64, most: u32) {
+        for _ in 0..most {
+            let Some(due) = self.throttle.due(now) else {
+                break;
+            };
             if !self.write_entry(&due) {
-                self.throttle.missed(due.times);
+                self.throttle.not_written(due.times);
+                break;
+            }
+        }
+    }
+
+    /// Writes this, or holds it back.
+    fn offer(&mut self, entry: Entry, now: u64) {
+        if let Some(due) = self.throttle.offer(entry, now) {
+            if !self.write_entry(&due) {
+                self.throttle.not_written(due.times);
             }
         }
     }
 
     /// What was counted since the last turn and has no name.
-    fn meet_unnamed(&mut self, now: u64) {
+    fn offer_unnamed(&mut self, now: u64) {
         for (at, event) in LogEvent::UNNAMED.iter().enumerate() {
             let count = self.journal.count(*event);
             if let Some(counted) = self.counted.get_mut(at) {
@@ -130,7 +157,7 @@ impl<'a, R: Wait + Clock + Eprint + Net> Logger<'a, R> {
                 if times > 0 {
                     let mut entry = Entry::new(*event, Subject::Nobody, Detail::Nothing);
                     entry.times = times;
-                    self.meet(entry, now);
+                    self.offer(entry, now);
                 }
             }
         }
@@ -169,19 +196,8 @@ impl<R: Wait + Clock + Eprint + Net> Work for Logger<'_, R> {
     fn turn(&mut self) -> bool {
         thread::sleep(self.rt, Duration::from_millis(PAUSE_MS));
         let now = self.now_ms();
-        for entry in self.journal.take(self.rt, self.alloc) {
-            self.meet(entry, now);
-        }
-        self.meet_unnamed(now);
-        for _ in 0..HELD {
-            let Some(due) = self.throttle.due(now) else {
-                break;
-            };
-            if !self.write_entry(&due) {
-                self.throttle.missed(due.times);
-                break;
-            }
-        }
+        self.read_journal(now);
+        self.write_due(now, HELD);
         true
     }
 }

@@ -1,4 +1,4 @@
-//! What workers report of their sources and ports, to whoever asks.
+//! What workers report of their sources and ports, for those that ask.
 
 use crate::connections::Connections;
 use crate::mail::{Mailbox, PortOrder, SourceOrder};
@@ -231,19 +231,19 @@ impl StatusCollector {
     }
 
     /// A worker reports its sources, unless that asking is over. Where there is no memory for it, that is noted.
-    pub fn tell_sources<R: Wait>(
+    pub fn report_sources<R: Wait>(
         &self,
         rt: &R,
         journal: &Journal,
         asking: u64,
-        told: Vec<SourceReport>,
+        reports: Vec<SourceReport>,
     ) {
         let mut held = self.reports.lock(rt);
         if held.asking != asking {
             return;
         }
         held.answers = held.answers.saturating_add(1);
-        for report in told {
+        for report in reports {
             if held.sources.push(report).is_err() {
                 journal.note(LogEvent::MailFault);
             }
@@ -251,12 +251,12 @@ impl StatusCollector {
     }
 
     /// A worker reports its ports, unless that asking is over. Where there is no memory for it, that is noted.
-    pub fn tell_ports<R: Wait>(
+    pub fn report_ports<R: Wait>(
         &self,
         rt: &R,
         journal: &Journal,
         asking: u64,
-        told: Vec<PortReport>,
+        reports: Vec<PortReport>,
         ages: &Histogram,
     ) {
         let mut held = self.reports.lock(rt);
@@ -265,7 +265,7 @@ impl StatusCollector {
         }
         held.answers = held.answers.saturating_add(1);
         held.ages.add(ages);
-        for report in told {
+        for report in reports {
             if held.ports.push(report).is_err() {
                 journal.note(LogEvent::MailFault);
             }

@@ -13,7 +13,7 @@ pub struct WorkerHandles<'a> {
     pub ports: &'a [Mailbox<PortOrder>],
     /// The names that wait to be looked up.
     pub resolver: &'a Resolver,
-    /// Where it is noted what was met.
+    /// Where events are logged and counted.
     pub journal: &'a Journal,
     /// Where workers report how their sources and ports stand.
     pub collector: &'a StatusCollector,

@@ -1,7 +1,7 @@
 //! Texts of the errors by which a script, or the answer to a line, ends.
 
 use crate::asserts::same;
-use pg_answers::NotPrinted;
+use pg_lines::NotPrinted;
 use pg_replay::Fault;
 use std::test::*;
 

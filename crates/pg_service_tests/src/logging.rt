@@ -55,10 +55,10 @@ fn logged(rt: &impl Abort, alloc: Global, steps: &str) -> String {
         let told = match name {
             "due" => throttle.due(now),
             "unwritten" => {
-                throttle.missed(2);
+                throttle.not_written(2);
                 None
             }
-            _ => throttle.met(named(rt, name), now),
+            _ => throttle.offer(named(rt, name), now),
         };
         if let Some(entry) = told {
             add(rt, alloc, &mut text, now, &entry);
@@ -91,7 +91,7 @@ fn kinds_apart(rt: HostRuntime) {
         7 unwritten\n8 unwritten\n9 due\n9 due\n999 due\n1000 due\n1000 due\n1001 gap\n1999 due\n2000 due\n2001 gap\n\
         2002 gap\n3000 due\n59999 due\n60000 due\n60001 due\n60002 due\n60003 bad\n119999 due\n120000 due";
     const LOGGED: &str =
-        "0 Gap 1\n0 Ignored 1\n0 Idle 1\n2 Ignored 1\n4 Idle 1\n5 Made 1\n6 Called 1\n9 Untold 4\n1000 Gap 1\n\
+        "0 Gap 1\n0 Ignored 1\n0 Idle 1\n2 Ignored 1\n4 Idle 1\n5 Made 1\n6 Called 1\n9 EntriesLost 4\n1000 Gap 1\n\
         1000 Idle 1\n2000 Gap 1\n3000 Gap 2\n60000 Ignored 2\n60002 Ignored 1\n120000 Ignored 1\n";
     same(&rt, logged(&rt, rt.alloc(), STEPS).as_str(), LOGGED);
 }
@@ -104,7 +104,7 @@ fn too_many_kinds(rt: HostRuntime) {
     let mut text = String::new(alloc);
     let mut firsts = 0u64;
     for number in 1..4_097 {
-        if let Some(entry) = throttle.met(of_subscriber(&rt, number, LogEvent::Connected), 0) {
+        if let Some(entry) = throttle.offer(of_subscriber(&rt, number, LogEvent::Connected), 0) {
             firsts = firsts.saturating_add(entry.times);
         }
     }
@@ -112,13 +112,13 @@ fn too_many_kinds(rt: HostRuntime) {
     for now in [0, 500, 600, 1_000] {
         let told = match now {
             600 => throttle.due(now),
-            _ => throttle.met(of_subscriber(&rt, 5_000, LogEvent::Connected), now),
+            _ => throttle.offer(of_subscriber(&rt, 5_000, LogEvent::Connected), now),
         };
         if let Some(entry) = told {
             add(&rt, alloc, &mut text, now, &entry);
         }
     }
-    same(&rt, text.as_str(), "600 Untold 2\n1000 Connected 1\n");
+    same(&rt, text.as_str(), "600 EntriesLost 2\n1000 Connected 1\n");
 }
 
 /// What happens waits in its order, and what is just as the last is counted with it.
@@ -127,7 +127,7 @@ fn entries_wait(rt: HostRuntime) {
     let alloc = rt.alloc();
     let journal = Journal::new(alloc).expect(&rt, "memory");
     for name in ["called", "made", "made", "called"] {
-        journal.tell(&rt, named(&rt, name));
+        journal.log(&rt, named(&rt, name));
     }
     let mut text = String::new(alloc);
     for entry in journal.take(&rt, alloc) {
@@ -144,18 +144,18 @@ fn entries_are_bounded(rt: HostRuntime) {
     let alloc = rt.alloc();
     let journal = Journal::new(alloc).expect(&rt, "memory");
     for _ in 0..80 {
-        for event in [LogEvent::Connected, LogEvent::GuestEnded] {
-            journal.tell(&rt, of_subscriber(&rt, 7, event));
+        for event in [LogEvent::Connected, LogEvent::SubscriberEnded] {
+            journal.log(&rt, of_subscriber(&rt, 7, event));
         }
     }
     for number in 1..65 {
-        journal.tell(&rt, of_subscriber(&rt, number, LogEvent::Stalled));
+        journal.log(&rt, of_subscriber(&rt, number, LogEvent::Stalled));
     }
-    journal.tell(&rt, of_source(&rt, LogEvent::Silent, Detail::Nothing));
+    journal.log(&rt, of_source(&rt, LogEvent::Silent, Detail::Nothing));
     // Sixteen ends of subscriber 7 are counted with the last one that is kept; as many connections and its stall are not told. Source 7 is another.
     same(&rt, journal.take(&rt, alloc).len(), 128 + 63 + 1);
     same(&rt, journal.count(LogEvent::Connected), 80);
-    same(&rt, journal.count(LogEvent::Untold), 17);
+    same(&rt, journal.count(LogEvent::EntriesLost), 17);
 }
 
 /// Adds the line of an entry.
@@ -203,12 +203,12 @@ fn lines_of_ends_and_counts(rt: HostRuntime) {
     let alloc = rt.alloc();
     let mut text = String::new(alloc);
     for number in [3, 4, 39, 40, 12] {
-        let entry = of_source(&rt, LogEvent::GuestEnded, Detail::Fault(number));
+        let entry = of_source(&rt, LogEvent::SubscriberEnded, Detail::Fault(number));
         write(&rt, alloc, &mut text, &entry);
     }
     for event in [
         LogEvent::Gap,
-        LogEvent::Untold,
+        LogEvent::EntriesLost,
         LogEvent::Ignored,
         LogEvent::PageBusy,
     ] {

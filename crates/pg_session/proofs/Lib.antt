@@ -11,10 +11,8 @@ pub mod Measuring
 pub mod Obeying
 pub mod Turns
 pub mod Streaming
-pub mod Walking
 pub mod Turning
 pub mod Fitting
-pub mod Switching
 pub mod Shapes
 pub mod Granting
 pub mod Guessing

@@ -13,7 +13,7 @@ use Rattle.pg_wire.specs.declared.refusal.Refusal.TheVariants.{NoMemory}
 use Rattle.pg_session.specs.Streams.{Turn}
 use Rattle.pg_session.specs.Output.{Output, frames_made, turns_taken, ignored}
 use Rattle.pg_session.specs.Events.{SubscriberEvent, Sample, grant, revoke, announce, measure, define, remove, tick, connect, hangup, command, drain}
-use Rattle.pg_session.specs.Private.{Told, done, refused, handed, refusal, answer, takes_memory, May, next, frames_of, effect, turns_of, refused_at, with_reply, asks_reply, reply_frame, stream_at}
+use Rattle.pg_session.specs.Private.{ReplyValue, done, refused, handed, refusal, answer, takes_memory, May, next, frames_of, effect, turns_of, refused_at, with_reply, asks_reply, reply_frame, stream_at}
 use Rattle.pg_session.specs.ByAll.{by_arrivals, by_numbers}
 use Rattle.pg_session.specs.Shown.{Model, begin}
 use Rattle.pg_session.specs.Laws.{Run, after, unless_refused, full_told, full_run, handed_by, handed_in, frame_calls, turn_calls, reply_calls, calls_done, calls_of, calls_in}
@@ -109,7 +109,7 @@ refused_called p connect r = refl
 refused_called p hangup r = refl
 refused_called p (drain n) r = refl
 
-next_called : (p : Model) (e : SubscriberEvent) (r : Told) → (next by_arrivals by_numbers p e r).output.queue ≡ called p.output.queue (calls_of p e r)
+next_called : (p : Model) (e : SubscriberEvent) (r : ReplyValue) → (next by_arrivals by_numbers p e r).output.queue ≡ called p.output.queue (calls_of p e r)
 next_called p e (done made kept) = effect_called p e kept
 next_called p e (refused r) = refused_called p e r
 next_called p e (handed bytes begun gap) = effect_called p e 0
@@ -140,7 +140,7 @@ fate_called size limit last xs k h =
     ∙ ap (λ (m : Numbered). one_if (nat_le 1 k && nat_le k (length m.made))) (sym (queue_called size limit last xs))
 
 -- what a measurement that makes no frame is answered
-pub measured_quietly : (p : Model) (soc quality frac : ℕ) (samples : List Sample) (lost : Bool) (r : Told)
+pub measured_quietly : (p : Model) (soc quality frac : ℕ) (samples : List Sample) (lost : Bool) (r : ReplyValue)
     → frames_of by_arrivals by_numbers p (measure soc quality frac samples) ≡ []
     → May by_arrivals by_numbers p (measure soc quality frac samples) lost r → r ≡ done 0 0
 measured_quietly p soc quality frac samples lost r quiet may =

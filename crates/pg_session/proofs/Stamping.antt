@@ -27,7 +27,7 @@ use Rattle.pg_outcfg.specs.Frames.{data_blocks, data_heading, qualities_of}
 use Rattle.pg_session.specs.Events.{SubscriberEvent, Sample, grant, revoke, announce, measure, define, remove, tick, connect, hangup, command, drain}
 use Rattle.pg_session.specs.Shape.{same_shape}
 use Rattle.pg_session.specs.Streams.{StreamOf, Turn, PlacedBlock, placed, base_of, slot_frame, still, framed, reshape_turn, arrive_all, arrival_turn, measure_turn, tick_turn}
-use Rattle.pg_session.specs.Private.{Told, done, refused, handed, May, next, refusal, effect, refuse, refused_at, turns_of, stream_at, stopped, started as start_stream, switched, at_stream, defined, put_first, with_refusal}
+use Rattle.pg_session.specs.Private.{ReplyValue, done, refused, handed, May, next, refusal, effect, refuse, refused_at, turns_of, stream_at, stopped, started as start_stream, switched, at_stream, defined, put_first, with_refusal}
 use Rattle.pg_session.specs.ByAll.{by_arrivals, by_numbers}
 use Rattle.pg_session.specs.Shown.{Model, begin}
 use Rattle.pg_session.specs.Laws.{Run, after}
@@ -529,18 +529,18 @@ refused_streams p hangup r = refl
 refused_streams p (drain n) r = refl
 
 -- where the reply is no refusal, none holds
-none_holds : (B : Type 0) (r : Told) → ((first : Refusal) → r ≡ refused first → ⊥) → (o : Option Refusal) → MatchOption o B (λ first. r ≡ refused first) → o ≡ None
+none_holds : (B : Type 0) (r : ReplyValue) → ((first : Refusal) → r ≡ refused first → ⊥) → (o : Option Refusal) → MatchOption o B (λ first. r ≡ refused first) → o ≡ None
 none_holds B r plain None h = refl
 none_holds B r plain (Some first) h = absurd (plain first h)
 
-next_sound : (p : Model) (e : SubscriberEvent) (r : Told) → May by_arrivals by_numbers p e false r → AreSound p.streams
+next_sound : (p : Model) (e : SubscriberEvent) (r : ReplyValue) → May by_arrivals by_numbers p e false r → AreSound p.streams
     → AreSound (next by_arrivals by_numbers p e r).streams
 next_sound p e (done made kept) may w = effect_sound p e kept (none_holds _ (done made kept) (λ first h. cc h) (refusal by_arrivals by_numbers p e) may) w
 next_sound p e (refused r) may w = subst AreSound (sym (refused_streams p e r)) w
 next_sound p e (handed bytes begun gap) may w =
     effect_sound p e 0 (none_holds _ (handed bytes begun gap) (λ first h. cc h) (refusal by_arrivals by_numbers p e) may) w
 
-next_steps : (p : Model) (e : SubscriberEvent) (r : Told) (number : ℕ) (s : OneStream) → AreSound p.streams → stream_at p.streams number ≡ Some s → s.slots.is_on ≡ true
+next_steps : (p : Model) (e : SubscriberEvent) (r : ReplyValue) (number : ℕ) (s : OneStream) → AreSound p.streams → stream_at p.streams number ≡ Some s → s.slots.is_on ≡ true
     → StepsOn number s (made_at number p e r) (next by_arrivals by_numbers p e r).streams
 next_steps p e (done made kept) number s w found on = effect_steps p e kept number s w found on
 next_steps p e (refused r) number s w found on =
@@ -617,13 +617,13 @@ turns_off p e number s w found off = by e
     by (command asked word) = refl
     by (drain n) = refl
 
-made_off : (p : Model) (e : SubscriberEvent) (r : Told) (number : ℕ) (s : OneStream) → AreSound p.streams → stream_at p.streams number ≡ Some s → s.slots.is_on ≡ false
+made_off : (p : Model) (e : SubscriberEvent) (r : ReplyValue) (number : ℕ) (s : OneStream) → AreSound p.streams → stream_at p.streams number ≡ Some s → s.slots.is_on ≡ false
     → made_at number p e r ≡ []
 made_off p e (done made kept) number s w found off = turns_off p e number s w found off
 made_off p e (refused r) number s w found off = refl
 made_off p e (handed bytes begun gap) number s w found off = turns_off p e number s w found off
 
-pub off-makes_none : (size limit : ℕ) (last : Option ℕ) (before : Run) (number : ℕ) (s : StreamOf (StreamHistory Piece)) (e : SubscriberEvent) (r : Told)
+pub off-makes_none : (size limit : ℕ) (last : Option ℕ) (before : Run) (number : ℕ) (s : StreamOf (StreamHistory Piece)) (e : SubscriberEvent) (r : ReplyValue)
     → IsLegal (begin size limit last) before → stream_at (after (begin size limit last) before).streams number ≡ Some s
     → s.slots.is_on ≡ false → made_at number (after (begin size limit last) before) e r ≡ []
 off-makes_none size limit last before number s e r legal found off =

@@ -29,7 +29,7 @@ use Rattle.pg_session.specs.Output.{Output, all_ignored, kept_frame, lost_frame,
 use Rattle.pg_session.specs.ByAll.{by_arrivals, by_numbers}
 use Rattle.pg_session.specs.Kept.{by_slots, by_gaps}
 use Rattle.pg_session.specs.Private as private
-use Rattle.pg_session.specs.Private.{Told, done, refused, handed, stream_at, put_all, put_first, is_known, is_unsupported, asks_reply, takes_memory, with_refusal, refused_at, reply_soc}
+use Rattle.pg_session.specs.Private.{ReplyValue, done, refused, handed, stream_at, put_all, put_first, is_known, is_unsupported, asks_reply, takes_memory, with_refusal, refused_at, reply_soc}
 use Rattle.pg_session.specs.Shown.{Model, Own, StreamShows, StreamsShow, OwnShows, SubscriberValue, Takes}
 use Rattle.pg_session.specs.Steps.{Steps}
 use Rattle.pg_session.proofs.Simulating.{TurnShows, reshape-shows, measure-shows, tick-shows}
@@ -549,13 +549,13 @@ refused_shown connect r v p w = w
 refused_shown hangup r v p w = w
 refused_shown (drain n) r v p w = w
 
-next_shown : (e : SubscriberEvent) (r : Told) (v : Own) (p : Model) → OwnShows v p
+next_shown : (e : SubscriberEvent) (r : ReplyValue) (v : Own) (p : Model) → OwnShows v p
     → OwnShows (private.next by_slots by_gaps v e r) (private.next by_arrivals by_numbers p e r)
 next_shown e (done made kept) v p w = effect_shown e kept v p w
 next_shown e (refused r) v p w = refused_shown e r v p w
 next_shown e (handed bytes begun gap) v p w = effect_shown e 0 v p w
 
-may_by : (v : Own) (p : Model) (e : SubscriberEvent) (lost : Bool) (r : Told) → OwnShows v p → (o : Option Refusal)
+may_by : (v : Own) (p : Model) (e : SubscriberEvent) (lost : Bool) (r : ReplyValue) → OwnShows v p → (o : Option Refusal)
     → MatchOption o (((kept : ℕ) × (kept ≤ length (private.frames_of by_slots by_gaps v e)) × (lost ≡ true → kept ≡ 0) × (r ≡ private.answer by_slots by_gaps v e kept))
     ⊎ ((r ≡ refused NoMemory) × (takes_memory e ≡ true))) (λ first. r ≡ refused first)
     → MatchOption o (((kept : ℕ) × (kept ≤ length (private.frames_of by_arrivals by_numbers p e)) × (lost ≡ true → kept ≡ 0) × (r ≡ private.answer by_arrivals by_numbers p e kept))
@@ -565,7 +565,7 @@ may_by v p e lost r w None (inr h) = inr h
 may_by v p e lost r w (Some first) h = h
 
 -- What follows of the kept state follows of the model: the reply may come, and the successor is shown.
-pub follows_shown : (v : Own) (p : Model) (e : SubscriberEvent) (lost : Bool) (r : Told) → OwnShows v p
+pub follows_shown : (v : Own) (p : Model) (e : SubscriberEvent) (lost : Bool) (r : ReplyValue) → OwnShows v p
     → private.May by_slots by_gaps v e lost r
     → private.May by_arrivals by_numbers p e lost r × OwnShows (private.next by_slots by_gaps v e r) (private.next by_arrivals by_numbers p e r)
 follows_shown v p e lost r w may = (
@@ -576,7 +576,7 @@ follows_shown v p e lost r w may = (
 )
 
 -- So one step of what is kept is one step of whatever state it shows.
-pub steps_taken : (old : SubscriberValue) (e : SubscriberEvent) (lost : Bool) (r : Told) (new : SubscriberValue) → Steps old e lost r new → Takes old e lost r new
+pub steps_taken : (old : SubscriberValue) (e : SubscriberEvent) (lost : Bool) (r : ReplyValue) (new : SubscriberValue) → Steps old e lost r new → Takes old e lost r new
 steps_taken old e lost r new s = λ p w.
     let next = follows_shown old.own p e lost r w s.may in
     record {

@@ -1,5 +1,5 @@
 -- A loop over all streams, each of which takes its turn.
-use Rattle.std.proofs.Common.{◌≡◌, ℕ, zero, suc, ◌+◌, ◌<◌, List, [], ◌∷◌, ◌++◌, length, map, take, drop, set, get_or, Bool, true, false, if◌then◌else◌, refl, sym, ap, ◌∙◌, arith, subst}
+use Rattle.std.proofs.Common.{◌≡◌, ℕ, zero, suc, ◌+◌, ◌<◌, List, [], ◌∷◌, ◌++◌, length, map, take, drop, set, get_or, Bool, true, false, ◌&&◌, if◌then◌else◌, refl, sym, ap, ◌∙◌, arith, subst}
 use Rattle.std.proofs.lemmas.List.{map_more, drop_more, drop_at}
 use Rattle.std.proofs.lemmas.List.Edits.{map_over_more}
 use Rattle.pg_data.specs.Pieces.{Piece}
@@ -8,7 +8,7 @@ use Rattle.pg_align.specs.Slots.{Aligned}
 use Rattle.pg_outcfg.specs.Listing.{Listing}
 use Rattle.pg_session.specs.Events.{Sample}
 use Rattle.pg_session.specs.Shape.{same_shape}
-use Rattle.pg_session.specs.Streams.{StreamOf, Turn, effective_in, reshape_turn, tick_turn}
+use Rattle.pg_session.specs.Streams.{StreamOf, Turn, still, effective_in, measure_turn, reshape_turn, tick_turn}
 use Rattle.pg_session.specs.Sending.{Sending, Sends}
 use Rattle.pg_session.specs.Taking.{Taken}
 use Rattle.pg_session.specs.Kept.{by_slots}
@@ -78,3 +78,19 @@ pub fitted_at : (listed : Listing) (xs : List OneStream) (i : ℕ) (x : OneStrea
 fitted_at listed [] i x w h e = absurd (omega arith)
 fitted_at listed (y ∷ xs) zero x w h e = subst (λ (z : OneStream). z.slots.effective ≡ effective_in listed z.definition.members) e w.0
 fitted_at listed (y ∷ xs) (suc i) x w h e = fitted_at listed xs i x w.1 (omega arith) e
+
+-- a measurement is nothing to a stream that is off
+if_off : {X : Type 0} (b c : Bool) (t u : X) → b ≡ false → (if b && c then t else u) ≡ u
+if_off false c t u e = refl
+if_off true c t u e = absurd (cc e)
+
+measure-off : (listed : Listing) (soc quality frac : ℕ) (samples : List Sample) (x : OneStream) → x.slots.is_on ≡ false
+    → measure_turn by_slots listed soc quality frac samples x ≡ still x
+measure-off listed soc quality frac samples x off = if_off x.slots.is_on _ _ (still x) off
+
+pub off_sends : (listed : Listing) (soc quality frac : ℕ) (samples : List Sample) (x : OneStream) (o : Sending) → x.slots.is_on ≡ false
+    → Sends (measure_turn by_slots listed soc quality frac samples x).frames
+    (with_stats o (turn_stats (measure_turn by_slots listed soc quality frac samples x) o.output.stats)) o
+off_sends listed soc quality frac samples x o off =
+    subst (λ (t : Turn (Aligned Piece)). Sends t.frames (with_stats o (turn_stats t o.output.stats)) o) (sym (measure-off listed soc quality frac samples x off))
+    (record { some = 0; few = omega arith; none = λ _. refl; all = λ _. refl; lost = λ l. l; output = refl; made = omega arith; kept = omega arith })

@@ -75,7 +75,7 @@ same_changed own {g = g} {h = h} {l = l} {m = m} {xs = xs} {ys = ys} {o = o} {p 
     ap (λ k. own_changed own k l xs o) a ∙ ap (λ k. own_changed own h k xs o) b ∙ ap₂ (own_changed own h m) c d
 
 -- an event that no refusal holds of is done
-pub may-done : (own : Own) (e : SubscriberEvent) (lost : Bool) (r : private.Told) (kept : ℕ) → private.refusal by_slots by_gaps own e ≡ None
+pub may-done : (own : Own) (e : SubscriberEvent) (lost : Bool) (r : private.ReplyValue) (kept : ℕ) → private.refusal by_slots by_gaps own e ≡ None
     → kept ≤ length (private.frames_of by_slots by_gaps own e) → (lost ≡ true → kept ≡ 0) → r ≡ private.answer by_slots by_gaps own e kept
     → private.May by_slots by_gaps own e lost r
 may-done own e lost r kept none few zeroed answered = by (private.refusal by_slots by_gaps own e) none

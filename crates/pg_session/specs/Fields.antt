@@ -20,7 +20,6 @@ use Rattle.pg_session.specs.Sending.{Sending}
 use Rattle.pg_session.specs.Shown.{Own, SubscriberValue}
 use Rattle.pg_session.specs.Wanted.{wanted_of}
 use Rattle.pg_session.specs.Filling.{fills, may_keep}
-use Rattle.pg_session.specs.On.{AreOn}
 
 -- the second of each slot can be told by a SOC
 abbrev pub AreTimed : ℕ → List (OpenSlot Piece) → Type 0
@@ -106,11 +105,10 @@ AreGranted grants [] = Unit {0}
 AreGranted grants (e ∷ listed) = IsTrue (has_key grants e.0) × AreGranted grants listed
 
 -- what the fields of a subscriber keep
-pub record SubscriberIsKept (v : SubscriberValue) (capacity places slots bits : ℕ) : Type 0 where
+pub record SubscriberIsKept (v : SubscriberValue) (capacity places slots : ℕ) : Type 0 where
   pub few : length v.own.streams ≤ 8
   pub room : 8 ≤ capacity
   pub fitted : AreFitted v.own.listed v.own.streams
   pub granted : AreGranted v.own.grants v.own.listed
   pub blocks : places ≡ 128
   pub configs : slots ≡ 16
-  pub on : AreOn bits v.own.streams

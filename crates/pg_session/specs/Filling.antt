@@ -5,7 +5,7 @@ use Rattle.pg_data.specs.Pieces.{Piece}
 use Rattle.pg_stream.specs.Slots.{slot_at}
 use Rattle.pg_align.specs.Histories.{is_above}
 use Rattle.pg_align.specs.Slots.{Aligned}
-use Rattle.pg_session.specs.Events.{Sample, SubscriberEvent, grant, revoke, announce, measure, define, remove, tick, connect, hangup, command, drain}
+use Rattle.pg_session.specs.Events.{Sample, SubscriberEvent, measure}
 use Rattle.pg_session.specs.Streams.{StreamOf, PlacedBlock, placed, base_of}
 use Rattle.pg_session.specs.Shown.{SubscriberValue}
 use Rattle.pg_session.specs.Ready.{IsReady}
@@ -65,16 +65,7 @@ IsSpread v quality (s ∷ t ∷ samples) = ⊥
 -- No copies lie ready, and the event is a frame whose blocks leave no slot open behind them; or those of its only block do.
 abbrev pub Serves : SubscriberValue → SubscriberEvent → Type 0
 Serves v (measure soc quality frac samples) = ((v.blocks ≡ []) × (all_fill v.own.streams soc quality frac samples ≡ true)) ⊎ IsSpread v quality samples
-Serves v (announce list) = ⊥
-Serves v (grant key config) = ⊥
-Serves v (revoke key) = ⊥
-Serves v (define definition) = ⊥
-Serves v (remove number) = ⊥
-Serves v (tick soc) = ⊥
-Serves v connect = ⊥
-Serves v hangup = ⊥
-Serves v (command number word) = ⊥
-Serves v (drain n) = ⊥
+Serves v _ = ⊥
 
 -- A block that comes to stay is kept by a copy. So just the copies that the event asks for lie ready; or those that serve as well.
 abbrev pub IsPreparedFor : SubscriberValue → SubscriberEvent → Type 0

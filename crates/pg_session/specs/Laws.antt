@@ -10,14 +10,14 @@ use Rattle.pg_data.specs.Measurements.{Measurement, IsMeasurement}
 use Rattle.pg_stream.specs.Slots.{slot_at}
 use Rattle.pg_session.specs.Streams.{Turn, base_of}
 use Rattle.pg_session.specs.Events.{SubscriberEvent, Sample, samples_at, grant, revoke, announce, measure, define, remove, tick, connect, hangup, command, drain}
-use Rattle.pg_session.specs.Private.{Told, done, refused, handed, refusal, answer, May, next, turns_of, frames_of, asks_reply, reply_frame, stream_at}
+use Rattle.pg_session.specs.Private.{ReplyValue, done, refused, handed, refusal, answer, May, next, turns_of, frames_of, asks_reply, reply_frame, stream_at}
 use Rattle.pg_session.specs.ByAll.{by_arrivals, by_numbers}
 use Rattle.pg_session.specs.Shown.{Model, begin}
 use Rattle.pg_session.specs.Ready.{ArePlaces}
 
 -- private events, each with the reply to it
 abbrev pub Run : Type 0
-Run = List (SubscriberEvent × Told)
+Run = List (SubscriberEvent × ReplyValue)
 
 -- the state after a run
 abbrev pub after : Model → Run → Model
@@ -25,11 +25,11 @@ after p [] = p
 after p (x ∷ xs) = after (next by_arrivals by_numbers p x.0 x.1) xs
 
 -- the reply where no memory is refused: the first refusal that holds, or the answer with all frames kept
-abbrev pub unless_refused : Option Refusal → Told → Told
+abbrev pub unless_refused : Option Refusal → ReplyValue → ReplyValue
 unless_refused None told = told
 unless_refused (Some r) told = refused r
 
-abbrev pub full_told : Model → SubscriberEvent → Told
+abbrev pub full_told : Model → SubscriberEvent → ReplyValue
 full_told p e =
     unless_refused (refusal by_arrivals by_numbers p e)
     (answer by_arrivals by_numbers p e (length (frames_of by_arrivals by_numbers p e)))
@@ -40,7 +40,7 @@ full_run p [] = []
 full_run p (e ∷ es) = (e, full_told p e) ∷ full_run (next by_arrivals by_numbers p e (full_told p e)) es
 
 -- what the replies of a run hand out: the bytes, how many frames they begin, and the gaps before these
-abbrev pub handed_by : Told → List (List ℕ × ℕ × ℕ)
+abbrev pub handed_by : ReplyValue → List (List ℕ × ℕ × ℕ)
 handed_by (done made kept) = []
 handed_by (refused r) = []
 handed_by (handed bytes begun gap) = (bytes, begun, gap) ∷ []
@@ -79,7 +79,7 @@ calls_done p (command number word) kept =
     reply_calls (if asks_reply word then option_map (reply_frame by_arrivals by_numbers p word) (stream_at p.streams number) else None)
 calls_done p (drain n) kept = Drain n ∷ []
 
-abbrev pub calls_of : Model → SubscriberEvent → Told → List Call
+abbrev pub calls_of : Model → SubscriberEvent → ReplyValue → List Call
 calls_of p e (done made kept) = calls_done p e kept
 calls_of p e (refused r) = []
 calls_of p e (handed bytes begun gap) = calls_done p e 0
@@ -108,7 +108,7 @@ pub record NumbersAreKept : Type 0 where
 
 -- A measurement that completes no slot makes no frame; it is done, whatever memory there is.
 pub record NeedsNoMemory : Type 0 where
-  pub reply : (p : Model) (soc quality frac : ℕ) (samples : List Sample) (lost : Bool) (r : Told)
+  pub reply : (p : Model) (soc quality frac : ℕ) (samples : List Sample) (lost : Bool) (r : ReplyValue)
       → frames_of by_arrivals by_numbers p (measure soc quality frac samples) ≡ []
       → May by_arrivals by_numbers p (measure soc quality frac samples) lost r → r ≡ done 0 0
 

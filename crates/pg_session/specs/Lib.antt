@@ -27,5 +27,4 @@ pub mod Pendings
 pub mod Changing
 pub mod Sending
 pub mod Taking
-pub mod On
 pub mod Fields

@@ -36,19 +36,19 @@ pub record Private (A Q : Type 0) : Type 0 where
   pub definitions : ℕ
 
 -- what a reply tells, with no memory in it
-pub data Told : Type 0 where
+pub data ReplyValue : Type 0 where
   -- so many data frames were made, and the first so many of them are kept
-  done : ℕ → ℕ → Told
-  refused : Refusal → Told
+  done : ℕ → ℕ → ReplyValue
+  refused : Refusal → ReplyValue
   -- the bytes handed out, how many frames they begin, and the sum of the gaps before these
-  handed : List ℕ → ℕ → ℕ → Told
+  handed : List ℕ → ℕ → ℕ → ReplyValue
 
 -- what a drain's reply tells
-abbrev pub drain_told : List ℕ → Result Drained Refusal → Told
+abbrev pub drain_told : List ℕ → Result Drained Refusal → ReplyValue
 drain_told buffer (Ok out) = handed (take out.len buffer) out.begun out.gap
 drain_told buffer (Err r) = refused r
 
-abbrev pub told : PrivateReply → Told
+abbrev pub told : PrivateReply → ReplyValue
 told (reply.Done made kept) = done made kept
 told (reply.Refused r) = refused r
 told (reply.Drained buf out) = drain_told buf.items out
@@ -99,17 +99,9 @@ order_refusal word = refuse (not (is_known word)) UnknownCommand (refuse (is_uns
 
 -- events that may be refused for want of memory
 abbrev pub takes_memory : SubscriberEvent → Bool
-takes_memory (grant key config) = false
-takes_memory (revoke key) = false
-takes_memory (announce list) = false
-takes_memory (measure soc quality frac samples) = false
 takes_memory (define definition) = true
-takes_memory (remove number) = false
-takes_memory (tick soc) = false
-takes_memory connect = false
-takes_memory hangup = false
 takes_memory (command number word) = asks_reply word
-takes_memory (drain n) = false
+takes_memory _ = false
 
 -- a refusal of a command of a connected subscriber is counted at it
 abbrev pub with_refusal : {Q : Type 0} → Output Q → Refusal → Output Q
@@ -117,16 +109,7 @@ with_refusal out r = record out { stats = record out.stats { by_reason = counted
 
 abbrev pub refused_at : {A Q : Type 0} → Private A Q → SubscriberEvent → Refusal → Private A Q
 refused_at p (command number word) r = if p.connected then record p { output = with_refusal p.output r } else p
-refused_at p (grant key config) r = p
-refused_at p (revoke key) r = p
-refused_at p (announce list) r = p
-refused_at p (measure soc quality frac samples) r = p
-refused_at p (define definition) r = p
-refused_at p (remove number) r = p
-refused_at p (tick soc) r = p
-refused_at p connect r = p
-refused_at p hangup r = p
-refused_at p (drain n) r = p
+refused_at p _ r = p
 
 module _ {A Q : Type 0} (slots : Alignment A) (queues : Queueing Q) where
   -- a command's refusals after those of its stream, want of memory aside
@@ -250,7 +233,7 @@ module _ {A Q : Type 0} (slots : Alignment A) (queues : Queueing Q) where
   effect p (drain n) kept = record p { output = drained_out p.output n }
 
   -- the reply to an event that is not refused
-  abbrev pub answer : Private A Q → SubscriberEvent → ℕ → Told
+  abbrev pub answer : Private A Q → SubscriberEvent → ℕ → ReplyValue
   answer p (grant key config) kept = done (length (frames_of p (grant key config))) kept
   answer p (revoke key) kept = done (length (frames_of p (revoke key))) kept
   answer p (announce list) kept = done (length (frames_of p (announce list))) kept
@@ -266,14 +249,14 @@ module _ {A Q : Type 0} (slots : Alignment A) (queues : Queueing Q) where
 
   -- This reply may come to the event: its first refusal, or the answer with some of the frames made kept, none where they
   -- are to be lost, or want of memory.
-  abbrev pub May : Private A Q → SubscriberEvent → Bool → Told → Type 0
+  abbrev pub May : Private A Q → SubscriberEvent → Bool → ReplyValue → Type 0
   May p e lost r = MatchOption (refusal p e)
       (((kept : ℕ) × (kept ≤ length (frames_of p e)) × (lost ≡ true → kept ≡ 0) × (r ≡ answer p e kept))
       ⊎ ((r ≡ refused NoMemory) × (takes_memory e ≡ true)))
       (λ first. r ≡ refused first)
 
   -- the state after that reply: a refusal changes nothing but a counter
-  abbrev pub next : Private A Q → SubscriberEvent → Told → Private A Q
+  abbrev pub next : Private A Q → SubscriberEvent → ReplyValue → Private A Q
   next p e (done made kept) = effect p e kept
   next p e (refused r) = refused_at p e r
   next p e (handed bytes begun gap) = effect p e 0

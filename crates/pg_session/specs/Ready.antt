@@ -6,7 +6,7 @@ use Rattle.pg_config.specs.Parts.{Part, block_id}
 use Rattle.pg_data.specs.Pieces.{Piece}
 use Rattle.pg_entitle.specs.Grants.{has_key}
 use Rattle.pg_outcfg.specs.Listing.{Listing, config_at}
-use Rattle.pg_session.specs.Events.{SubscriberEvent, Announcing, Sample, config_of, subscriber_event, grant, revoke, announce, measure, define, remove, tick, connect, hangup, command, drain}
+use Rattle.pg_session.specs.Events.{SubscriberEvent, Announcing, Sample, config_of, subscriber_event, grant, announce, measure}
 use Rattle.pg_session.specs.declared.event.PrivateEvent.{PrivateEvent}
 use Rattle.pg_session.specs.declared.event.PrivateEvent.TheVariants as private
 use Rattle.pg_session.specs.declared.event.PrivateReply.{PrivateReply}
@@ -40,15 +40,7 @@ AreHeld grants listed (s ∷ samples) = IsTrue (has_key grants s.key) × (config
 abbrev pub IsPlaced : PrivateEvent → Type 0
 IsPlaced (private.Announce config places) = ArePlaces (length config.now.parts) places.now
 IsPlaced (private.Measure frame places) = ArePlaces (length (arc_value frame.now).config.parts) places.now
-IsPlaced (private.Grant key config) = Unit {0}
-IsPlaced (private.Revoke key) = Unit {0}
-IsPlaced (private.Define definition) = Unit {0}
-IsPlaced (private.Remove number) = Unit {0}
-IsPlaced (private.Tick soc) = Unit {0}
-IsPlaced private.Connect = Unit {0}
-IsPlaced private.Hangup = Unit {0}
-IsPlaced (private.Command asked) = Unit {0}
-IsPlaced (private.Drain buf) = Unit {0}
+IsPlaced _ = Unit {0}
 
 -- An announcement is of granted PMUs alone; so is a measurement, by the configurations listed for them; and what a granted
 -- PMU has announced is of that PMU.
@@ -56,14 +48,7 @@ abbrev pub IsFor : Own → SubscriberEvent → Type 0
 IsFor own (announce list) = AreOwn own.grants list
 IsFor own (measure soc quality frac samples) = AreHeld own.grants own.listed samples
 IsFor own (grant key config) = IfSome config (λ c. block_id c.block ≡ key.pmu)
-IsFor own (revoke key) = Unit {0}
-IsFor own (define definition) = Unit {0}
-IsFor own (remove number) = Unit {0}
-IsFor own (tick soc) = Unit {0}
-IsFor own connect = Unit {0}
-IsFor own hangup = Unit {0}
-IsFor own (command number word) = Unit {0}
-IsFor own (drain n) = Unit {0}
+IsFor own _ = Unit {0}
 
 -- The subscriber takes the event.
 pub record Accepts (v : SubscriberValue) (e : PrivateEvent) : Type 0 where
@@ -73,30 +58,13 @@ pub record Accepts (v : SubscriberValue) (e : PrivateEvent) : Type 0 where
 -- the copies of blocks that an event asks for: for each stream that is on, of each block that is a member's
 abbrev pub blocks_wanted : Own → SubscriberEvent → List Piece
 blocks_wanted own (measure soc quality frac samples) = all_wanted own.streams quality samples
-blocks_wanted own (announce list) = []
-blocks_wanted own (grant key config) = []
-blocks_wanted own (revoke key) = []
-blocks_wanted own (define definition) = []
-blocks_wanted own (remove number) = []
-blocks_wanted own (tick soc) = []
-blocks_wanted own connect = []
-blocks_wanted own hangup = []
-blocks_wanted own (command number word) = []
-blocks_wanted own (drain n) = []
+blocks_wanted own _ = []
 
 -- the copies of configurations that an event asks for
 abbrev pub configs_wanted : Own → SubscriberEvent → List Part
 configs_wanted own (announce list) = map config_of list
 configs_wanted own (grant key config) = granted_wanted own.grants key config
-configs_wanted own (measure soc quality frac samples) = []
-configs_wanted own (revoke key) = []
-configs_wanted own (define definition) = []
-configs_wanted own (remove number) = []
-configs_wanted own (tick soc) = []
-configs_wanted own connect = []
-configs_wanted own hangup = []
-configs_wanted own (command number word) = []
-configs_wanted own (drain n) = []
+configs_wanted own _ = []
 
 -- From place `next` on these copies lie there, and then the rest from place `after` on; or they do not.
 abbrev pub GoesOn : {X : Type 0} → List X → ℕ → List X → Option ℕ → Type 0
@@ -134,13 +102,4 @@ ReturnsBuffer bytes (reply.Refused r) = ⊥
 -- Just a drain is answered with its buffer.
 abbrev pub KeepsBuffer : PrivateEvent → PrivateReply → Type 0
 KeepsBuffer (private.Drain buf) r = ReturnsBuffer buf.items r
-KeepsBuffer (private.Grant key config) r = IsPlain r
-KeepsBuffer (private.Revoke key) r = IsPlain r
-KeepsBuffer (private.Announce config places) r = IsPlain r
-KeepsBuffer (private.Measure frame places) r = IsPlain r
-KeepsBuffer (private.Define definition) r = IsPlain r
-KeepsBuffer (private.Remove number) r = IsPlain r
-KeepsBuffer (private.Tick soc) r = IsPlain r
-KeepsBuffer private.Connect r = IsPlain r
-KeepsBuffer private.Hangup r = IsPlain r
-KeepsBuffer (private.Command asked) r = IsPlain r
+KeepsBuffer _ r = IsPlain r

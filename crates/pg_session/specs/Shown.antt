@@ -11,7 +11,7 @@ use Rattle.pg_ring.specs.Numbers as ring
 use Rattle.pg_ring.specs.Numbers.{Numbered, none_made}
 use Rattle.pg_session.specs.Events.{SubscriberEvent}
 use Rattle.pg_session.specs.Streams.{StreamOf}
-use Rattle.pg_session.specs.Private.{Private, Told, May, next}
+use Rattle.pg_session.specs.Private.{Private, ReplyValue, May, next}
 use Rattle.pg_session.specs.ByAll.{by_arrivals, by_numbers}
 
 -- the private gateway by all arrivals and all frames ever made
@@ -71,10 +71,10 @@ abbrev pub ShowsPrivate : SubscriberValue → Model → Type 0
 ShowsPrivate v p = OwnShows v.own p
 
 -- This reply may come to the event in this state, and the value then shows the state's successor.
-pub record Follows (p : Model) (e : SubscriberEvent) (lost : Bool) (r : Told) (v : SubscriberValue) : Type 0 where
+pub record Follows (p : Model) (e : SubscriberEvent) (lost : Bool) (r : ReplyValue) (v : SubscriberValue) : Type 0 where
   pub may : May by_arrivals by_numbers p e lost r
   pub shows : ShowsPrivate v (next by_arrivals by_numbers p e r)
 
 -- Whatever state the value shows before the event, the reply follows from that state.
-abbrev pub Takes : SubscriberValue → SubscriberEvent → Bool → Told → SubscriberValue → Type 0
+abbrev pub Takes : SubscriberValue → SubscriberEvent → Bool → ReplyValue → SubscriberValue → Type 0
 Takes old e lost r new = (p : Model) → ShowsPrivate old p → Follows p e lost r new

@@ -9,7 +9,7 @@ use Rattle.pg_outcfg.specs.Listing.{Listing}
 use Rattle.pg_outcfg.specs.Frames.{data_frame_of}
 use Rattle.pg_session.specs.Streams.{StreamOf, Turn}
 use Rattle.pg_session.specs.Events.{SubscriberEvent}
-use Rattle.pg_session.specs.Private.{Told, done, refused, handed, May, next, turns_of, stream_at}
+use Rattle.pg_session.specs.Private.{ReplyValue, done, refused, handed, May, next, turns_of, stream_at}
 use Rattle.pg_session.specs.ByAll.{by_arrivals, by_numbers}
 use Rattle.pg_session.specs.Shown.{Model, begin}
 use Rattle.pg_session.specs.Laws.{Run, after}
@@ -25,7 +25,7 @@ made_of number [] = []
 made_of number (turn ∷ turns) = if turn.stream.definition.stream == number then turn.frames ++ made_of number turns else made_of number turns
 
 -- the data frames that it makes at an event that gets this reply: none where that is a refusal
-abbrev pub made_at : ℕ → Model → SubscriberEvent → Told → List (List ℕ)
+abbrev pub made_at : ℕ → Model → SubscriberEvent → ReplyValue → List (List ℕ)
 made_at number p e (done made kept) = made_of number (turns_of by_arrivals by_numbers p e)
 made_at number p e (refused r) = []
 made_at number p e (handed bytes begun gap) = made_of number (turns_of by_arrivals by_numbers p e)
@@ -74,6 +74,6 @@ pub record StampsRise : Type 0 where
       → IsLegal (begin size limit last) (before ++ run) → StaysOn number (after (begin size limit last) before) run
       → AllPairs (λ frame later. IsBefore (stamp_in frame) (stamp_in later)) (made_in number (after (begin size limit last) before) run)
   -- a stream that is off makes none, so that each data frame is made in an on-period
-  pub off : (size limit : ℕ) (last : Option ℕ) (before : Run) (number : ℕ) (s : StreamOf (StreamHistory Piece)) (e : SubscriberEvent) (r : Told)
+  pub off : (size limit : ℕ) (last : Option ℕ) (before : Run) (number : ℕ) (s : StreamOf (StreamHistory Piece)) (e : SubscriberEvent) (r : ReplyValue)
       → IsLegal (begin size limit last) before → stream_at (after (begin size limit last) before).streams number ≡ Some s
       → s.slots.is_on ≡ false → made_at number (after (begin size limit last) before) e r ≡ []

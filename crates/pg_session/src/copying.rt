@@ -8,10 +8,8 @@ ghost use Rattle.pg_session.specs.Events.{announced_at, config_of, samples_at};
 ghost use Rattle.pg_session.specs.Streams.{PlacedBlock, place_of, with_place, placed};
 ghost use Rattle.pg_session.specs.Ready.{ArePlaces, AreRising};
 ghost use Rattle.pg_session.specs.Filling.{count_keeping};
-ghost use Rattle.pg_session.specs.On.{AreOn};
 ghost use Rattle.pg_session.specs.Wanted.{piece_of_placed, wanted_of, all_wanted};
 
-use crate::on::take_lowest;
 use crate::stream::{Stream, place_next};
 use circular_buffer::HeapCircularBuffer;
 use pg_config::{PmuConfig, SourceConfig};
@@ -145,7 +143,6 @@ pub(crate) fn copy_members(
 pub(crate) fn copy_blocks(
     frame: &Arc<DataFrame>,
     places: &[usize],
-    on: u8,
     streams: &[Stream],
     blocks: &mut HeapCircularBuffer<SharedBlock>,
 ) -> Result<(), Refusal>
@@ -153,17 +150,14 @@ pub(crate) fn copy_blocks(
     requires streams { length streams.now ≤ 8 }
     requires empty { blocks.old.items ≡ [] }
     requires room { blocks.old.capacity ≡ 128 }
-    requires on { AreOn on streams.now }
     ensures prepared { OnOk result (blocks.new.items ≡ all_wanted streams.now (arc_value frame.now).quality (samples_at (arc_value frame.now) places.now)) }
     ensures needless { all_wanted streams.now (arc_value frame.now).quality (samples_at (arc_value frame.now) places.now) ≡ [] → IsOk result }
     ensures capacity { blocks.new.capacity ≡ blocks.old.capacity }
     ensures memory { IfErr result (λ refusal. refusal ≡ Refusal.NoMemory) }
 {
     let _count = frame.count();
-    let mut left = u64::from(on);
-    'on: while left != 0 {
-        let at = take_lowest(&mut left);
-        streams[at].prepare_copies(frame, places, blocks)?;
+    for s in streams {
+        s.prepare_copies(frame, places, blocks)?;
     }
     Ok(())
 }
@@ -173,7 +167,6 @@ pub(crate) fn copy_blocks(
 pub(crate) fn copy_for_each(
     frame: &Arc<DataFrame>,
     place: usize,
-    on: u8,
     streams: &[Stream],
     blocks: &mut HeapCircularBuffer<SharedBlock>,
 ) -> Result<(), Refusal>
@@ -181,14 +174,11 @@ pub(crate) fn copy_for_each(
     requires streams { length streams.now ≤ 8 }
     requires empty { blocks.old.items ≡ [] }
     requires room { blocks.old.capacity ≡ 128 }
-    requires on { AreOn on streams.now }
     ensures prepared { OnOk result (blocks.new.items ≡ replicate (count_keeping streams.now) (piece_of (arc_value frame.now) place)) }
     ensures capacity { blocks.new.capacity ≡ blocks.old.capacity }
 {
-    let mut left = u64::from(on);
-    'on: while left != 0 {
-        let at = take_lowest(&mut left);
-        streams[at].prepare_one(frame, place, blocks)?;
+    for s in streams {
+        s.prepare_one(frame, place, blocks)?;
     }
     Ok(())
 }

@@ -12,7 +12,6 @@ mod laws;
 mod layouts;
 mod leaving;
 mod listing;
-mod on;
 mod output;
 mod pending;
 mod reply;

@@ -331,7 +331,7 @@ impl Stream {
         }
     }
 
-    /// Those blocks of a data frame that are members' arrive at a stream that is on, and then what is to leave leaves. Nothing where
+    /// Those blocks of a data frame that are members' arrive, and then what is to leave leaves. Nothing where the stream is off, or
     /// no block is a member's. The copies of these blocks are taken from the front of `blocks`.
     pub fn measure(
         &mut self,
@@ -343,7 +343,6 @@ impl Stream {
         stamps: &mut StampCache,
         output: &mut Output,
     )
-        requires on { self.old.slots.is_on ≡ true }
         requires places { All (λ i. i < length frame.now.config.parts) places.now }
         requires few { length places.now ≤ 16 }
         requires listed { AreListed listed.now (samples_at frame.now places.now) }
@@ -360,6 +359,9 @@ impl Stream {
         ensures capacity { blocks.new.capacity ≡ blocks.old.capacity }
         ensures bounded { output.new.made ≤ output.old.made + 80 }
     {
+        if !self.align.is_on() {
+            return;
+        }
         match stamps.slot_of(self.definition.rate, frame.base(), frame.soc, frame.frac) {
             Ok(slot) => {
                 let some = arrive_all_in(
@@ -395,14 +397,16 @@ impl Stream {
         }
     }
 
-    /// Whether those blocks of a data frame leave no slot open behind them, where it is on: no slot is open, and they are no member's,
-    /// or those of all members for a slot that is not late. It asks for no copies then.
+    /// Whether those blocks of a data frame leave no slot open behind them: no slot is open, and they are no member's, or those of all
+    /// members for a slot that is not late. So it is with a stream that is off. It asks for no copies then.
     #[inline(always)]
     pub fn is_filled(&self, frame: &DataFrame, places: &[usize], stamps: &mut StampCache) -> bool
-        requires on { self.now.slots.is_on ≡ true }
         requires places { All (λ i. i < length frame.now.config.parts) places.now }
         ensures { result ≡ fills self.now frame.now.soc frame.now.quality frame.now.frac (samples_at frame.now places.now) }
     {
+        if !self.align.is_on() {
+            return true;
+        }
         if self.align.open_slots() > 0 {
             return false;
         }
@@ -441,7 +445,6 @@ impl Stream {
         stamps: &mut StampCache,
         output: &mut Output,
     )
-        requires on { self.old.slots.is_on ≡ true }
         requires places { All (λ i. i < length frame.now.config.parts) places.now }
         requires listed { AreListed listed.now (samples_at frame.now places.now) }
         requires effective { self.old.slots.effective ≡ effective_in listed.now self.old.definition.members }
@@ -454,6 +457,9 @@ impl Stream {
             output.new }
         ensures bounded { output.new.made ≤ output.old.made + 80 }
     {
+        if !self.align.is_on() {
+            return;
+        }
         let _count = frame.count();
         let mut order = [None; MOST_MEMBERS];
         let order = &mut order[..self.definition.members.as_slice().len()];
@@ -466,14 +472,14 @@ impl Stream {
         self.leave_filled(alloc, listed, slot, frame, order, stamps, output);
     }
 
-    /// Whether a frame's only block may stay with it, where it is on: it has several members or an open slot. Else that block leaves at
-    /// once, if it is the member's.
+    /// Whether a frame's only block may stay with it: it is on, and has several members or an open slot. Else that block leaves at once,
+    /// if it is the member's.
     #[inline(always)]
     fn may_keep(&self) -> bool
-        requires on { self.now.slots.is_on ≡ true }
         ensures { result ≡ may_keep self.now }
     {
-        self.definition.members.as_slice().len() > 1 || self.align.open_slots() > 0
+        self.align.is_on()
+            && (self.definition.members.as_slice().len() > 1 || self.align.open_slots() > 0)
     }
 
     /// Prepares a copy of a frame's only block, where that may stay with it. The one refusal is `NoMemory`.
@@ -484,7 +490,6 @@ impl Stream {
         place: usize,
         blocks: &mut HeapCircularBuffer<SharedBlock>,
     ) -> Result<(), Refusal>
-        requires on { self.now.slots.is_on ≡ true }
         requires place { place < length (arc_value frame.now).config.parts }
         requires room { length blocks.old.items < blocks.old.capacity }
         ensures prepared { OnOk result (blocks.new.items ≡ blocks.old.items ++ replicate (if may_keep self.now then 1 else 0) (piece_of (arc_value frame.now) place)) }
@@ -510,7 +515,6 @@ impl Stream {
         stamps: &mut StampCache,
         output: &mut Output,
     )
-        requires on { self.old.slots.is_on ≡ true }
         requires place { place < length frame.now.config.parts }
         requires listed { AreListed listed.now (samples_at frame.now (place ∷ [])) }
         requires effective { self.old.slots.effective ≡ effective_in listed.now self.old.definition.members }
@@ -527,6 +531,9 @@ impl Stream {
         ensures capacity { blocks.new.capacity ≡ blocks.old.capacity }
         ensures bounded { output.new.made ≤ output.old.made + 80 }
     {
+        if !self.align.is_on() {
+            return;
+        }
         if self.may_keep() {
             self.keep_one(alloc, listed, frame, place, blocks, stamps, output);
         } else {
@@ -534,7 +541,7 @@ impl Stream {
         }
     }
 
-    /// The same, where the block may stay.
+    /// The same, where it is on and the block may stay.
     #[inline(always)]
     fn keep_one(
         &mut self,
@@ -588,7 +595,7 @@ impl Stream {
         }
     }
 
-    /// The same, where it has one member and no open slot: the block leaves at once, or is counted.
+    /// The same, where it is on, has one member and no open slot: the block leaves at once, or is counted.
     #[inline(always)]
     fn pass_one(
         &mut self,
@@ -672,7 +679,6 @@ impl Stream {
         places: &[usize],
         blocks: &mut HeapCircularBuffer<SharedBlock>,
     ) -> Result<(), Refusal>
-        requires on { self.now.slots.is_on ≡ true }
         requires places { All (λ i. i < length (arc_value frame.now).config.parts) places.now }
         requires room { length blocks.old.items + length places.now ≤ blocks.old.capacity }
         ensures prepared { OnOk result (blocks.new.items ≡ blocks.old.items ++ wanted_of self.now (arc_value frame.now).quality (samples_at (arc_value frame.now) places.now)) }
@@ -681,6 +687,9 @@ impl Stream {
         ensures capacity { blocks.new.capacity ≡ blocks.old.capacity }
         ensures memory { IfErr result (λ refusal. refusal ≡ Refusal.NoMemory) }
     {
+        if !self.align.is_on() {
+            return Ok(());
+        }
         copy_members(&self.definition, frame, places, self.guess, blocks)?;
         Ok(())
     }

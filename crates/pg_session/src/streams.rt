@@ -12,12 +12,10 @@ ghost use Rattle.pg_session.specs.Taking.{Taken};
 ghost use Rattle.pg_session.specs.Kept.{by_slots, by_gaps};
 ghost use Rattle.pg_session.specs.Fields.{AreListed, AreFitted, all_kept, NeedNoCopies, stream_after};
 ghost use Rattle.pg_session.specs.Filling.{all_fill};
-ghost use Rattle.pg_session.specs.On.{AreOn};
 ghost use Rattle.pg_session.specs.Wanted.{all_wanted};
 ghost use Rattle.pg_session.specs.Standing.{stream_standing};
 
 use crate::change::Change;
-use crate::on::take_lowest;
 use crate::output::Output;
 use crate::standing::StreamStanding;
 use crate::stream::Stream;
@@ -68,15 +66,13 @@ pub(crate) fn tick_all(
     }
 }
 
-/// Blocks of a data frame arrive at the streams that have them as members', and what is to leave leaves, stream after stream. Only those
-/// that are on are visited, by their bits.
+/// Blocks of a data frame arrive at the streams that have them as members', and what is to leave leaves, stream after stream.
 #[inline(never)]
 pub(crate) fn measure_all(
     alloc: Global,
     listed: &ConfigList,
     frame: &DataFrame,
     places: &[usize],
-    on: u8,
     streams: &mut [Stream],
     blocks: &mut HeapCircularBuffer<SharedBlock>,
     stamps: &mut StampCache,
@@ -90,17 +86,14 @@ pub(crate) fn measure_all(
     requires streams { length streams.old ≤ 8 }
     requires few { output.old.kept ≤ output.old.made }
     requires bounded { output.old.made ≤ 1000 }
-    requires on { AreOn on streams.old }
     ensures streams { streams.new ≡ map (λ s. stream_after (measure_turn by_slots listed.now frame.now.soc frame.now.quality frame.now.frac (samples_at frame.now places.now) s)) streams.old }
     ensures taken { Taken (map (measure_turn by_slots listed.now frame.now.soc frame.now.quality frame.now.frac (samples_at frame.now places.now)) streams.old) output.old output.new }
     ensures blocks { blocks.new.items ≡ [] }
     ensures capacity { blocks.new.capacity ≡ blocks.old.capacity }
     ensures bounded { output.new.made ≤ output.old.made + 640 }
 {
-    let mut left = u64::from(on);
-    'on: while left != 0 {
-        let at = take_lowest(&mut left);
-        streams[at].measure(alloc, listed, frame, places, blocks, stamps, output);
+    for s in streams.iter_mut() {
+        s.measure(alloc, listed, frame, places, blocks, stamps, output);
     }
 }
 
@@ -111,7 +104,6 @@ pub(crate) fn measure_all_filled(
     listed: &ConfigList,
     frame: &DataFrame,
     places: &[usize],
-    on: u8,
     streams: &mut [Stream],
     stamps: &mut StampCache,
     output: &mut Output,
@@ -123,15 +115,12 @@ pub(crate) fn measure_all_filled(
     requires streams { length streams.old ≤ 8 }
     requires few { output.old.kept ≤ output.old.made }
     requires bounded { output.old.made ≤ 1000 }
-    requires on { AreOn on streams.old }
     ensures streams { streams.new ≡ map (λ s. stream_after (measure_turn by_slots listed.now frame.now.soc frame.now.quality frame.now.frac (samples_at frame.now places.now) s)) streams.old }
     ensures taken { Taken (map (measure_turn by_slots listed.now frame.now.soc frame.now.quality frame.now.frac (samples_at frame.now places.now)) streams.old) output.old output.new }
     ensures bounded { output.new.made ≤ output.old.made + 640 }
 {
-    let mut left = u64::from(on);
-    'on: while left != 0 {
-        let at = take_lowest(&mut left);
-        streams[at].measure_filled(alloc, listed, frame, places, stamps, output);
+    for s in streams.iter_mut() {
+        s.measure_filled(alloc, listed, frame, places, stamps, output);
     }
 }
 
@@ -142,7 +131,6 @@ pub(crate) fn measure_all_one(
     listed: &ConfigList,
     frame: &DataFrame,
     place: usize,
-    on: u8,
     streams: &mut [Stream],
     blocks: &mut HeapCircularBuffer<SharedBlock>,
     stamps: &mut StampCache,
@@ -156,17 +144,14 @@ pub(crate) fn measure_all_one(
     requires streams { length streams.old ≤ 8 }
     requires few { output.old.kept ≤ output.old.made }
     requires bounded { output.old.made ≤ 1000 }
-    requires on { AreOn on streams.old }
     ensures streams { streams.new ≡ map (λ s. stream_after (measure_turn by_slots listed.now frame.now.soc frame.now.quality frame.now.frac (samples_at frame.now (place ∷ [])) s)) streams.old }
     ensures taken { Taken (map (measure_turn by_slots listed.now frame.now.soc frame.now.quality frame.now.frac (samples_at frame.now (place ∷ []))) streams.old) output.old output.new }
     ensures blocks { blocks.new.items ≡ [] }
     ensures capacity { blocks.new.capacity ≡ blocks.old.capacity }
     ensures bounded { output.new.made ≤ output.old.made + 640 }
 {
-    let mut left = u64::from(on);
-    'on: while left != 0 {
-        let at = take_lowest(&mut left);
-        streams[at].measure_one(alloc, listed, frame, place, blocks, stamps, output);
+    for s in streams.iter_mut() {
+        s.measure_one(alloc, listed, frame, place, blocks, stamps, output);
     }
     give_up(blocks);
 }
@@ -187,18 +172,14 @@ fn give_up(blocks: &mut HeapCircularBuffer<SharedBlock>)
 pub(crate) fn are_filled(
     frame: &DataFrame,
     places: &[usize],
-    on: u8,
     streams: &[Stream],
     stamps: &mut StampCache,
 ) -> bool
     requires places { All (λ i. i < length frame.now.config.parts) places.now }
-    requires on { AreOn on streams.now }
     ensures { result ≡ all_fill streams.now frame.now.soc frame.now.quality frame.now.frac (samples_at frame.now places.now) }
 {
-    let mut left = u64::from(on);
-    'on: while left != 0 {
-        let at = take_lowest(&mut left);
-        if !streams[at].is_filled(frame, places, stamps) {
+    for s in streams {
+        if !s.is_filled(frame, places, stamps) {
             return false;
         }
     }

@@ -21,7 +21,6 @@ use crate::change::Change;
 use crate::copying::{copy_blocks, copy_for_each, copy_parts, prepare_config};
 use crate::event::{PrivateEvent, PrivateReply};
 use crate::listing::{list_all, list_one};
-use crate::on::mask_of;
 use crate::output::Output;
 use crate::reply::{is_question, send_reply, word_at};
 use crate::standing::Standing;
@@ -52,8 +51,7 @@ const MOST_BLOCKS: usize = 128;
 
 const MOST_CONFIGS: usize = 16;
 
-/// One subscriber: its grants, its streams, its queue and its counters. Nothing that it holds speaks of another. `on` has the
-/// bits of those streams that are on, each by its place, so that a data frame visits no other.
+/// One subscriber: its grants, its streams, its queue and its counters. Nothing that it holds speaks of another.
 #[derive(Drop)]
 pub struct Subscriber {
     alloc: Global,
@@ -61,7 +59,6 @@ pub struct Subscriber {
     grants: Grants,
     listed: ConfigList,
     streams: Vec<Stream>,
-    on: u8,
     output: Output,
     last_tick: Option<u32>,
     blocks: HeapCircularBuffer<SharedBlock>,
@@ -104,7 +101,7 @@ impl Model for Subscriber {
       };
       blocks = s.blocks.items;
       configs = map arc_value s.configs.items;
-    }) (vec_capacity s.streams) s.blocks.capacity s.configs.capacity s.on };
+    }) (vec_capacity s.streams) s.blocks.capacity s.configs.capacity };
 }
 
 impl Subscriber {
@@ -127,7 +124,6 @@ impl Subscriber {
             grants: Grants::new(alloc)?,
             listed: ConfigList::new(alloc)?,
             streams: Vec::with_capacity(alloc, MOST_STREAMS)?,
-            on: 0,
             output: Output::new(alloc, ring, bytes)?,
             last_tick: last,
             blocks: HeapCircularBuffer::with_capacity(alloc, MOST_BLOCKS)?,
@@ -141,14 +137,6 @@ impl Subscriber {
         ensures value { result ≡ has_key self.now.own.grants key }
     {
         self.grants.holds(key)
-    }
-
-    /// The same of a PMU that is guessed to stand at the place `next` of those that are granted, by rising key: where it does
-    /// there is no search. `next` is then the place behind it.
-    pub fn holds_next(&self, key: PmuKey, next: &mut usize) -> bool
-        ensures value { result ≡ has_key self.now.own.grants key }
-    {
-        self.grants.holds_next(key, next)
     }
 
     /// Whether the subscriber is connected.
@@ -291,7 +279,7 @@ impl Subscriber {
                 copy_parts(config, places, &mut self.configs)
             }
             PrivateEvent::Measure(frame, places) => {
-                copy_blocks(frame, places, self.on, &self.streams, &mut self.blocks)
+                copy_blocks(frame, places, &self.streams, &mut self.blocks)
             }
             _ => Ok(()),
         }
@@ -436,7 +424,7 @@ impl Subscriber {
         ensures configs { self.new.configs ≡ [] }
         ensures own { self.new.own ≡ self.old.own }
     {
-        copy_for_each(frame, place, self.on, &self.streams, &mut self.blocks).is_ok()
+        copy_for_each(frame, place, &self.streams, &mut self.blocks).is_ok()
     }
 
     /// Prepares just the copies that a data frame asks for, or none, where its blocks leave no slot of a stream open behind them.
@@ -455,7 +443,7 @@ impl Subscriber {
         ensures needless { NeedsNone self.old (measure (arc_value frame.now).soc (arc_value frame.now).quality (arc_value frame.now).frac (samples_at (arc_value frame.now) places.now)) → IsOk result }
         ensures own { self.new.own ≡ self.old.own }
     {
-        if are_filled(frame, places, self.on, &self.streams, stamps) {
+        if are_filled(frame, places, &self.streams, stamps) {
             self.forget();
             return Ok(());
         }
@@ -537,7 +525,6 @@ impl Subscriber {
             &self.listed,
             frame,
             place,
-            self.on,
             &mut self.streams,
             &mut self.blocks,
             stamps,
@@ -571,7 +558,6 @@ impl Subscriber {
             &self.listed,
             frame,
             places,
-            self.on,
             &mut self.streams,
             stamps,
             &mut self.output,
@@ -625,7 +611,6 @@ impl Subscriber {
             &self.listed,
             frame,
             places,
-            self.on,
             &mut self.streams,
             &mut self.blocks,
             stamps,
@@ -663,7 +648,6 @@ impl Subscriber {
             return PrivateReply::Refused(Refusal::NotConnected);
         }
         stop_all(&mut self.streams);
-        self.on = 0;
         self.output.clear();
         self.connected = false;
         PrivateReply::Done { made: 0, kept: 0 }
@@ -789,9 +773,7 @@ impl Subscriber {
         if stream_of(&self.streams, stream.get()).is_none() {
             return PrivateReply::Refused(Refusal::NoSuchStream);
         }
-        let left = &mut self.streams;
-        remove_streams(left, stream.get());
-        self.on = mask_of(left);
+        remove_streams(&mut self.streams, stream.get());
         PrivateReply::Done { made: 0, kept: 0 }
     }
 
@@ -831,7 +813,6 @@ impl Subscriber {
         let word = word_at(asked.word)?;
         if !is_question(word) {
             switch_streams(&mut self.streams, asked.stream, asked.word);
-            self.on = mask_of(&self.streams);
             return Ok(());
         }
         let soc = self.last_tick.unwrap_or(0);

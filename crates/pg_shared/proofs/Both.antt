@@ -94,11 +94,7 @@ full_quiet u S (gateway.grant w key) free = refl
 full_quiet u S (gateway.announce config) free = refl
 full_quiet u S (gateway.measure m) free = refl
 full_quiet u S (gateway.tick soc) free = refl
-full_quiet u S (gateway.stats w) free = refl
-full_quiet u S (gateway.pmu_stats key) free = refl
-full_quiet u S (gateway.who_waits us) free = refl
-full_quiet u S (gateway.audit w index) free = refl
-full_quiet u S (gateway.standing w place) free = refl
+full_quiet u S (gateway.inquires q) free = refl
 
 all_quiet : (u : ℕ) (S : SharedMachine) (calls : List Call) → NoneDrains u (history_of calls)
     → bytes_of (handed_to u (events_in calls) (full_answers S (events_in calls))) ≡ []

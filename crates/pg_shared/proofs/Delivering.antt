@@ -19,7 +19,7 @@ use Rattle.pg_gateway.specs.Histories.{Legal, state_after, said}
 use Rattle.pg_gateway.specs.Laws.{after, events_of, answers_of}
 use Rattle.pg_gateway.specs.Posting as posting
 use Rattle.pg_gateway.specs.Posting.{Answers, IsPlain}
-use Rattle.pg_gateway.specs.Views.{Seen, Handed, handed_one, handed_out, handed_to, handed_at, handed_in, private_step, private_run, part, view, shared_step, shared_run, AllLossless}
+use Rattle.pg_gateway.specs.Views.{ViewEvent, Handed, handed_one, handed_out, handed_to, handed_at, handed_in, private_step, private_run, part, view, shared_step, shared_run, AllLossless}
 use Rattle.pg_gateway.proofs.ViewLaws.{own-run}
 use Rattle.pg_gateway.proofs.AnswerLaws.{handed-run}
 use Rattle.pg_gateway.proofs.RunLaws.{full_history, Alone-run}
@@ -255,11 +255,11 @@ run_more : (S : SharedMachine) (es fs : List GatewayEvent) → shared_run S (es 
 run_more S [] fs = refl
 run_more S (e ∷ es) fs = run_more (shared_step S e) es fs
 
-private_more : (o : Option Model) (xs ys : List Seen) → private_run o (xs ++ ys) ≡ private_run (private_run o xs) ys
+private_more : (o : Option Model) (xs ys : List ViewEvent) → private_run o (xs ++ ys) ≡ private_run (private_run o xs) ys
 private_more o [] ys = refl
 private_more o (x ∷ xs) ys = private_more (private_step o x) xs ys
 
-handed_more : (o : Option Model) (xs ys : List Seen) → handed_in o (xs ++ ys) ≡ handed_in o xs ++ handed_in (private_run o xs) ys
+handed_more : (o : Option Model) (xs ys : List ViewEvent) → handed_in o (xs ++ ys) ≡ handed_in o xs ++ handed_in (private_run o xs) ys
 handed_more o [] ys = refl
 handed_more o (x ∷ xs) ys =
     ap (λ l. handed_at o x ++ l) (handed_more (private_step o x) xs ys)

@@ -8,7 +8,7 @@ use Rattle.pg_wire.specs.Number.{number_of}
 use Rattle.pg_command.specs.declared.command.Command.{Command}
 use Rattle.pg_session.specs.Events as session
 use Rattle.pg_session.specs.Events.{SubscriberEvent}
-use Rattle.pg_session.specs.Private.{Told, done, refused, handed}
+use Rattle.pg_session.specs.Private.{ReplyValue, done, refused, handed}
 use Rattle.pg_session.specs.Commands.{Hearing, Item, commands, ignores, items_of, break_in, ShowsHearing}
 use Rattle.pg_gateway.specs.GatewayEvents.{asks, Answer, tells, sub_counts, pmu_counts, entry, stands, those_waiting}
 use Rattle.pg_gateway.specs.Posting.{Posted, Notes}
@@ -48,7 +48,7 @@ abbrev pub passed_by : Call → List Command
 passed_by call = passed_in call.0
 
 -- the bytes that an answer hands out
-abbrev pub bytes_told : Told → List ℕ
+abbrev pub bytes_told : ReplyValue → List ℕ
 bytes_told (handed bytes begun gap) = bytes
 bytes_told (done made kept) = []
 bytes_told (refused r) = []

@@ -5,10 +5,11 @@
 mod counted_announcements;
 mod pace;
 mod source;
-mod sources;
+mod source_entry;
+mod source_worker;
 mod ticker;
 
 pub use counted_announcements::CountedAnnouncements;
 pub use source::{SourceConnection, Turn};
-pub use sources::SourceWorker;
+pub use source_worker::SourceWorker;
 pub use ticker::Ticker;

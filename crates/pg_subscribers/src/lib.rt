@@ -7,10 +7,12 @@ mod commands;
 mod connection;
 mod endpoint;
 mod latency;
-mod ports;
+mod port;
+mod port_worker;
 mod standings;
 
 pub use connection::{CloseReason, ServeResult, SubscriberConnection};
 pub use endpoint::{Admission, SubscriberEndpoint};
 pub use latency::LatencyMeter;
-pub use ports::{Port, PortWorker};
+pub use port::Port;
+pub use port_worker::PortWorker;

@@ -1,6 +1,6 @@
 use Rattle.std.proofs.Common.{rules, ap, ◌∙◌, ◌≡◌, ◌+◌, ◌++◌, ◌∷◌, [], map, drop, true, false}
 use Rattle.pg_reload.specs.declared.orders.Order.TheVariants.{Undial}
-use Rattle.pg_reload.specs.Orders.{called_of, ended, told, undialled}
+use Rattle.pg_reload.specs.Orders.{called_of, ended, order_value, undialled}
 use Rattle.pg_reload.proofs.Adding.{next_added, next_passed, pushed_so, with_rest}
 use Rattle.pg_reload.proofs.Calling.{ended_not, ended_so, is_there}
 use Rattle.pg_reload.proofs.orders.end_calls.Goals as goal
@@ -13,13 +13,13 @@ calls-preserved c =
           let items : c.if-not-is_called.orders.items ≡ c.calls.orders.items ++ Undial c.call-item.result.source ∷ [] = search rules in
           let absent : is_there c.args.others.now c.call-item.result ≡ false = search rules in
           next_added (λ d. ended (map called_of c.args.others.now) (called_of d)) c.args.calls.now c.calls.call-index c.call-item.result
-          (undialled c.call-item.result.source) (map told c.calls.orders.items) (map told c.if-not-is_called.orders.items) _
+          (undialled c.call-item.result.source) (map order_value c.calls.orders.items) (map order_value c.if-not-is_called.orders.items) _
           c.calls-test.true c.call-item.is (ended_so c.args.others.now c.call-item.result absent)
-          (ap (map told) items ∙ pushed_so told c.calls.orders.items (Undial c.call-item.result.source)) c.calls.invariant
+          (ap (map order_value) items ∙ pushed_so order_value c.calls.orders.items (Undial c.call-item.result.source)) c.calls.invariant
       | else-not-is_called w ↦
           let items : c.if-not-is_called.orders.items ≡ c.calls.orders.items = search rules in
           let there : is_there c.args.others.now c.call-item.result ≡ true = search rules in
-          ap (λ ys. with_rest (λ d. ended (map called_of c.args.others.now) (called_of d)) (map told ys) (drop (c.calls.call-index + 1) c.args.calls.now)) items
+          ap (λ ys. with_rest (λ d. ended (map called_of c.args.others.now) (called_of d)) (map order_value ys) (drop (c.calls.call-index + 1) c.args.calls.now)) items
           ∙ next_passed (λ d. ended (map called_of c.args.others.now) (called_of d)) c.args.calls.now c.calls.call-index c.call-item.result
-          (map told c.calls.orders.items) _ c.calls-test.true c.call-item.is (ended_not c.args.others.now c.call-item.result there) c.calls.invariant
+          (map order_value c.calls.orders.items) _ c.calls-test.true c.call-item.is (ended_not c.args.others.now c.call-item.result there) c.calls.invariant
     ]

@@ -1,6 +1,6 @@
 use Rattle.std.proofs.Common.{rules, ap, ◌∙◌, ◌≡◌, ◌+◌, ◌++◌, ◌∷◌, [], map, drop, true, false}
 use Rattle.pg_reload.specs.declared.orders.Order.TheVariants.{Unlisten}
-use Rattle.pg_reload.specs.Orders.{closed, told, unlistened}
+use Rattle.pg_reload.specs.Orders.{closed, order_value, unlistened}
 use Rattle.pg_reload.specs.Ports.{opened_of}
 use Rattle.pg_reload.proofs.Adding.{next_added, next_passed, pushed_so, with_rest}
 use Rattle.pg_reload.proofs.Calling.{closed_not, closed_so, is_open_there}
@@ -14,13 +14,13 @@ ports-preserved c =
           let items : c.if-not-is_open.orders.items ≡ c.ports.orders.items ++ Unlisten c.port-item.result.rules.sub ∷ [] = search rules in
           let absent : is_open_there c.args.others.now c.port-item.result ≡ false = search rules in
           next_added (λ d. closed (map opened_of c.args.others.now) (opened_of d)) c.args.ports.now c.ports.port-index c.port-item.result
-          (unlistened c.port-item.result.rules.sub) (map told c.ports.orders.items) (map told c.if-not-is_open.orders.items) _
+          (unlistened c.port-item.result.rules.sub) (map order_value c.ports.orders.items) (map order_value c.if-not-is_open.orders.items) _
           c.ports-test.true c.port-item.is (closed_so c.args.others.now c.port-item.result absent)
-          (ap (map told) items ∙ pushed_so told c.ports.orders.items (Unlisten c.port-item.result.rules.sub)) c.ports.invariant
+          (ap (map order_value) items ∙ pushed_so order_value c.ports.orders.items (Unlisten c.port-item.result.rules.sub)) c.ports.invariant
       | else-not-is_open w ↦
           let items : c.if-not-is_open.orders.items ≡ c.ports.orders.items = search rules in
           let there : is_open_there c.args.others.now c.port-item.result ≡ true = search rules in
-          ap (λ ys. with_rest (λ d. closed (map opened_of c.args.others.now) (opened_of d)) (map told ys) (drop (c.ports.port-index + 1) c.args.ports.now)) items
+          ap (λ ys. with_rest (λ d. closed (map opened_of c.args.others.now) (opened_of d)) (map order_value ys) (drop (c.ports.port-index + 1) c.args.ports.now)) items
           ∙ next_passed (λ d. closed (map opened_of c.args.others.now) (opened_of d)) c.args.ports.now c.ports.port-index c.port-item.result
-          (map told c.ports.orders.items) _ c.ports-test.true c.port-item.is (closed_not c.args.others.now c.port-item.result there) c.ports.invariant
+          (map order_value c.ports.orders.items) _ c.ports-test.true c.port-item.is (closed_not c.args.others.now c.port-item.result there) c.ports.invariant
     ]

@@ -1,6 +1,6 @@
 use Rattle.std.proofs.Common.{rules, ap, ◌∙◌, ◌≡◌, ◌+◌, ◌++◌, ◌∷◌, [], map, drop, true, false}
 use Rattle.pg_reload.specs.declared.orders.Order.TheVariants.{Listen}
-use Rattle.pg_reload.specs.Orders.{listened, listened_of, told}
+use Rattle.pg_reload.specs.Orders.{listened, listened_of, order_value}
 use Rattle.pg_reload.specs.Ports.{opened_of}
 use Rattle.pg_reload.proofs.Adding.{next_added, next_passed, pushed_so, with_rest}
 use Rattle.pg_reload.proofs.Calling.{is_open_there, listened_not, listened_so}
@@ -14,13 +14,13 @@ ports-preserved c =
           let items : c.if-not-is_open.orders.items ≡ c.ports.orders.items ++ Listen w.in-Ok.copy ∷ [] = search rules in
           let absent : is_open_there c.args.others.now c.port-item.result ≡ false = search rules in
           next_added (λ d. listened_of (map opened_of c.args.others.now) (opened_of d)) c.args.ports.now c.ports.port-index c.port-item.result
-          (listened (opened_of w.in-Ok.copy)) (map told c.ports.orders.items) (map told c.if-not-is_open.orders.items) _
+          (listened (opened_of w.in-Ok.copy)) (map order_value c.ports.orders.items) (map order_value c.if-not-is_open.orders.items) _
           c.ports-test.true c.port-item.is (listened_so c.args.others.now c.port-item.result (opened_of w.in-Ok.copy) w.in-Ok.ensures.ok absent)
-          (ap (map told) items ∙ pushed_so told c.ports.orders.items (Listen w.in-Ok.copy)) c.ports.invariant
+          (ap (map order_value) items ∙ pushed_so order_value c.ports.orders.items (Listen w.in-Ok.copy)) c.ports.invariant
       | else-not-is_open w ↦
           let items : c.if-not-is_open.orders.items ≡ c.ports.orders.items = search rules in
           let there : is_open_there c.args.others.now c.port-item.result ≡ true = search rules in
-          ap (λ ys. with_rest (λ d. listened_of (map opened_of c.args.others.now) (opened_of d)) (map told ys) (drop (c.ports.port-index + 1) c.args.ports.now)) items
+          ap (λ ys. with_rest (λ d. listened_of (map opened_of c.args.others.now) (opened_of d)) (map order_value ys) (drop (c.ports.port-index + 1) c.args.ports.now)) items
           ∙ next_passed (λ d. listened_of (map opened_of c.args.others.now) (opened_of d)) c.args.ports.now c.ports.port-index c.port-item.result
-          (map told c.ports.orders.items) _ c.ports-test.true c.port-item.is (listened_not c.args.others.now c.port-item.result there) c.ports.invariant
+          (map order_value c.ports.orders.items) _ c.ports-test.true c.port-item.is (listened_not c.args.others.now c.port-item.result there) c.ports.invariant
     ]

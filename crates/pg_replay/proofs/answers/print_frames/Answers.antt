@@ -1,7 +1,7 @@
 use Rattle.std.proofs.Common.{sym, subst}
 use Rattle.std.specs.Io.KnownBytes.{Appends}
 use Rattle.pg_replay.specs.Printing.{frame_line}
-use Rattle.pg_answers.proofs.PrintLaws.{appends_more}
+use Rattle.pg_lines.proofs.PrintLaws.{appends_more}
 use Rattle.pg_replay.proofs.PrintLaws.{flat_taken}
 use Rattle.pg_replay.proofs.answers.print_frames.Goals as goal
 

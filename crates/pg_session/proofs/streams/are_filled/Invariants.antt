@@ -1,10 +1,9 @@
-use Rattle.std.proofs.Common.{ℕ}
+use Rattle.std.proofs.Common.{◌≡◌, drop}
 use Rattle.pg_session.specs.Events.{samples_at}
-use Rattle.pg_session.proofs.Walking.{AreLeft, Filled}
+use Rattle.pg_session.specs.Filling.{all_fill}
 use Rattle.pg_session.proofs.streams.are_filled.Given as goal
 
-abbrev pub invariant-on : goal.invariant-on
-invariant-on l = (from : ℕ) × AreLeft l.left from l.streams × Filled l.streams l.frame.soc l.frame.quality l.frame.frac (samples_at l.frame l.places) from
-
-abbrev pub decreases-on : goal.decreases-on
-decreases-on l = l.left
+abbrev pub invariant-loop-s : goal.invariant-loop-s
+invariant-loop-s l =
+    all_fill l.streams l.frame.soc l.frame.quality l.frame.frac (samples_at l.frame l.places)
+    ≡ all_fill (drop l.s-index l.streams) l.frame.soc l.frame.quality l.frame.frac (samples_at l.frame l.places)

@@ -1,17 +1,17 @@
-use Rattle.std.proofs.Common.{◌≡◌, ◌≤◌, ℕ}
+use Rattle.std.proofs.Common.{◌≡◌, ◌++◌, ◌+◌, ◌*◌, ◌≤◌, map, take, drop}
 use Rattle.pg_session.specs.Events.{samples_at}
 use Rattle.pg_session.specs.Streams.{measure_turn}
 use Rattle.pg_session.specs.Kept.{by_slots}
-use Rattle.pg_session.proofs.Walking.{AreLeft, Served, Lies}
+use Rattle.pg_session.specs.Taking.{Taken}
+use Rattle.pg_session.specs.Fields.{stream_after}
+use Rattle.pg_session.specs.Wanted.{all_wanted}
 use Rattle.pg_session.proofs.streams.measure_all.Given as goal
 
-abbrev pub invariant-on : goal.invariant-on
-invariant-on l =
-    (from : ℕ) × AreLeft l.left from l.fn.streams
-    × Served (measure_turn by_slots l.listed l.frame.soc l.frame.quality l.frame.frac (samples_at l.frame l.places)) l.fn.streams l.streams l.fn.output l.output from
-    × Lies l.fn.streams l.frame.quality (samples_at l.frame l.places) l.blocks.items from
+abbrev pub invariant-loop-s : goal.invariant-loop-s
+invariant-loop-s l =
+    (l.streams ≡ map (λ s. stream_after (measure_turn by_slots l.listed l.frame.soc l.frame.quality l.frame.frac (samples_at l.frame l.places) s)) (take l.s-index l.fn.streams) ++ drop l.s-index l.fn.streams)
+    × Taken (map (measure_turn by_slots l.listed l.frame.soc l.frame.quality l.frame.frac (samples_at l.frame l.places)) (take l.s-index l.fn.streams)) l.fn.output l.output
     × (l.output.kept ≤ l.output.made)
+    × (l.output.made ≤ l.fn.output.made + 80 * l.s-index)
+    × (l.blocks.items ≡ all_wanted (drop l.s-index l.fn.streams) l.frame.quality (samples_at l.frame l.places))
     × (l.blocks.capacity ≡ l.fn.blocks.capacity)
-
-abbrev pub decreases-on : goal.decreases-on
-decreases-on l = l.left

@@ -9,7 +9,7 @@ use Rattle.pg_gateway.proofs.gateway.Gateway.measure.Goals as goal
 
 pub invariant_of-self : goal.invariant_of-self
 invariant_of-self c =
-    let old = c.self.inside.kernel in
+    let old = c.self.inside.state in
     let new = c.measure-counts.new.self in
     let e = measure (arc_value c.args.frame.now) in
     let a = told_to_all c.measure-counts.result in (
@@ -19,12 +19,12 @@ invariant_of-self c =
 
 pub returns-clause-frugal : goal.returns-clause-frugal
 returns-clause-frugal c =
-    rw (← c.self.view_is) (frugally c.self.inside.kernel c.measure-counts.new.self (measure (arc_value c.args.frame.now)) (told_to_all c.measure-counts.result) c.measure-counts.ensures.goes (λ may. c.measure-counts.ensures.frugal))
+    rw (← c.self.view_is) (frugally c.self.inside.state c.measure-counts.new.self (measure (arc_value c.args.frame.now)) (told_to_all c.measure-counts.result) c.measure-counts.ensures.goes (λ may. c.measure-counts.ensures.frugal))
 
 pub returns-clause-alike : goal.returns-clause-alike
 returns-clause-alike c =
-    rw (← c.self.view_is) (leaves_alike c.self.inside.kernel c.measure-counts.new.self (measure (arc_value c.args.frame.now)) (told_to_all c.measure-counts.result) c.measure-counts.ensures.goes)
+    rw (← c.self.view_is) (leaves_alike c.self.inside.state c.measure-counts.new.self (measure (arc_value c.args.frame.now)) (told_to_all c.measure-counts.result) c.measure-counts.ensures.goes)
 
 pub returns-clause-own_blocks : goal.returns-clause-own_blocks
 returns-clause-own_blocks c =
-    rw (← c.self.view_is) (own_blocks c.self.inside.kernel c.measure-counts.new.self (measure (arc_value c.args.frame.now)) (told_to_all c.measure-counts.result) c.measure-counts.ensures.goes)
+    rw (← c.self.view_is) (own_blocks c.self.inside.state c.measure-counts.new.self (measure (arc_value c.args.frame.now)) (told_to_all c.measure-counts.result) c.measure-counts.ensures.goes)

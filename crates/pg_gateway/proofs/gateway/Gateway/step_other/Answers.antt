@@ -7,7 +7,7 @@ use Rattle.pg_gateway.proofs.gateway.Gateway.step_other.Goals as goal
 
 pub invariant_of-self : goal.invariant_of-self
 invariant_of-self c =
-    let old = c.self.inside.kernel in
+    let old = c.self.inside.state in
     let new = c.step-reply.new.self in
     let e = gateway_event c.args.event in
     let a = told c.step-reply.result in (
@@ -21,12 +21,12 @@ invariant_of-self c =
 
 pub returns-clause-frugal : goal.returns-clause-frugal
 returns-clause-frugal c =
-    rw (← c.self.view_is) (frugally c.self.inside.kernel c.step-reply.new.self (gateway_event c.args.event) (told c.step-reply.result) c.step-reply.ensures.goes c.step-reply.ensures.copies)
+    rw (← c.self.view_is) (frugally c.self.inside.state c.step-reply.new.self (gateway_event c.args.event) (told c.step-reply.result) c.step-reply.ensures.goes c.step-reply.ensures.copies)
 
 pub returns-clause-alike : goal.returns-clause-alike
 returns-clause-alike c =
-    rw (← c.self.view_is) (leaves_alike c.self.inside.kernel c.step-reply.new.self (gateway_event c.args.event) (told c.step-reply.result) c.step-reply.ensures.goes)
+    rw (← c.self.view_is) (leaves_alike c.self.inside.state c.step-reply.new.self (gateway_event c.args.event) (told c.step-reply.result) c.step-reply.ensures.goes)
 
 pub returns-clause-own_blocks : goal.returns-clause-own_blocks
 returns-clause-own_blocks c =
-    rw (← c.self.view_is) (own_blocks c.self.inside.kernel c.step-reply.new.self (gateway_event c.args.event) (told c.step-reply.result) c.step-reply.ensures.goes)
+    rw (← c.self.view_is) (own_blocks c.self.inside.state c.step-reply.new.self (gateway_event c.args.event) (told c.step-reply.result) c.step-reply.ensures.goes)

@@ -4,7 +4,7 @@ use Rattle.std.specs.Vec.{vec_len}
 use Rattle.std.specs.Io.BufRead.{take_through}
 use Rattle.std.specs.Prelude.{◌+◌}
 use Rattle.pg_replay.specs.Answering.{AnswersLine}
-use Rattle.pg_answers.specs.Edits.{without_end}
+use Rattle.pg_lines.specs.Edits.{without_end}
 use Rattle.pg_replay.proofs.ReplayLaws.{so-more, so-all}
 use Rattle.pg_replay.proofs.script.Script.answer_all.Goals as goal
 

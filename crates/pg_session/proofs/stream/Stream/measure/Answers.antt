@@ -88,7 +88,7 @@ returns-else-not-some-clause-stream c =
     let s : StreamOf (Aligned Piece) = stream_of def c.self.inside.align c.self.inside.changes c.self.inside.layouts in
     let blocks = placed def.members m.quality (samples_at m places) in
     let is : IsMeasurement m = subst IsMeasurement c.frame.view_is c.frame.invariant.0 in
-    let on : c.self.inside.align.is_on ≡ true = subst (λ (v : StreamOf (Aligned Piece)). v.slots.is_on ≡ true) (sym c.self.view_is) c.requires.on in
+    let on : c.self.inside.align.is_on ≡ true = sym c.is_on.ensures.shown ∙ c.if-not-is_on.false in
     let exact : c.slot_of.result ≡ slot_at def.rate c.base.result m.soc m.frac =
     subst (λ (x : Measurement). c.slot_of.result ≡ slot_at def.rate c.base.result x.soc x.frac) c.frame.view_is c.slot_of.ensures.exact in
     let turn = measure_is c.args.listed.now m places s (length blocks) c.base.result (Ok c.in-Ok.slot) is c.requires.places on
@@ -108,7 +108,7 @@ returns-else-not-some-clause-sends c =
     let s : StreamOf (Aligned Piece) = stream_of def c.self.inside.align c.self.inside.changes c.self.inside.layouts in
     let blocks = placed def.members m.quality (samples_at m places) in
     let is : IsMeasurement m = subst IsMeasurement c.frame.view_is c.frame.invariant.0 in
-    let on : c.self.inside.align.is_on ≡ true = subst (λ (v : StreamOf (Aligned Piece)). v.slots.is_on ≡ true) (sym c.self.view_is) c.requires.on in
+    let on : c.self.inside.align.is_on ≡ true = sym c.is_on.ensures.shown ∙ c.if-not-is_on.false in
     let exact : c.slot_of.result ≡ slot_at def.rate c.base.result m.soc m.frac =
     subst (λ (x : Measurement). c.slot_of.result ≡ slot_at def.rate c.base.result x.soc x.frac) c.frame.view_is c.slot_of.ensures.exact in
     let turn = measure_is c.args.listed.now m places s (length blocks) c.base.result (Ok c.in-Ok.slot) is c.requires.places on
@@ -156,7 +156,7 @@ returns-else-not-has_placed-clause-stream c =
     let s : StreamOf (Aligned Piece) = stream_of def c.self.inside.align c.self.inside.changes c.self.inside.layouts in
     let blocks = placed def.members m.quality (samples_at m places) in
     let is : IsMeasurement m = subst IsMeasurement c.frame.view_is c.frame.invariant.0 in
-    let on : c.self.inside.align.is_on ≡ true = subst (λ (v : StreamOf (Aligned Piece)). v.slots.is_on ≡ true) (sym c.self.view_is) c.requires.on in
+    let on : c.self.inside.align.is_on ≡ true = sym c.is_on.ensures.shown ∙ c.if-not-is_on.false in
     let exact : c.slot_of.result ≡ slot_at def.rate c.base.result m.soc m.frac =
     subst (λ (x : Measurement). c.slot_of.result ≡ slot_at def.rate c.base.result x.soc x.frac) c.frame.view_is c.slot_of.ensures.exact in
     let turn = measure_is c.args.listed.now m places s (length blocks) c.base.result (Err c.in-Err.field-0) is c.requires.places on
@@ -172,7 +172,7 @@ returns-else-not-has_placed-clause-sends c =
     let s : StreamOf (Aligned Piece) = stream_of def c.self.inside.align c.self.inside.changes c.self.inside.layouts in
     let blocks = placed def.members m.quality (samples_at m places) in
     let is : IsMeasurement m = subst IsMeasurement c.frame.view_is c.frame.invariant.0 in
-    let on : c.self.inside.align.is_on ≡ true = subst (λ (v : StreamOf (Aligned Piece)). v.slots.is_on ≡ true) (sym c.self.view_is) c.requires.on in
+    let on : c.self.inside.align.is_on ≡ true = sym c.is_on.ensures.shown ∙ c.if-not-is_on.false in
     let exact : c.slot_of.result ≡ slot_at def.rate c.base.result m.soc m.frac =
     subst (λ (x : Measurement). c.slot_of.result ≡ slot_at def.rate c.base.result x.soc x.frac) c.frame.view_is c.slot_of.ensures.exact in
     let turn = measure_is c.args.listed.now m places s (length blocks) c.base.result (Err c.in-Err.field-0) is c.requires.places on

@@ -14,7 +14,6 @@ use Rattle.pg_session.proofs.Turning.{all-turned, may-done, own_changed, same_ch
 use Rattle.pg_session.proofs.Fitting.{fitted_map, reshape-fits, whole_slice}
 use Rattle.pg_session.proofs.Preparing.{places_within}
 use Rattle.pg_session.proofs.Granting.{granted_put_all, granted_few, rising_put_all, announces}
-use Rattle.pg_session.proofs.Switching.{on_turned, reshape-on}
 use Rattle.pg_session.proofs.subscriber.Subscriber.announce.Goals as goal
 
 pub list_all-requires-clause-room : goal.list_all-requires-clause-room
@@ -47,7 +46,6 @@ invariant_of-self c =
       granted = granted_put_all c.self.inside.grants c.self.inside.listed list own i.granted;
       blocks = i.blocks;
       configs = c.list_all.ensures.capacity ∙ i.configs;
-      on = on_turned turn (reshape-on c.self.inside.listed other) c.self.inside.on ss c.list_all.new.streams after i.on;
     }
 
 pub returns-clause-steps : goal.returns-clause-steps

@@ -16,7 +16,6 @@ use Rattle.pg_session.specs.Taking.{Taken}
 use Rattle.pg_session.proofs.Turning.{all-turned, may-done, own_changed, same_changed}
 use Rattle.pg_session.proofs.Fitting.{fitted_map, reshape-fits, whole_slice}
 use Rattle.pg_session.proofs.Granting.{again, unannounced, anew, anew_allowed, anew_after, wanted_now, granted_is, granted_more, granted_put, granted_now, granted_few, below_32}
-use Rattle.pg_session.proofs.Switching.{on_turned, reshape-on}
 use Rattle.pg_session.proofs.subscriber.Subscriber.grant.Goals as goal
 
 pub returns-then-holds-clause-steps : goal.returns-then-holds-clause-steps
@@ -48,7 +47,6 @@ invariant_of-self c =
       granted = granted_more c.self.inside.grants c.args.key c.self.inside.listed i.granted;
       blocks = i.blocks;
       configs = ap (λ b. b.capacity) c.pop_front.ensures.items ∙ i.configs;
-      on = i.on;
     }
 
 pub returns-in_default-clause-steps : goal.returns-in_default-clause-steps
@@ -111,7 +109,6 @@ invariant_of-self-2 c =
           (granted_more c.self.inside.grants c.args.key c.self.inside.listed i.granted);
       blocks = i.blocks;
       configs = ap (λ b. b.capacity) c.pop_front.ensures.items ∙ i.configs;
-      on = on_turned turn (reshape-on c.self.inside.listed other) c.self.inside.on ss c.list_one.new.streams after i.on;
     }
 
 pub returns-clause-steps : goal.returns-clause-steps

@@ -3,9 +3,7 @@ use Rattle.std.proofs.lemmas.List.{length-map}
 use Rattle.pg_session.specs.Private.{stopped}
 use Rattle.pg_session.specs.Kept.{by_slots, by_gaps}
 use Rattle.pg_session.specs.Fields.{AreFitted}
-use Rattle.pg_session.specs.On.{AreOn}
 use Rattle.pg_session.proofs.Fitting.{fitted_stopped, whole_slice}
-use Rattle.pg_session.proofs.Switching.{on_stopped}
 use Rattle.pg_session.proofs.subscriber.Subscriber.hang_up.Goals as goal
 
 pub invariant_of-self : goal.invariant_of-self
@@ -22,5 +20,4 @@ invariant_of-self c =
       granted = i.granted;
       blocks = i.blocks;
       configs = i.configs;
-      on = subst (AreOn 0) (sym after) (on_stopped ss);
     }

@@ -16,7 +16,6 @@ use Rattle.pg_session.specs.Taking.{Taken}
 use Rattle.pg_session.proofs.Turning.{all-turned, own_with}
 use Rattle.pg_session.proofs.Fitting.{fitted_map, measure-fits}
 use Rattle.pg_session.proofs.Fitting.{whole_slice}
-use Rattle.pg_session.proofs.Switching.{on_turned, measure-on}
 use Rattle.pg_session.proofs.subscriber.Subscriber.measure_one.Goals as goal
 
 pub invariant_of-self : goal.invariant_of-self
@@ -34,7 +33,6 @@ invariant_of-self c =
       granted = i.granted;
       blocks = c.measure_all_one.ensures.capacity ∙ i.blocks;
       configs = i.configs;
-      on = on_turned turn (measure-on c.self.inside.listed c.args.frame.now.soc c.args.frame.now.quality c.args.frame.now.frac (samples_at c.args.frame.now (c.args.place ∷ []))) c.self.inside.on ss c.measure_all_one.new.streams after i.on;
     }
 
 pub returns-clause-steps : goal.returns-clause-steps

@@ -3,7 +3,6 @@ use Rattle.std.proofs.lemmas.List.{length-map}
 use Rattle.pg_session.specs.Private.{at_stream, switched, stream_at, asks_reply, with_reply, reply_frame, frame_asked}
 use Rattle.pg_session.specs.Kept.{by_slots, by_gaps}
 use Rattle.pg_session.specs.Fields.{AreFitted}
-use Rattle.pg_session.specs.On.{AreOn}
 use Rattle.pg_session.specs.Shown.{Own, SubscriberValue}
 use Rattle.pg_session.specs.Sending.{Sending}
 use Rattle.pg_session.specs.Fields.{Obeys}
@@ -28,7 +27,6 @@ invariant_of-self c =
       granted = i.granted;
       blocks = i.blocks;
       configs = i.configs;
-      on = subst (AreOn c.mask_of-self-inside.result) (c.deref-then-not-is_question.ensures.value ∙ shown) c.mask_of-self-inside.ensures;
     }
 
 pub returns-clause-done : goal.returns-clause-done

@@ -1,6 +1,5 @@
 use Rattle.std.proofs.Common.{sym, subst, arith}
 use Rattle.pg_session.specs.Fields.{AreFitted}
-use Rattle.pg_session.specs.On.{AreOn}
 use Rattle.pg_session.proofs.Fitting.{fitted_without}
 use Rattle.pg_session.proofs.subscriber.Subscriber.remove.Goals as goal
 
@@ -15,5 +14,4 @@ invariant_of-self c =
       granted = i.granted;
       blocks = i.blocks;
       configs = i.configs;
-      on = subst (AreOn c.mask_of-self-inside.result) c.deref-2.ensures.value c.mask_of-self-inside.ensures;
     }

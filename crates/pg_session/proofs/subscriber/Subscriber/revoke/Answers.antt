@@ -14,7 +14,6 @@ use Rattle.pg_session.specs.Taking.{Taken}
 use Rattle.pg_session.proofs.Turning.{all-turned, own_changed, same_changed}
 use Rattle.pg_session.proofs.Fitting.{fitted_map, reshape-fits}
 use Rattle.pg_session.proofs.Fitting.{revoked_granted, whole_slice}
-use Rattle.pg_session.proofs.Switching.{on_turned, reshape-on}
 use Rattle.pg_session.proofs.subscriber.Subscriber.revoke.Goals as goal
 
 pub invariant_of-self : goal.invariant_of-self
@@ -32,7 +31,6 @@ invariant_of-self c =
       granted = revoked_granted c.args.key c.self.inside.grants c.self.inside.listed i.granted;
       blocks = i.blocks;
       configs = i.configs;
-      on = on_turned turn (reshape-on c.self.inside.listed (without_config c.self.inside.listed c.args.key)) c.self.inside.on ss c.reshape_all.new.streams after i.on;
     }
 
 pub returns-clause-steps : goal.returns-clause-steps

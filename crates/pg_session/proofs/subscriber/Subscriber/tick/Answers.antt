@@ -12,7 +12,6 @@ use Rattle.pg_session.specs.Taking.{Taken}
 use Rattle.pg_session.proofs.Turning.{all-turned, own_with}
 use Rattle.pg_session.proofs.Fitting.{fitted_map, tick-fits}
 use Rattle.pg_session.proofs.Fitting.{whole_slice}
-use Rattle.pg_session.proofs.Switching.{on_turned, tick-on}
 use Rattle.pg_session.proofs.subscriber.Subscriber.tick.Goals as goal
 
 pub invariant_of-self : goal.invariant_of-self
@@ -30,7 +29,6 @@ invariant_of-self c =
       granted = i.granted;
       blocks = i.blocks;
       configs = i.configs;
-      on = on_turned turn (tick-on c.self.inside.listed) c.self.inside.on ss c.tick_all.new.streams after i.on;
     }
 
 pub returns-clause-steps : goal.returns-clause-steps

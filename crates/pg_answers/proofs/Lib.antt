@@ -1,3 +1,0 @@
--- Lemmas of answers.
-pub mod PrintLaws
-pub mod EditLaws

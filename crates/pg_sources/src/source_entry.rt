@@ -1,0 +1,406 @@
+//! A source, with the connection to it.
+
+use crate::source::{SourceConnection, Turn};
+use mio::net::TcpStream;
+use mio::{Interest, Poll, Token};
+use pg_audit::PmuStats;
+use pg_config::SourceConfig;
+use pg_gateway::Gate;
+use pg_limits::{Budget, Phase, Portion, StopAfterShortRead};
+use pg_log::{ConfigChange, Detail, Entry, Journal, LogEvent, MOST_PMUS, Subject};
+use pg_service::{
+    Address, GateStats, LinkState, Lookup, MeteredGate, REASONS, SourceReport, WorkerHandles, ended,
+};
+use std::alloc::{AllocError, Global};
+use std::io::ErrorKind;
+use std::net::{Net, SocketAddr};
+use std::rt::Clock;
+use std::sync::{Arc, Wait};
+use std::time::Instant;
+
+/// The bytes of the shortest data frame: one PMU without phasors, analogs and digitals (C37.118.2, 6.3).
+const SHORTEST: usize = 22;
+
+/// A source with its connection, if there is one.
+#[derive(Drop)]
+pub(crate) struct SourceEntry {
+    pub(crate) connection: SourceConnection,
+    pub(crate) address: Option<Address>,
+    // The number of its last dial, the address of its name that was found since, and whether the name is being looked up.
+    pub(crate) dial: u64,
+    pub(crate) found: Option<SocketAddr>,
+    pub(crate) is_looked_up: bool,
+    // Where it was called last.
+    called: Option<SocketAddr>,
+    stream: Option<TcpStream>,
+    pub(crate) is_ready: bool,
+    // Whether its connection has failed or it sends no more: then it is read until it has ended.
+    pub(crate) is_ending: bool,
+    // Whether it has announced a configuration since it was called, and the last one that it announced.
+    has_announced: bool,
+    config: Option<Arc<SourceConfig>>,
+    // The bytes of its data frames, as of the last one; the shortest there is before one came.
+    size: usize,
+    // What its link had counted at its last entry in the log.
+    reported: PmuStats,
+    // The measurements that were too far from the clock, and when the last event came that was not.
+    far: u64,
+    measured_at: Option<Instant>,
+    // By how many milliseconds its last measurement was ahead of the clock, where it was refused for that.
+    pub(crate) off: Option<i64>,
+    // The time of its last measurement in its connection, in milliseconds since 1970-01-01 00:00 UTC.
+    pub(crate) newest: Option<u64>,
+}
+
+impl SourceEntry {
+    /// A source that is to be connected to at this address, which has this number of a dial.
+    pub(crate) fn new(connection: SourceConnection, address: Address, dial: u64) -> SourceEntry {
+        SourceEntry {
+            connection,
+            address: Some(address),
+            dial,
+            found: None,
+            is_looked_up: false,
+            called: None,
+            stream: None,
+            is_ready: false,
+            is_ending: false,
+            has_announced: false,
+            config: None,
+            size: SHORTEST,
+            reported: PmuStats::new(),
+            far: 0,
+            measured_at: None,
+            off: None,
+            newest: None,
+        }
+    }
+
+    /// From now on it is connected to at this address. Its last configuration stays, to find out what a new one changes.
+    pub(crate) fn dial_again(&mut self, connection: SourceConnection, address: Address, dial: u64) {
+        self.connection = connection;
+        self.address = Some(address);
+        self.dial = dial;
+        self.found = None;
+        self.is_looked_up = false;
+        self.stream = None;
+        self.reported = PmuStats::new();
+        self.far = 0;
+        self.measured_at = None;
+        self.off = None;
+        self.newest = None;
+    }
+
+    /// What is reported of it.
+    pub(crate) fn entry(&self, event: LogEvent, detail: Detail) -> Entry {
+        Entry::new(event, Subject::Source(self.connection.source()), detail)
+    }
+
+    /// How it stands.
+    pub(crate) fn report(&self, alloc: Global, now: Instant) -> Result<SourceReport, AllocError> {
+        let address = match &self.address {
+            Some(Address::Known(address)) => Some(format!(in alloc; "{address}")?),
+            Some(Address::Name(name)) => Some(String::from_str(alloc, name.as_str())?),
+            None => None,
+        };
+        let reach = match self.connection.plan().phase() {
+            Phase::Up => LinkState::Up,
+            Phase::Calling => LinkState::Calling,
+            Phase::Resting => match self.connection.plan().left(now) {
+                Some(left) => LinkState::Pause(left),
+                None => LinkState::Rests,
+            },
+        };
+        let last = match self.measured_at {
+            Some(at) => Some(now.saturating_duration_since(at)),
+            None => None,
+        };
+        Ok(SourceReport {
+            source: self.connection.source(),
+            address,
+            reach,
+            counts: *self.connection.link().stats(),
+            far: self.far,
+            last,
+        })
+    }
+
+    /// Keeps when it sent data and how far its clock is off, and returns whether its data are refused for that from now on, or no longer.
+    pub(crate) fn note_seen(&mut self, seen: &GateStats, clock: u64, now: Instant) -> bool {
+        if seen.events > seen.far {
+            self.measured_at = Some(now);
+        }
+        self.far = self.far.saturating_add(seen.far);
+        let was_off = self.off.is_some();
+        if seen.measured > 0 {
+            self.newest = Some(seen.last.millis());
+            self.off = match seen.far_at {
+                Some(stamp) => Some(stamp.ahead_of(clock)),
+                None => None,
+            };
+        }
+        self.off.is_some() != was_off
+    }
+
+    /// Logs what happened while it was served.
+    pub(crate) fn log_seen<R: Wait + Clock, G: Gate>(
+        &mut self,
+        rt: &R,
+        gate: &mut MeteredGate<G>,
+        journal: &Journal,
+        seen: &GateStats,
+    ) {
+        if let Some(config) = gate.take_announced() {
+            self.log_config(rt, config, journal);
+        }
+        if let (Some(off), true) = (self.off, seen.far > 0) {
+            let mut entry = self.entry(LogEvent::FarMeasurement, Detail::Off(off));
+            entry.times = seen.far;
+            journal.log(rt, entry);
+        }
+        if self.connection.link().stats().by_reason != self.reported.by_reason {
+            self.log_ignored(rt, journal);
+        }
+    }
+
+    /// Logs a configuration that was announced, if it is the first one of its connection or another than the last.
+    fn log_config<R: Wait + Clock>(
+        &mut self,
+        rt: &R,
+        config: Arc<SourceConfig>,
+        journal: &Journal,
+    ) {
+        let change = match &self.config {
+            Some(last) => Some(ConfigChange::between(last, &config)),
+            None => None,
+        };
+        if !self.has_announced {
+            self.has_announced = true;
+            let detail = Detail::Config(rate_of(&config), pmus_of(&config));
+            journal.log(rt, self.entry(LogEvent::Announced, detail));
+        }
+        if let Some(change) = change {
+            if !change.is_nothing() {
+                journal.log(
+                    rt,
+                    self.entry(LogEvent::Reconfigured, Detail::Differs(change)),
+                );
+            }
+        }
+        self.config = Some(config);
+    }
+
+    /// Logs for which reasons its frames were ignored since the last such entry.
+    fn log_ignored<R: Wait + Clock>(&mut self, rt: &R, journal: &Journal) {
+        let counted = *self.connection.link().stats();
+        for reason in REASONS {
+            let at = usize::from(reason.number());
+            let (Some(new), Some(old)) = (
+                counted.by_reason.get(at),
+                self.reported.by_reason.get(at),
+            ) else {
+                continue;
+            };
+            let times = new.saturating_sub(*old);
+            if times > 0 {
+                let mut entry = self.entry(LogEvent::Ignored, Detail::Because(reason));
+                entry.times = times;
+                journal.log(rt, entry);
+            }
+        }
+        self.reported = counted;
+    }
+
+    /// Serves its connection, if it stands, by one read, in which no more than so many data frames end.
+    pub(crate) fn serve<G: Gate>(
+        &mut self,
+        gate: &mut MeteredGate<G>,
+        events: u32,
+        now: Instant,
+        clock: u64,
+        reference: u64,
+    ) -> Option<(Turn, GateStats)> {
+        let Phase::Up = self.connection.plan().phase() else {
+            return None;
+        };
+        let stream = self.stream.as_ref()?;
+        let most = self.size.saturating_mul(events as usize);
+        let reader = Portion::new(StopAfterShortRead::new(stream, self.is_ending), most);
+        let mut budget = Budget::new(reader, 1);
+        let mut writer = stream;
+        let (turn, seen) = self
+            .connection
+            .serve(&mut budget, &mut writer, gate, now, clock, reference);
+        if budget.reader.reader.has_read {
+            self.connection.received(now);
+        }
+        if seen.size > 0 {
+            self.size = seen.size;
+        } else if seen.rate.is_some() {
+            self.size = SHORTEST;
+        }
+        match turn {
+            Turn::More if budget.reader.reader.has_stopped => Some((Turn::Waits, seen)),
+            Turn::Ended(_) => {
+                self.stream = None;
+                Some((turn, seen))
+            }
+            _ => Some((turn, seen)),
+        }
+    }
+
+    /// Whether its name is being looked up.
+    pub(crate) fn awaits_address(&self) -> bool {
+        self.stream.is_none() && self.connection.plan().phase() == Phase::Calling
+    }
+
+    /// Begins a call. A name is looked up for it; where its address was found before, that is called meanwhile.
+    pub(crate) fn call<R: Net + Wait>(
+        &mut self,
+        rt: &R,
+        alloc: Global,
+        poll: &Poll,
+        worker: usize,
+        place: usize,
+        handles: WorkerHandles<'_>,
+        now: Instant,
+    ) -> Option<Entry> {
+        let known = match &self.address {
+            Some(Address::Known(address)) => Some(*address),
+            Some(Address::Name(_)) => {
+                if self.look_up(rt, alloc, worker, handles).is_err() {
+                    self.connection.ended(now);
+                    let detail = Detail::System(ErrorKind::OutOfMemory);
+                    return Some(self.entry(LogEvent::NotMade, detail));
+                }
+                self.found
+            }
+            None => {
+                self.connection.rest();
+                return None;
+            }
+        };
+        match known {
+            Some(address) => Some(self.connect(rt, poll, place, address, now)),
+            None => {
+                self.connection.sought(now);
+                None
+            }
+        }
+    }
+
+    /// Has its name looked up, unless it is being looked up.
+    fn look_up<R: Wait>(
+        &mut self,
+        rt: &R,
+        alloc: Global,
+        worker: usize,
+        handles: WorkerHandles<'_>,
+    ) -> Result<(), AllocError> {
+        let Some(Address::Name(name)) = &self.address else {
+            return Ok(());
+        };
+        if self.is_looked_up {
+            return Ok(());
+        }
+        let lookup = Lookup {
+            worker,
+            source: self.connection.source(),
+            dial: self.dial,
+            name: String::from_str(alloc, name.as_str())?,
+        };
+        self.is_looked_up = handles.look_up(rt, lookup);
+        Ok(())
+    }
+
+    /// Begins a connection to this address.
+    pub(crate) fn connect<R: Net>(
+        &mut self,
+        rt: &R,
+        poll: &Poll,
+        place: usize,
+        address: SocketAddr,
+        now: Instant,
+    ) -> Entry {
+        let both = Interest::READABLE | Interest::WRITABLE;
+        self.has_announced = false;
+        self.newest = None;
+        self.called = Some(address);
+        let mut stream = match TcpStream::connect(rt, address) {
+            Ok(stream) => stream,
+            Err(error) => {
+                self.connection.ended(now);
+                let detail = Detail::of_call(Some(address), &error);
+                return self.entry(LogEvent::NotMade, detail);
+            }
+        };
+        if let Err(error) = poll.registry().register(&mut stream, Token(place), both) {
+            self.connection.ended(now);
+            return self.entry(LogEvent::SocketFault, Detail::of_error(&error));
+        }
+        self.stream = Some(stream);
+        self.is_ending = false;
+        self.size = SHORTEST;
+        self.connection.called(now);
+        self.entry(LogEvent::Called, Detail::At(address))
+    }
+
+    /// Finds out whether the connection that was begun is made by now, or has failed.
+    pub(crate) fn finish_call(&mut self, now: Instant) -> Option<Entry> {
+        let Some(stream) = &self.stream else {
+            return None;
+        };
+        let failed = match stream.take_error() {
+            Ok(None) => None,
+            Ok(Some(error)) | Err(error) => Some(Detail::of_call(self.called, &error)),
+        };
+        if let Some(detail) = failed {
+            self.end(now);
+            return Some(self.entry(LogEvent::NotMade, detail));
+        }
+        if stream.peer_addr().is_err() {
+            return None;
+        }
+        let option = stream.set_nodelay(true);
+        self.connection.made(now);
+        Some(match option {
+            Ok(()) => self.entry(LogEvent::Made, Detail::Nothing),
+            Err(error) => self.entry(LogEvent::NoDelayFault, Detail::of_error(&error)),
+        })
+    }
+
+    /// Ends the connection, or the call.
+    pub(crate) fn end(&mut self, now: Instant) {
+        self.stream = None;
+        self.connection.ended(now);
+    }
+
+    /// Ends the connection, and calls no more.
+    pub(crate) fn rest(&mut self) {
+        self.stream = None;
+        self.connection.rest();
+    }
+
+    /// Ends the connection, and calls anew.
+    pub(crate) fn renew(&mut self, now: Instant) {
+        self.stream = None;
+        self.connection.renew(now);
+    }
+}
+
+/// DATA_RATE of a configuration.
+fn rate_of(config: &SourceConfig) -> i16 {
+    match config.parts.first() {
+        Some(part) => part.rate,
+        None => 0,
+    }
+}
+
+/// The IDCODEs of the PMUs of a configuration in their order, 0 behind the last.
+fn pmus_of(config: &SourceConfig) -> [u16; MOST_PMUS] {
+    let mut pmus = [0; MOST_PMUS];
+    for (place, part) in pmus.iter_mut().zip(config.parts.iter()) {
+        *place = part.id();
+    }
+    pmus
+}
