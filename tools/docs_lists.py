@@ -9,6 +9,7 @@ import re
 import sys
 
 import planted_table
+import setup_page
 
 ROOT = os.path.dirname(os.path.dirname(os.path.abspath(__file__)))
 found = []
@@ -66,36 +67,13 @@ def spans(text):
     return [double or single for double, single in re.findall(r"``\s?(.+?)\s?``|`([^`]+)`", " ".join(text.split()))]
 
 
-TABLES = {"TOP": "## The file itself", "PMU": "## `[[pmu]]`", "SUBSCRIBER": "## `[[subscriber]]`", "STREAM": "## `[[subscriber.stream]]`"}
-# The ranges of these stand in the definition of a stream, in pg_stream.
-DEFINED = {"rate", "base", "wait", "window"}
-
-
 def keys():
-    rules = source("pg_operator", "kind")
-    words = between(source("pdcgw", "help"), "A setup file is TOML", "A subscriber sends commands")
-    for table, heading in TABLES.items():
-        told = {cells[0].strip("| `"): cells for cells in rows(section("docs/SETUP.md", heading)) if "`" in cells[0]}
-        rule = re.compile(r'(required|optional)!\("(\w+)", Kind::(\w+)(?:\(([\d_]+), ([\d_]+)\))?')
-        listed = rule.findall(between(rules, f"const {table}:", "];"))
-        expect(listed, f"pg_operator kind.rt: no keys of {table} were found")
-        for need, name, kind, least, most in listed:
-            if kind == "Tables":
-                continue
-            expect(re.search(rf"\b{name}\b", words), f"`pdcgw run --help`: the key {name} is missing")
-            expect(name in told, f"docs/SETUP.md, {heading}: the key {name} is missing")
-            if name not in told:
-                continue
-            values, absent = told[name][1], told[name][2]
-            is_told = (need == "required") == (absent == "required")
-            expect(is_told, f"docs/SETUP.md, {heading}: {name} is {need}, and the page says otherwise")
-            for bound in (least, most):
-                plain = bound.replace("_", "")
-                if plain and name not in DEFINED:
-                    is_told = re.search(rf"\b{plain}\b", values)
-                    expect(is_told, f"docs/SETUP.md, {heading}: {name} may be {least} to {most}, and the page says otherwise")
-        for name in set(told) - {name for _, name, *_ in listed}:
-            expect(False, f"docs/SETUP.md, {heading}: no setup has the key {name}")
+    for heading, table in setup_page.tables().items():
+        lines_of = section(setup_page.PAGE, heading).splitlines()
+        for row in table.splitlines():
+            expect(row in lines_of, f"{setup_page.PAGE}, {heading}: `tools/setup_page.py --write` would write {row}")
+    page = setup_page.page()
+    expect(setup_page.written(page) == page, f"{setup_page.PAGE}: the tables are not those that `tools/setup_page.py --write` writes")
 
 
 def lines():

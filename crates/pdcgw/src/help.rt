@@ -1,5 +1,8 @@
 //! What `--help` prints beside the usage.
 
+use pg_operator::help_on_keys;
+use std::alloc::{AllocError, Global};
+
 /// Of the program.
 pub const PROGRAM: &str = "\
 Exit status:
@@ -79,7 +82,13 @@ Answers:
                            the number of those lost just before it, and the number of those lost after the last";
 
 /// Of `run`.
-pub const RUN: &str = "\
+pub fn of_run(alloc: Global) -> Result<String, AllocError> {
+    let keys = help_on_keys(alloc)?;
+    format!(in alloc; "{}{}{}", BEFORE_KEYS, keys.as_str(), AFTER_KEYS)
+}
+
+/// Of `run`, up to the keys of a setup file.
+const BEFORE_KEYS: &str = "\
 Does the edits of the setup, opens the ports of the subscribers, then connects to the sources and serves the subscribers, in
 C37.118.2 over TCP. Commands are read from standard input and answered on standard output: those of `pdcgw replay --help`,
 and those below. `quit` ends the program with status 0; the end of standard input does not. Standard error is the log, a line
@@ -99,49 +108,10 @@ More commands:
   disconnect U             closes its connection
 
 A setup file is TOML:
-  tick_ms                  milliseconds from tick to tick, 1 to 1000; default 10
-  ingest, serve            threads for sources, and for subscribers: 1 to 8; default 1
-  log                      least level that is logged: error, warn, info or debug; default info
-  control                  path of the control socket for `pdcgw ctl`, 1 to 107 bytes; only the gateway's user and root may
-                           connect. Default none
-  status                   A.B.C.D:PORT of the page (/) and the metrics (/metrics), by HTTP; default none
-  name                     the gateway's name on the page, in metrics and in the log: 1 to 64 printable ASCII characters;
-                           default the host's name
-  [[pmu]]                  a PMU, registered in the order of the file
-    id                     IDCODE of the PMU in its source's configuration: 1 to 65534
-    source                 IDCODE of the source's frames: 1 to 65534; default `id`
-    connect                A.B.C.D:PORT or NAME:PORT of the source; in one table of each source
-    silence                connect again after this many seconds without data: 1 to 3600, 0 never; default 10
-    clock_ms               refuse data whose timestamp is more than this many milliseconds from this machine's clock: 1 to
-                           30000; default 30 seconds
-    ahead_ms               refuse data whose timestamp is more than this many milliseconds ahead of the reference: 1 to 30000,
-                           0 never; default 200. The reference is this machine's clock, or the lower median of the newest
-                           times of all connected sources if that is later. All tables of a source that give `silence`,
-                           `clock_ms` or `ahead_ms` have to agree
-  [[subscriber]]           a subscriber
-    id                     its number: 1 to 65535
-    port                   TCP port to which it connects: 1 to 65535; default none
-    address                address of this machine on which the port is opened: A.B.C.D; default all
-    allow                  list of the hosts that may connect: A.B.C.D, or A.B.C.D/BITS for a network; default every host, an
-                           empty list allows none
-    takeover               true: a new connection replaces the current one if that is 5 seconds old. false: it is refused;
-                           default false
-    stall                  disconnect if for this many seconds data waited and it accepted none, or its host acknowledged none:
-                           1 to 3600, 0 never; default 30
-    idle                   disconnect after this many seconds without traffic in either direction: 1 to 3600, 0 never;
-                           default 0. Each byte counts, also of a command that is not whole
-    change                 what to do when the layout of a stream changes while it is on. safe: send a CFG-2 unasked, or
-                           disconnect if a data frame could be read by the old layout. hangup: disconnect. keep: nothing;
-                           default safe
-    ring                   queue length in data frames: 1 to 1024
-    bytes                  queue length in bytes of data frames: 16 to 16777216; default 16777216
-    grants                 list of PMUs that it may have: a number N is N/N, a text \"S/N\" any PMU; at most 32
-  [[subscriber.stream]]    a stream of the subscriber above
-    id, rate, base, wait, window
-                           STREAM, RATE, BASE, WAIT and WINDOW of the command `define`
-    header                 the text of its HDR frame; default empty
-    members                list of its 1 to 32 PMUs, written as in `grants`
+";
 
+/// Of `run`, after the keys.
+const AFTER_KEYS: &str = "
 A subscriber sends command frames for its streams: 1 stop, 2 start, 3 send header, 4 send CFG-1, 5 send CFG-2.";
 
 /// Of `check`.

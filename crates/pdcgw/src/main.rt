@@ -43,10 +43,10 @@ fn replay_words<'a>(alloc: Global) -> Command<'a> {
 }
 
 /// The words of `run`.
-fn run_words<'a>(alloc: Global) -> Result<Command<'a>, AllocError> {
+fn run_words<'a>(alloc: Global, help: &'a str) -> Result<Command<'a>, AllocError> {
     Command::new(alloc, "run")
         .about("Serves sources and subscribers over TCP")
-        .after_help(help::RUN)
+        .after_help(help)
         .arg(setup_word(alloc))
 }
 
@@ -58,15 +58,15 @@ fn check_words<'a>(alloc: Global) -> Result<Command<'a>, AllocError> {
         .arg(setup_word(alloc))
 }
 
-/// The program's own words.
-fn program<'a>(alloc: Global) -> Result<Command<'a>, AllocError> {
+/// The program's own words, where `help` is that of `run`.
+fn program<'a>(alloc: Global, help: &'a str) -> Result<Command<'a>, AllocError> {
     Command::new(alloc, "pdcgw")
         .about("A phasor data concentrator gateway for many subscribers")
         .version(VERSION)
         .after_help(help::PROGRAM)
         .subcommand_required(true)
         .subcommand(replay_words(alloc))?
-        .subcommand(run_words(alloc)?)?
+        .subcommand(run_words(alloc, help)?)?
         .subcommand(check_words(alloc)?)?
         .subcommand(ctl::words(alloc)?)?
         .subcommand(tools::simulate_words(alloc)?)?
@@ -180,7 +180,10 @@ where
         }
         Err(_) => return Outcome::Unread,
     };
-    let command = match program(alloc) {
+    let Ok(help) = help::of_run(alloc) else {
+        return Outcome::Failed(Refusal::NoMemory);
+    };
+    let command = match program(alloc, help.as_str()) {
         Ok(command) => command,
         Err(_) => return Outcome::Failed(Refusal::NoMemory),
     };

@@ -1,4 +1,4 @@
-pub mod Keys
+pub mod Names
 pub mod Lists
 pub mod Plans
 pub mod Labels

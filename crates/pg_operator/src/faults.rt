@@ -2,7 +2,8 @@
 
 ghost use Rattle.std.specs.Prelude.{◌≡◌, IfErr};
 
-use crate::kind::{Heading, Kind, Misfit, PMU, Rule, STREAM, SUBSCRIBER, TOP};
+use crate::keys::{Absent, SetupKey};
+use crate::kind::{Heading, Kind, Misfit};
 use crate::lines::{SetupLines, SetupTable};
 use crate::pmu::{PmuTable, pmu_in};
 use pg_wire::{PmuId, Refusal};
@@ -65,22 +66,22 @@ fn write_fault<W: fmt::Write>(
 fn write_unknown<W: fmt::Write>(heading: &Heading, f: &mut fmt::Formatter<W>) -> fmt::Result {
     f.write_str("unknown key; known keys: ")?;
     match heading {
-        Heading::File => write_names(f, &TOP),
-        Heading::Pmu => write_names(f, &PMU),
-        Heading::Subscriber => write_names(f, &SUBSCRIBER),
-        Heading::Stream => write_names(f, &STREAM),
+        Heading::File => write_names(f, &SetupKey::FILE_KEYS),
+        Heading::Pmu => write_names(f, &SetupKey::PMU_KEYS),
+        Heading::Subscriber => write_names(f, &SetupKey::SUBSCRIBER_KEYS),
+        Heading::Stream => write_names(f, &SetupKey::STREAM_KEYS),
     }
 }
 
 /// The names of keys, parted by commas.
-fn write_names<W: fmt::Write>(f: &mut fmt::Formatter<W>, rules: &[Rule]) -> fmt::Result {
+fn write_names<W: fmt::Write>(f: &mut fmt::Formatter<W>, keys: &[SetupKey]) -> fmt::Result {
     let mut is_first = true;
-    for rule in rules {
+    for key in keys {
         if !is_first {
             f.write_str(", ")?;
         }
         is_first = false;
-        f.write_str(rule.name)?;
+        f.write_str(key.name)?;
     }
     Ok(())
 }
@@ -160,9 +161,11 @@ impl Search<'_> {
     fn look_at(&mut self, table: &Table) -> Result<(), Refusal>
         ensures memory { IfErr result (λ refusal. refusal ≡ Refusal.NoMemory) }
     {
-        self.look_at_keys(table, Heading::File, &TOP, SetupTable::File)?;
-        self.look_at_pmus(tables_at(table, "pmu"))?;
-        for (number, item) in tables_at(table, "subscriber").iter().enumerate() {
+        let place = SetupTable::File;
+        self.look_at_keys(table, Heading::File, &SetupKey::FILE_KEYS, place)?;
+        self.look_at_pmus(tables_at(table, &SetupKey::PMU))?;
+        let subscribers = tables_at(table, &SetupKey::SUBSCRIBER);
+        for (number, item) in subscribers.iter().enumerate() {
             if let Some(subscriber) = item.as_table() {
                 self.look_at_subscriber(subscriber, number)?;
             }
@@ -175,11 +178,17 @@ impl Search<'_> {
         ensures memory { IfErr result (λ refusal. refusal ≡ Refusal.NoMemory) }
     {
         let place = SetupTable::Subscriber(number);
-        self.look_at_keys(table, Heading::Subscriber, &SUBSCRIBER, place)?;
-        for (stream, item) in tables_at(table, "stream").iter().enumerate() {
+        self.look_at_keys(
+            table,
+            Heading::Subscriber,
+            &SetupKey::SUBSCRIBER_KEYS,
+            place,
+        )?;
+        let streams = tables_at(table, &SetupKey::STREAM);
+        for (stream, item) in streams.iter().enumerate() {
             if let Some(table) = item.as_table() {
                 let place = SetupTable::Stream(number, stream);
-                self.look_at_keys(table, Heading::Stream, &STREAM, place)?;
+                self.look_at_keys(table, Heading::Stream, &SetupKey::STREAM_KEYS, place)?;
             }
         }
         Ok(())
@@ -193,7 +202,7 @@ impl Search<'_> {
         for (number, item) in items.iter().enumerate() {
             if let Some(table) = item.as_table() {
                 let place = SetupTable::Pmu(number);
-                self.look_at_keys(table, Heading::Pmu, &PMU, place)?;
+                self.look_at_keys(table, Heading::Pmu, &SetupKey::PMU_KEYS, place)?;
             }
             if let Some(pmu) = pmu_in(item) {
                 let own = Said::by(&pmu);
@@ -216,16 +225,16 @@ impl Search<'_> {
         let place = SetupTable::Pmu(number);
         let before = sources.get(&source.get()).copied().unwrap_or(Said::NOTHING);
         if before.is_called && own.is_called {
-            self.tell(place, "connect", Wrong::Twice(source))?;
+            self.tell(place, SetupKey::CONNECT.name, Wrong::Twice(source))?;
         }
         if differ(before.silence, own.silence) {
-            self.tell(place, "silence", Wrong::Differs(source))?;
+            self.tell(place, SetupKey::SILENCE.name, Wrong::Differs(source))?;
         }
         if differ(before.clock_ms, own.clock_ms) {
-            self.tell(place, "clock_ms", Wrong::Differs(source))?;
+            self.tell(place, SetupKey::CLOCK_MS.name, Wrong::Differs(source))?;
         }
         if differ(before.ahead_ms, own.ahead_ms) {
-            self.tell(place, "ahead_ms", Wrong::Differs(source))?;
+            self.tell(place, SetupKey::AHEAD_MS.name, Wrong::Differs(source))?;
         }
         sources.insert(source.get(), before.and(own))?;
         Ok(())
@@ -236,27 +245,27 @@ impl Search<'_> {
         &mut self,
         table: &Table,
         heading: Heading,
-        rules: &[Rule],
+        keys: &[SetupKey],
         place: SetupTable,
     ) -> Result<(), Refusal>
         ensures memory { IfErr result (λ refusal. refusal ≡ Refusal.NoMemory) }
     {
         for key in table.keys() {
-            if !rules.iter().any(|rule| rule.name == key.as_str()) {
+            if !keys.iter().any(|known| known.name == key.as_str()) {
                 self.tell(place, key.as_str(), Wrong::Unknown(heading))?;
             }
         }
-        for rule in rules {
-            match table.get(rule.name) {
-                Some(value) => {
-                    if let Some(misfit) = rule.kind.misfit(self.alloc, value)? {
-                        self.tell(place, rule.name, Wrong::Is(misfit, rule.kind))?;
+        for key in keys {
+            match (table.get(key.name), key.absent) {
+                (Some(value), _) => {
+                    if let Some(misfit) = key.kind.misfit(self.alloc, value)? {
+                        self.tell(place, key.name, Wrong::Is(misfit, key.kind))?;
                     }
                 }
-                None if rule.is_required => {
-                    self.tell(place, rule.name, Wrong::Missing(rule.kind))?;
+                (None, Absent::Required) => {
+                    self.tell(place, key.name, Wrong::Missing(key.kind))?;
                 }
-                None => {}
+                (None, _) => {}
             }
         }
         Ok(())
@@ -310,8 +319,8 @@ fn differ(one: Option<u16>, other: Option<u16>) -> bool {
 }
 
 /// The items of a list at a key; none where there is no such list.
-fn tables_at<'a>(table: &'a Table, key: &str) -> &'a [Value] {
-    match table.get(key) {
+fn tables_at<'a>(table: &'a Table, key: &SetupKey) -> &'a [Value] {
+    match table.get(key.name) {
         Some(Value::Array(items)) => items.as_slice(),
         _ => &[],
     }

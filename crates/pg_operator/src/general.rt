@@ -5,6 +5,8 @@ ghost use Rattle.toml.specs.View.{view, table_view};
 ghost use Rattle.pg_lines.specs.Addresses.{endpoint};
 ghost use Rattle.pg_operator.specs.Setups.{absent_or, endpoint_text_in, general_by, general_of, is_path, is_printable, is_gateway_name, level_in, level_of, optional, path_in, name_in, whole_in};
 
+use crate::keys::SetupKey;
+use crate::kind::{NAME_LIMIT, PATH_LIMIT};
 use crate::{address, table};
 use pg_wire::Refusal;
 use std::alloc::Global;
@@ -57,8 +59,8 @@ pub(crate) fn general_at(table: &Table) -> Option<GeneralKeys<'_>>
     ensures { option_map general_of result ≡ general_by (table_view table.now) }
 {
     let tick_ms = tick_at(table)?;
-    let ingest = threads_at(table, "ingest")?;
-    let serve = threads_at(table, "serve")?;
+    let ingest = ingest_at(table)?;
+    let serve = serve_at(table)?;
     let log = log_at(table)?;
     let control = control_at(table)?;
     let status = status_at(table)?;
@@ -78,27 +80,28 @@ pub(crate) fn general_at(table: &Table) -> Option<GeneralKeys<'_>>
 fn tick_at(table: &Table) -> Option<u16>
     ensures { result ≡ optional 10 (whole_in 1 1000) (codes "tick_ms") (table_view table.now) }
 {
-    match table::optional(table, "tick_ms", 10, 1, 1000) {
-        Some(tick_ms) => Some(tick_ms as u16),
-        None => None,
-    }
+    Some(table::optional(table, &SetupKey::TICK_MS)? as u16)
 }
 
-/// A number of threads.
-fn threads_at(table: &Table, key: &str) -> Option<u8>
-    ensures { result ≡ optional 1 (whole_in 1 8) key.now (table_view table.now) }
+/// Threads for sources.
+fn ingest_at(table: &Table) -> Option<u8>
+    ensures { result ≡ optional 1 (whole_in 1 8) (codes "ingest") (table_view table.now) }
 {
-    match table::optional(table, key, 1, 1, 8) {
-        Some(threads) => Some(threads as u8),
-        None => None,
-    }
+    Some(table::optional(table, &SetupKey::INGEST)? as u8)
+}
+
+/// Threads for subscribers.
+fn serve_at(table: &Table) -> Option<u8>
+    ensures { result ≡ optional 1 (whole_in 1 8) (codes "serve") (table_view table.now) }
+{
+    Some(table::optional(table, &SetupKey::SERVE)? as u8)
 }
 
 /// The level of the log.
 fn log_at(table: &Table) -> Option<LogLevel>
     ensures { result ≡ optional LogLevel.Info level_in (codes "log") (table_view table.now) }
 {
-    match table::value_at(table, "log") {
+    match table::value_at(table, SetupKey::LOG.name) {
         Some(value) => level(value),
         None => Some(LogLevel::Info),
     }
@@ -108,11 +111,8 @@ fn log_at(table: &Table) -> Option<LogLevel>
 fn control_at(table: &Table) -> Option<Option<&str>>
     ensures { option_map (λ o. option_map (λ s. s.now) o) result ≡ absent_or path_in (codes "control") (table_view table.now) }
 {
-    match table::value_at(table, "control") {
-        Some(value) => match path(value) {
-            Some(path) => Some(Some(path)),
-            None => None,
-        },
+    match table::value_at(table, SetupKey::CONTROL.name) {
+        Some(value) => Some(Some(path(value)?)),
         None => Some(None),
     }
 }
@@ -121,11 +121,8 @@ fn control_at(table: &Table) -> Option<Option<&str>>
 fn status_at(table: &Table) -> Option<Option<SocketAddrV4>>
     ensures { option_map (λ o. option_map endpoint o) result ≡ absent_or endpoint_text_in (codes "status") (table_view table.now) }
 {
-    match table::value_at(table, "status") {
-        Some(value) => match address::served(value) {
-            Some(address) => Some(Some(address)),
-            None => None,
-        },
+    match table::value_at(table, SetupKey::STATUS.name) {
+        Some(value) => Some(Some(address::served(value)?)),
         None => Some(None),
     }
 }
@@ -134,11 +131,8 @@ fn status_at(table: &Table) -> Option<Option<SocketAddrV4>>
 fn name_at(table: &Table) -> Option<Option<&str>>
     ensures { option_map (λ o. option_map (λ s. s.now) o) result ≡ absent_or name_in (codes "name") (table_view table.now) }
 {
-    match table::value_at(table, "name") {
-        Some(value) => match name(value) {
-            Some(name) => Some(Some(name)),
-            None => None,
-        },
+    match table::value_at(table, SetupKey::NAME.name) {
+        Some(value) => Some(Some(name(value)?)),
         None => Some(None),
     }
 }
@@ -152,9 +146,6 @@ pub(crate) fn level(value: &Value) -> Option<LogLevel>
         _ => None,
     }
 }
-
-/// The most bytes of a socket's path: those of a Unix socket's address without the zero byte that ends them.
-const PATH_LIMIT: usize = 107;
 
 /// The path of a socket.
 pub(crate) fn path(value: &Value) -> Option<&str>
@@ -181,9 +172,6 @@ fn no_zero(bytes: &[u8]) -> bool
 {
     bytes.iter().all(|byte| *byte != 0)
 }
-
-/// The most characters of a gateway's name.
-const NAME_LIMIT: usize = 64;
 
 /// The gateway's name.
 pub(crate) fn name(value: &Value) -> Option<&str>

@@ -1,4 +1,4 @@
-//! The keys of a setup file, for a person: which there are, and what their values have to be.
+//! What the values of a setup file have to be, for a person.
 
 ghost use Rattle.std.specs.Prelude.{◌≡◌, IfErr};
 
@@ -22,16 +22,14 @@ pub enum Heading {
     Stream,
 }
 
-/// A key of a table.
-#[derive(Clone, Copy)]
-pub(crate) struct Rule {
-    /// Its name.
-    pub(crate) name: &'static str,
-    /// What its value has to be.
-    pub(crate) kind: Kind,
-    /// Whether it has to be there.
-    pub(crate) is_required: bool,
-}
+/// The most bytes of a socket's path: those of a Unix socket's address without the zero byte that ends them.
+pub(crate) const PATH_LIMIT: usize = 107;
+
+/// The most characters of a gateway's name.
+pub(crate) const NAME_LIMIT: usize = 64;
+
+/// The most members of a stream.
+pub(crate) const MEMBER_LIMIT: usize = 32;
 
 /// What a value has to be.
 #[derive(Clone, Copy, Debug, PartialEq, Eq)]
@@ -58,86 +56,13 @@ pub enum Kind {
     Networks,
     /// A list of PMUs.
     Grants,
-    /// A list of 1 to 32 PMUs.
+    /// A list of one PMU or more, as many as a stream may have.
     Members,
     /// A text.
     Text,
     /// Tables under a heading of this name.
     Tables(&'static str),
 }
-
-/// A key that has to be there.
-macro_rules! required {
-    ($name:literal, $kind:expr) => {
-        Rule {
-            name: $name,
-            kind: $kind,
-            is_required: true,
-        }
-    };
-}
-
-/// A key that may be left out.
-macro_rules! optional {
-    ($name:literal, $kind:expr) => {
-        Rule {
-            name: $name,
-            kind: $kind,
-            is_required: false,
-        }
-    };
-}
-
-/// The keys of the file itself.
-pub(crate) const TOP: [Rule; 9] = [
-    optional!("tick_ms", Kind::Whole(1, 1000)),
-    optional!("ingest", Kind::Whole(1, 8)),
-    optional!("serve", Kind::Whole(1, 8)),
-    optional!("log", Kind::Level),
-    optional!("control", Kind::Path),
-    optional!("status", Kind::Served),
-    optional!("name", Kind::Name),
-    required!("pmu", Kind::Tables("[[pmu]]")),
-    required!("subscriber", Kind::Tables("[[subscriber]]")),
-];
-
-/// The keys of a PMU's table.
-pub(crate) const PMU: [Rule; 6] = [
-    required!("id", Kind::Whole(1, 65534)),
-    optional!("source", Kind::Whole(1, 65534)),
-    optional!("connect", Kind::Called),
-    optional!("silence", Kind::Whole(0, 3600)),
-    optional!("clock_ms", Kind::Whole(1, 30000)),
-    optional!("ahead_ms", Kind::Whole(0, 30000)),
-];
-
-/// The keys of a subscriber's table.
-pub(crate) const SUBSCRIBER: [Rule; 12] = [
-    required!("id", Kind::Whole(1, 65535)),
-    optional!("port", Kind::Whole(1, 65535)),
-    required!("ring", Kind::Whole(1, 1024)),
-    optional!("bytes", Kind::Whole(16, 16_777_216)),
-    optional!("grants", Kind::Grants),
-    optional!("stream", Kind::Tables("[[subscriber.stream]]")),
-    optional!("address", Kind::Bound),
-    optional!("allow", Kind::Networks),
-    optional!("takeover", Kind::Truth),
-    optional!("stall", Kind::Whole(0, 3600)),
-    optional!("idle", Kind::Whole(0, 3600)),
-    optional!("change", Kind::Change),
-];
-
-/// The keys of a stream's table, with the ranges of a definition: a setup is read with wider ones, and the gateway refuses what is
-/// beyond these, but a reader that has to mend a file sees what would be right.
-pub(crate) const STREAM: [Rule; 7] = [
-    required!("id", Kind::Whole(1, 65534)),
-    required!("rate", Kind::Whole(1, 120)),
-    required!("base", Kind::Whole(1, 16_777_215)),
-    required!("wait", Kind::Whole(0, 60_000)),
-    required!("window", Kind::Whole(1, 64)),
-    optional!("header", Kind::Text),
-    required!("members", Kind::Members),
-];
 
 impl fmt::Display for Kind {
     fn fmt<W: fmt::Write>(&self, f: &mut fmt::Formatter<W>) -> fmt::Result {
@@ -149,16 +74,24 @@ impl fmt::Display for Kind {
             Kind::Served => f.write_str("a text \"A.B.C.D:PORT\""),
             Kind::Level => f.write_str("\"error\", \"warn\", \"info\" or \"debug\""),
             Kind::Change => f.write_str("\"safe\", \"hangup\" or \"keep\""),
-            Kind::Path => {
-                f.write_str("the path of a socket, a text of 1 to 107 bytes without a zero byte")
-            }
-            Kind::Name => f.write_str("a text of 1 to 64 printable ASCII characters"),
+            Kind::Path => write!(
+                f,
+                "the path of a socket, a text of 1 to {} bytes without a zero byte",
+                PATH_LIMIT
+            ),
+            Kind::Name => write!(
+                f,
+                "a text of 1 to {} printable ASCII characters",
+                NAME_LIMIT
+            ),
             Kind::Networks => f.write_str("a list of texts \"A.B.C.D\" or \"A.B.C.D/BITS\""),
             Kind::Grants => f.write_str(
                 "a list of PMUs, each a number from 1 to 65534 or a text \"SOURCE/PMU\" of two",
             ),
-            Kind::Members => f.write_str(
-                "a list of 1 to 32 PMUs, each a number from 1 to 65534 or a text \"SOURCE/PMU\" of two",
+            Kind::Members => write!(
+                f,
+                "a list of 1 to {} PMUs, each a number from 1 to 65534 or a text \"SOURCE/PMU\" of two",
+                MEMBER_LIMIT
             ),
             Kind::Text => f.write_str("a text"),
             Kind::Tables(heading) => write!(f, "one table or more, each under {heading}"),
@@ -254,7 +187,7 @@ impl Kind {
         let Value::Array(items) = value else {
             return Ok(Some(Misfit::Value(what_is(alloc, value)?)));
         };
-        if self == Kind::Members && (items.is_empty() || items.len() > 32) {
+        if self == Kind::Members && (items.is_empty() || items.len() > MEMBER_LIMIT) {
             return Ok(Some(Misfit::Value(Found::List(items.len()))));
         }
         for (number, item) in items.iter().enumerate() {

@@ -6,6 +6,8 @@
 mod address;
 mod faults;
 mod general;
+mod key_texts;
+mod keys;
 mod kind;
 mod lines;
 mod place;
@@ -18,6 +20,7 @@ mod table;
 
 pub use faults::{Fault, Wrong, setup_faults};
 pub use general::{LogLevel, is_gateway_name};
+pub use key_texts::help_on_keys;
 pub use kind::{Found, Heading, Kind, Misfit};
 pub use lines::{SetupLines, SetupTable};
 pub use pg_lines::{Steer, parse_line, parse_steer, words_of};

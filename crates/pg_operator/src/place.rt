@@ -1,5 +1,6 @@
 //! The line of a key of a setup file that asks to bind.
 
+use crate::keys::SetupKey;
 use crate::lines::{SetupLines, SetupTable};
 use crate::setup::subscriber_id;
 use pg_wire::SubId;
@@ -22,9 +23,12 @@ pub enum BoundBy {
 pub fn line_of_key(alloc: Global, text: &str, by: BoundBy) -> Option<usize> {
     let table = toml::table_from_str(alloc, text).ok()?;
     let (place, key) = match by {
-        BoundBy::Port(sub) => (SetupTable::Subscriber(port_of(&table, sub)?), "port"),
-        BoundBy::Status => (SetupTable::File, "status"),
-        BoundBy::Control => (SetupTable::File, "control"),
+        BoundBy::Port(sub) => {
+            let place = SetupTable::Subscriber(port_of(&table, sub)?);
+            (place, SetupKey::PORT.name)
+        }
+        BoundBy::Status => (SetupTable::File, SetupKey::STATUS.name),
+        BoundBy::Control => (SetupTable::File, SetupKey::CONTROL.name),
     };
     if place == SetupTable::File && !table.contains_key(key) {
         return None;
@@ -35,11 +39,12 @@ pub fn line_of_key(alloc: Global, text: &str, by: BoundBy) -> Option<usize> {
 
 /// Where this subscriber's table stands among those of the subscribers, if it has a port.
 fn port_of(table: &Table, sub: SubId) -> Option<usize> {
-    let items = table.get("subscriber")?.as_array()?;
+    let items = table.get(SetupKey::SUBSCRIBER.name)?.as_array()?;
     let number = items.iter().position(|item| match item.as_table() {
         Some(table) => subscriber_id(table) == Some(sub),
         None => false,
     })?;
-    items.get(number)?.as_table()?.get("port")?;
+    let table = items.get(number)?.as_table()?;
+    table.get(SetupKey::PORT.name)?;
     Some(number)
 }

@@ -3,14 +3,12 @@ ghost use Rattle.std.specs.Prelude.{◌≡◌, ◌⊎◌, IfOk, IfErr, map, opti
 ghost use Rattle.toml.specs.View.{view, table_view};
 ghost use Rattle.pg_operator.specs.Setups.{absent_or, address_in, has_source, links_from, list_of, only, optional, pmu_by, pmu_edit, pmu_in, pmu_names, required, told, whole_in};
 
+use crate::keys::SetupKey;
 use crate::{address, table};
 use pg_gateway::Edit;
 use pg_wire::{PmuId, PmuKey, Refusal};
 use std::alloc::Global;
 use toml::{Table, Value};
-
-/// The keys of a PMU's table.
-const PMU_KEYS: [&str; 6] = ["id", "source", "connect", "silence", "clock_ms", "ahead_ms"];
 
 /// A PMU, and what its table says of its source.
 #[derive(Clone, Copy)]
@@ -27,7 +25,7 @@ pub(crate) fn pmus_at(alloc: Global, table: &Table) -> Result<Vec<PmuTable<'_>>,
     ensures ok { IfOk result (λ v. required (list_of pmu_in) (codes "pmu") (table_view table.now) ≡ Some (map told v.items)) }
     ensures err { IfErr result (λ r. (r ≡ Refusal.NoMemory) ⊎ ((r ≡ Refusal.BadSetup) × (required (list_of pmu_in) (codes "pmu") (table_view table.now) ≡ None))) }
 {
-    match table::value_at(table, "pmu") {
+    match table::value_at(table, SetupKey::PMU.name) {
         Some(value) => pmus_in(alloc, value),
         None => Err(Refusal::BadSetup),
     }
@@ -64,15 +62,15 @@ pub(crate) fn pmu_in(value: &Value) -> Option<PmuTable<'_>>
 fn pmu_by(table: &Table) -> Option<PmuTable<'_>>
     ensures { option_map told result ≡ only pmu_names pmu_by (table_view table.now) }
 {
-    if !table::keys_within(&PMU_KEYS, table) {
+    if !table::keys_within(&SetupKey::PMU_KEYS, table) {
         return None;
     }
     let pmu = pmu_id(table)?;
     let source = source_of(table, pmu)?;
     let connect = connect_at(table)?;
-    let silence = silence_at(table)?;
-    let clock_ms = clock_at(table)?;
-    let ahead_ms = ahead_at(table)?;
+    let silence = table::number_or_none(table, &SetupKey::SILENCE)?;
+    let clock_ms = table::number_or_none(table, &SetupKey::CLOCK_MS)?;
+    let ahead_ms = table::number_or_none(table, &SetupKey::AHEAD_MS)?;
     Some(PmuTable {
         key: PmuKey { source, pmu },
         connect,
@@ -86,21 +84,15 @@ fn pmu_by(table: &Table) -> Option<PmuTable<'_>>
 fn pmu_id(table: &Table) -> Option<PmuId>
     ensures { result ≡ required (whole_in 1 65534) (codes "id") (table_view table.now) }
 {
-    match table::required(table, "id", 1, 65534) {
-        Some(id) => PmuId::new(id as u16),
-        None => None,
-    }
+    PmuId::new(table::required(table, &SetupKey::PMU_ID)? as u16)
 }
 
 /// The source of a PMU, which has its number where it is left out.
 fn source_of(table: &Table, pmu: PmuId) -> Option<PmuId>
     ensures { result ≡ optional pmu (whole_in 1 65534) (codes "source") (table_view table.now) }
 {
-    match table::value_at(table, "source") {
-        Some(value) => match table::whole(value, 1, 65534) {
-            Some(source) => PmuId::new(source as u16),
-            None => None,
-        },
+    match table::value_at(table, SetupKey::SOURCE.name) {
+        Some(value) => PmuId::new(table::number(value, &SetupKey::SOURCE)? as u16),
         None => Some(pmu),
     }
 }
@@ -109,50 +101,8 @@ fn source_of(table: &Table, pmu: PmuId) -> Option<PmuId>
 fn connect_at(table: &Table) -> Option<Option<&str>>
     ensures { option_map (λ o. option_map (λ s. s.now) o) result ≡ absent_or address_in (codes "connect") (table_view table.now) }
 {
-    match table::value_at(table, "connect") {
-        Some(value) => match address::called(value) {
-            Some(address) => Some(Some(address)),
-            None => None,
-        },
-        None => Some(None),
-    }
-}
-
-/// After how many seconds a source is silent, or none where it is left out.
-fn silence_at(table: &Table) -> Option<Option<u16>>
-    ensures { result ≡ absent_or (whole_in 0 3600) (codes "silence") (table_view table.now) }
-{
-    match table::value_at(table, "silence") {
-        Some(value) => match table::whole(value, 0, 3600) {
-            Some(seconds) => Some(Some(seconds as u16)),
-            None => None,
-        },
-        None => Some(None),
-    }
-}
-
-/// How many milliseconds a source may be from the clock, or none where it is left out.
-fn clock_at(table: &Table) -> Option<Option<u16>>
-    ensures { result ≡ absent_or (whole_in 1 30000) (codes "clock_ms") (table_view table.now) }
-{
-    match table::value_at(table, "clock_ms") {
-        Some(value) => match table::whole(value, 1, 30000) {
-            Some(limit) => Some(Some(limit as u16)),
-            None => None,
-        },
-        None => Some(None),
-    }
-}
-
-/// How many milliseconds a source may be ahead of the reference, or none where it is left out.
-fn ahead_at(table: &Table) -> Option<Option<u16>>
-    ensures { result ≡ absent_or (whole_in 0 30000) (codes "ahead_ms") (table_view table.now) }
-{
-    match table::value_at(table, "ahead_ms") {
-        Some(value) => match table::whole(value, 0, 30000) {
-            Some(limit) => Some(Some(limit as u16)),
-            None => None,
-        },
+    match table::value_at(table, SetupKey::CONNECT.name) {
+        Some(value) => Some(Some(address::called(value)?)),
         None => Some(None),
     }
 }

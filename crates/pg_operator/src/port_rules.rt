@@ -1,9 +1,10 @@
 //! The rules of a subscriber's port.
-ghost use Rattle.std.specs.Prelude.{◌≡◌, ◌⊎◌, ◌≤◌, IfOk, IfErr, option_map, codes, Some, None};
+ghost use Rattle.std.specs.Prelude.{◌≡◌, ◌⊎◌, IfOk, IfErr, option_map, codes, Some, None};
 ghost use Rattle.std.specs.Net.Addr.{ipv4_bits};
 ghost use Rattle.toml.specs.View.{view, table_view};
 ghost use Rattle.pg_operator.specs.Setups.{absent_or, change_in, change_of, port_rules_by, port_rules_of, host_text_in, list_of, network_text_in, optional, whole_in};
 
+use crate::keys::SetupKey;
 use crate::{address, table};
 use pg_limits::{Allow, Network, OnChange};
 use pg_wire::{Refusal, SubId};
@@ -38,13 +39,13 @@ pub(crate) fn port_rules_at(alloc: Global, sub: SubId, table: &Table) -> Result<
     let Some(address) = address_at(table) else {
         return Err(Refusal::BadSetup);
     };
-    let Some(takeover) = table::truth(table, "takeover", false) else {
+    let Some(takeover) = table::truth(table, SetupKey::TAKEOVER.name, false) else {
         return Err(Refusal::BadSetup);
     };
-    let Some(stall) = seconds_at(table, "stall", 30) else {
+    let Some(stall) = stall_at(table) else {
         return Err(Refusal::BadSetup);
     };
-    let Some(idle) = seconds_at(table, "idle", 0) else {
+    let Some(idle) = idle_at(table) else {
         return Err(Refusal::BadSetup);
     };
     let Some(change) = change_at(table) else {
@@ -68,21 +69,24 @@ pub(crate) fn port_rules_at(alloc: Global, sub: SubId, table: &Table) -> Result<
 fn address_at(table: &Table) -> Option<Ipv4Addr>
     ensures { option_map (λ h. ipv4_bits h) result ≡ optional 0 host_text_in (codes "address") (table_view table.now) }
 {
-    match table::value_at(table, "address") {
+    match table::value_at(table, SetupKey::ADDRESS.name) {
         Some(value) => address::bound(value),
         None => Some(Ipv4Addr::new(0, 0, 0, 0)),
     }
 }
 
-/// A number of seconds, up to an hour.
-fn seconds_at(table: &Table, key: &str, otherwise: u16) -> Option<u16>
-    requires { otherwise ≤ 3600 }
-    ensures { result ≡ optional otherwise (whole_in 0 3600) key.now (table_view table.now) }
+/// After how many seconds a connection that accepts nothing is closed.
+fn stall_at(table: &Table) -> Option<u16>
+    ensures { result ≡ optional 30 (whole_in 0 3600) (codes "stall") (table_view table.now) }
 {
-    match table::optional(table, key, u32::from(otherwise), 0, 3600) {
-        Some(seconds) => Some(seconds as u16),
-        None => None,
-    }
+    Some(table::optional(table, &SetupKey::STALL)? as u16)
+}
+
+/// After how many seconds a connection without traffic is closed.
+fn idle_at(table: &Table) -> Option<u16>
+    ensures { result ≡ optional 0 (whole_in 0 3600) (codes "idle") (table_view table.now) }
+{
+    Some(table::optional(table, &SetupKey::IDLE)? as u16)
 }
 
 /// The word for what is done where the blocks of a stream change.
@@ -111,7 +115,7 @@ pub(crate) fn change(value: &Value) -> Option<OnChange>
 fn change_at(table: &Table) -> Option<OnChange>
     ensures { result ≡ optional OnChange.Safe change_in (codes "change") (table_view table.now) }
 {
-    match table::value_at(table, "change") {
+    match table::value_at(table, SetupKey::CHANGE.name) {
         Some(value) => change(value),
         None => Some(OnChange::Safe),
     }
@@ -122,7 +126,7 @@ fn allow_at(alloc: Global, table: &Table) -> Result<Allow, Refusal>
     ensures ok { IfOk result (λ a. absent_or (list_of network_text_in) (codes "allow") (table_view table.now) ≡ Some (option_map (λ v. v.items) a.networks)) }
     ensures err { IfErr result (λ r. (r ≡ Refusal.NoMemory) ⊎ ((r ≡ Refusal.BadSetup) × (absent_or (list_of network_text_in) (codes "allow") (table_view table.now) ≡ None))) }
 {
-    let Some(value) = table::value_at(table, "allow") else {
+    let Some(value) = table::value_at(table, SetupKey::ALLOW.name) else {
         return Ok(Allow { networks: None });
     };
     match networks_in(alloc, value) {

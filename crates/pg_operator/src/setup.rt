@@ -4,6 +4,7 @@ ghost use Rattle.toml.specs.View.{view, table_view};
 ghost use Rattle.pg_operator.specs.Setups.{absent_or, asked_in, asked_of, port_rules_of, edits_by, entry_by, grants_in, list_of, optional, planned, required, settings, setup_in, setup_of, streams_in, subscriber_in, told, whole_in};
 
 use crate::general::{self, LogLevel};
+use crate::keys::SetupKey;
 use crate::port_rules::{PortRules, port_rules_at};
 use crate::source::{self, SourceRules};
 use crate::{pmu, stream, table};
@@ -43,38 +44,8 @@ pub struct Setup {
     pub name: Option<String>,
 }
 
-/// What a setup file asks for. It is TOML, with these keys and no other:
-///
-/// | Key | Values | If absent |
-/// |---|---|---|
-/// | `tick_ms` | 1 to 1000 | 10 |
-/// | `ingest`, `serve` | 1 to 8 | 1 |
-/// | `log` | `"error"`, `"warn"`, `"info"`, `"debug"` | `"info"` |
-/// | `control` | path of a Unix socket: a text of 1 to 107 bytes without a zero byte | no socket |
-/// | `status` | text `A.B.C.D:PORT`, of the page and the metrics | no page |
-/// | `name` | text of 1 to 64 printable ASCII characters | the host's name |
-/// | `pmu`, `subscriber` | tables | required |
-/// | `pmu.id` | 1 to 65534 | required |
-/// | `pmu.source` | 1 to 65534 | equal to `id` |
-/// | `pmu.connect` | text `A.B.C.D:PORT` or `NAME:PORT`, of the source; four numbers 0 to 255, and one 1 to 65535 | no link |
-/// | `pmu.silence` | 1 to 3600 seconds, of the source; 0 never | 10 |
-/// | `pmu.clock_ms` | 1 to 30000 milliseconds, of the source | no guard |
-/// | `pmu.ahead_ms` | 1 to 30000 milliseconds, of the source; 0 for no guard | 200 |
-/// | `subscriber.id` | 1 to 65535 | required |
-/// | `subscriber.port` | 1 to 65535 | no listener |
-/// | `subscriber.ring` | 1 to 1024 | required |
-/// | `subscriber.bytes` | 16 to 16777216 | 16777216 |
-/// | `subscriber.grants` | list of numbers P, which are P/P, or texts "S/P" | none |
-/// | `subscriber.address` | text `A.B.C.D` | `0.0.0.0` |
-/// | `subscriber.allow` | list of texts `A.B.C.D` or `A.B.C.D/BITS`, 0 to 32 bits; an empty list allows nobody | every host |
-/// | `subscriber.takeover` | a boolean | false |
-/// | `subscriber.stall` | 1 to 3600 seconds; 0 never | 30 |
-/// | `subscriber.idle` | 1 to 3600 seconds; 0 never | 0 |
-/// | `subscriber.change` | `"safe"`, `"hangup"`, `"keep"` | `"safe"` |
-/// | `subscriber.stream` | tables | none |
-/// | `stream.id`, `rate`, `base`, `wait`, `window` | as in a line `define` | required |
-/// | `stream.header` | the text itself | empty |
-/// | `stream.members` | list of 1 to 32 numbers or texts, as the grants | required |
+/// What a setup file asks for. It is TOML, with the keys of [`SetupKey`] and no other, and such values as their kinds say; but a stream's
+/// `base`, `wait` and `window` are any numbers of 32 bits, and its `rate` one of 8.
 ///
 /// A NAME is labels joined by dots, at most 253 bytes. A label is one to 63 letters, digits and hyphens, with no hyphen at either end;
 /// the last label is not digits alone, so that no address with a wrong number is a name. Several PMUs of one source may each say its
@@ -128,7 +99,7 @@ fn edits_in(alloc: Global, table: &Table) -> Result<Vec<Edit>, Refusal>
     ensures ok { IfOk result (λ v. asked_in (table_view table.now) ≡ Some v.items) }
     ensures err { IfErr result (λ r. (r ≡ Refusal.NoMemory) ⊎ ((r ≡ Refusal.BadSetup) × (asked_in (table_view table.now) ≡ None))) }
 {
-    if !table::keys_within(&TOP_KEYS, table) {
+    if !table::keys_within(&SetupKey::FILE_KEYS, table) {
         return Err(Refusal::BadSetup);
     }
     let Some(_general) = general::general_at(table) else {
@@ -142,25 +113,12 @@ fn edits_in(alloc: Global, table: &Table) -> Result<Vec<Edit>, Refusal>
     Ok(edits)
 }
 
-/// The keys of the file's own table.
-const TOP_KEYS: [&str; 9] = [
-    "tick_ms",
-    "ingest",
-    "serve",
-    "log",
-    "control",
-    "status",
-    "name",
-    "pmu",
-    "subscriber",
-];
-
 /// What the file's table asks for.
 fn setup_in(alloc: Global, table: &Table) -> Result<Setup, Refusal>
     ensures ok { IfOk result (λ s. setup_in (table_view table.now) ≡ Some (settings s)) }
     ensures err { IfErr result (λ r. (r ≡ Refusal.NoMemory) ⊎ ((r ≡ Refusal.BadSetup) × (setup_in (table_view table.now) ≡ None))) }
 {
-    if !table::keys_within(&TOP_KEYS, table) {
+    if !table::keys_within(&SetupKey::FILE_KEYS, table) {
         return Err(Refusal::BadSetup);
     }
     let Some(general) = general::general_at(table) else {
@@ -191,12 +149,6 @@ fn setup_in(alloc: Global, table: &Table) -> Result<Setup, Refusal>
     })
 }
 
-/// The keys of a subscriber's table.
-const SUBSCRIBER_KEYS: [&str; 12] = [
-    "id", "port", "ring", "bytes", "grants", "stream", "address", "allow", "takeover", "stall",
-    "idle", "change",
-];
-
 /// The edits of the subscribers, the ports that they connect to, and the rules of these.
 #[derive(Drop)]
 struct Subscribers {
@@ -210,7 +162,7 @@ fn subscribers_at(alloc: Global, table: &Table) -> Result<Subscribers, Refusal>
     ensures ok { IfOk result (λ s. option_map planned (required (list_of subscriber_in) (codes "subscriber") (table_view table.now)) ≡ Some (record { edits = s.edits.items; ports = s.ports.items; port_rules = map port_rules_of s.port_rules.items })) }
     ensures err { IfErr result (λ r. (r ≡ Refusal.NoMemory) ⊎ ((r ≡ Refusal.BadSetup) × (required (list_of subscriber_in) (codes "subscriber") (table_view table.now) ≡ None))) }
 {
-    match table::value_at(table, "subscriber") {
+    match table::value_at(table, SetupKey::SUBSCRIBER.name) {
         Some(value) => subscribers_in(alloc, value),
         None => Err(Refusal::BadSetup),
     }
@@ -280,7 +232,7 @@ fn subscriber_in(alloc: Global, value: &Value) -> Result<Subscriber, Refusal>
     let Some(table) = value.as_table() else {
         return Err(Refusal::BadSetup);
     };
-    if !table::keys_within(&SUBSCRIBER_KEYS, table) {
+    if !table::keys_within(&SetupKey::SUBSCRIBER_KEYS, table) {
         return Err(Refusal::BadSetup);
     }
     let Some(entry) = entry_at(table) else {
@@ -338,43 +290,28 @@ fn entry_at(table: &Table) -> Option<Entry>
 pub(crate) fn subscriber_id(table: &Table) -> Option<SubId>
     ensures { result ≡ required (whole_in 1 65535) (codes "id") (table_view table.now) }
 {
-    match table::required(table, "id", 1, 65535) {
-        Some(id) => SubId::new(id as u16),
-        None => None,
-    }
+    SubId::new(table::required(table, &SetupKey::SUBSCRIBER_ID)? as u16)
 }
 
 /// The port that a subscriber connects to, or none where it is left out.
 fn port_at(table: &Table) -> Option<Option<u16>>
     ensures { result ≡ absent_or (whole_in 1 65535) (codes "port") (table_view table.now) }
 {
-    match table::value_at(table, "port") {
-        Some(value) => match table::whole(value, 1, 65535) {
-            Some(port) => Some(Some(port as u16)),
-            None => None,
-        },
-        None => Some(None),
-    }
+    table::number_or_none(table, &SetupKey::PORT)
 }
 
 /// How many data frames a subscriber's ring holds.
 fn ring_size(table: &Table) -> Option<RingSize>
     ensures { result ≡ required (whole_in 1 1024) (codes "ring") (table_view table.now) }
 {
-    match table::required(table, "ring", 1, 1024) {
-        Some(size) => RingSize::new(size as u16),
-        None => None,
-    }
+    RingSize::new(table::required(table, &SetupKey::RING)? as u16)
 }
 
 /// How many bytes of data frames a subscriber's ring holds.
 fn ring_bytes(table: &Table) -> Option<RingBytes>
     ensures { result ≡ optional 16777216 (whole_in 16 16777216) (codes "bytes") (table_view table.now) }
 {
-    match table::optional(table, "bytes", 16_777_216, 16, 16_777_216) {
-        Some(bytes) => RingBytes::new(bytes),
-        None => None,
-    }
+    RingBytes::new(table::optional(table, &SetupKey::BYTES)?)
 }
 
 /// A subscriber's edits: it is added, then its grants, then its streams.
@@ -402,7 +339,7 @@ fn grants_at(alloc: Global, id: SubId, table: &Table) -> Result<Vec<Edit>, Refus
     ensures ok { IfOk result (λ v. optional [] (grants_in id) (codes "grants") (table_view table.now) ≡ Some v.items) }
     ensures err { IfErr result (λ r. (r ≡ Refusal.NoMemory) ⊎ ((r ≡ Refusal.BadSetup) × (optional [] (grants_in id) (codes "grants") (table_view table.now) ≡ None))) }
 {
-    match table::value_at(table, "grants") {
+    match table::value_at(table, SetupKey::GRANTS.name) {
         Some(value) => stream::grants_in(alloc, id, value),
         None => Ok(Vec::new(alloc)),
     }
@@ -413,7 +350,7 @@ fn streams_at(alloc: Global, id: SubId, table: &Table) -> Result<Vec<Edit>, Refu
     ensures ok { IfOk result (λ v. optional [] (streams_in id) (codes "stream") (table_view table.now) ≡ Some v.items) }
     ensures err { IfErr result (λ r. (r ≡ Refusal.NoMemory) ⊎ ((r ≡ Refusal.BadSetup) × (optional [] (streams_in id) (codes "stream") (table_view table.now) ≡ None))) }
 {
-    match table::value_at(table, "stream") {
+    match table::value_at(table, SetupKey::STREAM.name) {
         Some(value) => stream::streams_in(alloc, id, value),
         None => Ok(Vec::new(alloc)),
     }

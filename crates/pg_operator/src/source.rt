@@ -3,15 +3,10 @@ ghost use Rattle.std.specs.Prelude.{◌≡◌, ◌==◌, ◌⊎◌, ◌++◌, If
 ghost use Rattle.std.specs.List.{list_any};
 ghost use Rattle.pg_operator.specs.Setups.{agreed, rules_of, sources_of, told};
 
+use crate::keys::{AHEAD_MS, SILENCE};
 use crate::pmu::PmuTable;
 use pg_wire::{PmuId, Refusal};
 use std::alloc::Global;
-
-/// After how many seconds a source is silent where its tables do not say it.
-const SILENCE: u16 = 10;
-
-/// How many milliseconds a source may be ahead of the reference where its tables do not say it.
-const AHEAD_MS: u16 = 200;
 
 /// How a source is watched.
 #[derive(Clone, Copy, Debug)]

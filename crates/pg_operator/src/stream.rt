@@ -1,8 +1,10 @@
 //! The tables `[[subscriber.stream]]` of the setup file, and a subscriber's grants.
 ghost use Rattle.std.specs.Prelude.{◌≡◌, ◌⊎◌, IfOk, IfErr, IfSome, map, option_map, codes, Some, None, []};
 ghost use Rattle.toml.specs.View.{view, table_view};
-ghost use Rattle.pg_operator.specs.Setups.{key_in, list_of, members_in, numbers_in, optional, required, text_in, stream_in, whole_in, wide, grants_in, streams_in};
+ghost use Rattle.pg_operator.specs.Setups.{key_in, list_of, members_in, numbers_in, optional, required, text_in, keys_within, stream_names, stream_in, whole_in, wide, grants_in, streams_in};
 
+use crate::keys::SetupKey;
+use crate::kind::MEMBER_LIMIT;
 use crate::table;
 use pg_gateway::Edit;
 use pg_lines::Numbers;
@@ -10,12 +12,6 @@ use pg_stream::{Definition, HeaderText, Members};
 use pg_wire::{PmuKey, Refusal, StreamId, SubId};
 use std::alloc::Global;
 use toml::{Table, Value};
-
-/// The keys of a stream's table.
-const STREAM_KEYS: [&str; 7] = ["id", "rate", "base", "wait", "window", "header", "members"];
-
-/// The most members of a stream.
-const MEMBER_LIMIT: usize = 32;
 
 /// The grants of a subscriber.
 pub(crate) fn grants_in(alloc: Global, id: SubId, value: &Value) -> Result<Vec<Edit>, Refusal>
@@ -62,7 +58,7 @@ fn stream_in(alloc: Global, value: &Value) -> Result<Definition, Refusal>
     let Some(table) = value.as_table() else {
         return Err(Refusal::BadSetup);
     };
-    if !table::keys_within(&STREAM_KEYS, table) {
+    if !has_stream_keys(table) {
         return Err(Refusal::BadSetup);
     }
     let Some(numbers) = numbers_in(table) else {
@@ -78,31 +74,33 @@ fn stream_in(alloc: Global, value: &Value) -> Result<Definition, Refusal>
     }
 }
 
-/// A number of 32 bits.
-fn wide(table: &Table, key: &str) -> Option<u32>
-    ensures { result ≡ wide key.now (table_view table.now) }
+/// Whether each key of the table is one of a stream.
+fn has_stream_keys(table: &Table) -> bool
+    ensures { result ≡ keys_within stream_names (table_view table.now) }
 {
-    table::required(table, key, 0, u32::MAX)
+    table::keys_within(&SetupKey::STREAM_KEYS, table)
+}
+
+/// A number of 32 bits: the gateway refuses one that is out of the key's range.
+fn wide(table: &Table, key: &SetupKey) -> Option<u32>
+    ensures { result ≡ wide key.now.name.now (table_view table.now) }
+{
+    table::whole(table::value_at(table, key.name)?, 0, u32::MAX)
 }
 
 /// The number of a stream.
 fn stream_id(table: &Table) -> Option<StreamId>
     ensures { result ≡ required (whole_in 1 65534) (codes "id") (table_view table.now) }
 {
-    match table::required(table, "id", 1, 65534) {
-        Some(id) => StreamId::new(id as u16),
-        None => None,
-    }
+    StreamId::new(table::required(table, &SetupKey::STREAM_ID)? as u16)
 }
 
-/// The rate of a stream.
+/// The rate of a stream, a number of 8 bits: the gateway refuses one that is out of the key's range.
 fn rate(table: &Table) -> Option<u8>
     ensures { result ≡ required (whole_in 0 255) (codes "rate") (table_view table.now) }
 {
-    match table::required(table, "rate", 0, 255) {
-        Some(rate) => Some(rate as u8),
-        None => None,
-    }
+    let value = table::value_at(table, SetupKey::RATE.name)?;
+    Some(table::whole(value, 0, 255)? as u8)
 }
 
 /// The numbers of a definition.
@@ -112,9 +110,9 @@ fn numbers_in(table: &Table) -> Option<Numbers>
 {
     let stream = stream_id(table)?;
     let rate = rate(table)?;
-    let base = wide(table, "base")?;
-    let wait = wide(table, "wait")?;
-    let window = wide(table, "window")?;
+    let base = wide(table, &SetupKey::BASE)?;
+    let wait = wide(table, &SetupKey::WAIT)?;
+    let window = wide(table, &SetupKey::WINDOW)?;
     Some(Numbers {
         stream,
         rate,
@@ -129,7 +127,7 @@ fn header_in(alloc: Global, table: &Table) -> Result<HeaderText, Refusal>
     ensures ok { IfOk result (λ text. optional [] text_in (codes "header") (table_view table.now) ≡ Some text) }
     ensures err { IfErr result (λ r. (r ≡ Refusal.NoMemory) ⊎ ((r ≡ Refusal.BadSetup) × (optional [] text_in (codes "header") (table_view table.now) ≡ None))) }
 {
-    match table::value_at(table, "header") {
+    match table::value_at(table, SetupKey::HEADER.name) {
         None => Ok(HeaderText::new(Vec::new(alloc))),
         Some(Value::String(text)) => Ok(HeaderText::new(Vec::from_slice(alloc, text.as_bytes())?)),
         Some(_) => Err(Refusal::BadSetup),
@@ -141,7 +139,7 @@ fn members_at(alloc: Global, table: &Table) -> Result<Members, Refusal>
     ensures ok { IfOk result (λ m. required members_in (codes "members") (table_view table.now) ≡ Some m) }
     ensures err { IfErr result (λ r. (r ≡ Refusal.NoMemory) ⊎ ((r ≡ Refusal.BadSetup) × (required members_in (codes "members") (table_view table.now) ≡ None))) }
 {
-    match table::value_at(table, "members") {
+    match table::value_at(table, SetupKey::MEMBERS.name) {
         Some(value) => members_in(alloc, value),
         None => Err(Refusal::BadSetup),
     }

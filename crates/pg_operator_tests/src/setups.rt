@@ -2,7 +2,7 @@
 
 use crate::asserts::same;
 use crate::told::{edits_told, port_told, watch_told};
-use pg_operator::{Setup, read_setup};
+use pg_operator::{Setup, help_on_keys, read_setup};
 use std::alloc::Global;
 use std::process::Abort;
 use std::test::*;
@@ -402,4 +402,24 @@ fn setup_files(rt: HostRuntime) {
             same(&rt, told.as_str(), row);
         }
     }
+}
+
+/// Lines of the help on keys: those of a key of the file, of the heading of a table, and of one of its keys.
+const HELP: &str =
+    r#"  tick_ms                  milliseconds from tick to tick; `wait` counts ticks (1 to 1000; default 10; example 20)
+  [[subscriber]]           a subscriber
+    grants                 PMUs that it may have, at most 32; a number N is the PMU N/N (a list of PMUs, each a number
+                           from 1 to 65534 or a text "SOURCE/PMU" of two; default none; example [7, "300/11"])"#;
+
+#[test]
+fn help_on_the_keys(rt: HostRuntime) {
+    let help = help_on_keys(rt.alloc()).expect(&rt, "memory");
+    for line in HELP.split('\n') {
+        same(&rt, help.as_str().split('\n').any(|it| it == line), true);
+    }
+    same(
+        &rt,
+        help.as_str().split('\n').any(|it| it.len() > 120),
+        false,
+    );
 }

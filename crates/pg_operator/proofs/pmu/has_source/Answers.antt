@@ -1,7 +1,7 @@
 use Rattle.std.proofs.Common.{rules, ◌∙◌, ◌==◌, string_bytes}
 use Rattle.std.proofs.lemmas.Iterator.{YieldsList-from_slice}
 use Rattle.std.proofs.lemmas.Iterator.Search.{any_from_yields_List}
-use Rattle.pg_operator.proofs.Keys.{list_any-map}
+use Rattle.pg_operator.proofs.Names.{list_any-map}
 use borrow.Author.Tests.{tests}
 use Rattle.pg_operator.proofs.pmu.has_source.Goals as goal
 
