@@ -60,7 +60,7 @@ load "4 sources of 16 blocks, S64" 15895 4 --blocks 16 --subscribers 64
 load "P1 S64" 30953 1 --subscribers 64
 difference "a subscriber that the frame does not concern" 0 16 idle --idle 16 32
 # (of 16 subscribers: the places in memory alone make a frame take some 7 more or less)
-difference "a stream that is off" 0 48 off --off 3 6 --subscribers 16
+difference "a stream that is off" 12 48 off --off 3 6 --subscribers 16
 drained=$(frame drained 1 --drained)
 printf '%-44s %8d\n' "P1 S1, drained every second" "$drained"
 echo "$above above their bound"
