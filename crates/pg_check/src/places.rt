@@ -45,7 +45,7 @@ impl Places {
     }
 
     /// The table of the last subscriber.
-    pub(crate) fn subscriber(&self) -> SetupTable {
+    fn subscriber(&self) -> SetupTable {
         SetupTable::Subscriber(self.subscribers.saturating_sub(1))
     }
 }

@@ -1,9 +1,9 @@
 //! The words of a report.
 
 use pg_gateway::Edit;
-use pg_operator::{PortRules, Setup, SourceRules};
+use pg_operator::{PortRules, PortSetup, Setup, SourceSetup, SubscriberSetup};
 use pg_stream::Definition;
-use pg_wire::{PmuId, PmuKey, Refusal, SubId};
+use pg_wire::{PmuKey, Refusal, SubId};
 use std::alloc::{AllocError, Global};
 use std::fmt;
 
@@ -76,64 +76,43 @@ pub(crate) fn reason(refusal: Refusal) -> &'static str {
 
 /// What would run, a line for each source, subscriber and stream.
 pub(crate) fn report_of(alloc: Global, setup: &Setup) -> Result<String, AllocError> {
+    let ports = setup.subscribers.iter().filter(|it| it.port.is_some());
     let mut report = format!(in alloc;
         "{}, {}; a tick every {} ms; threads: {} for sources, {} for subscribers\n",
         Count(setup.sources.len(), "source"),
-        Count(setup.ports.len(), "port"),
+        Count(ports.count(), "port"),
         setup.tick_ms,
         setup.ingest,
         setup.serve
     )?;
-    for rules in &setup.sources {
-        let line = source_line(alloc, setup, rules)?;
+    for source in &setup.sources {
+        let line = source_line(alloc, setup, source)?;
         report.push_str(line.as_str())?;
     }
-    for edit in &setup.edits {
-        match edit {
-            Edit::AddSub(sub, ring, bytes) => {
-                let line = subscriber_line(alloc, setup, *sub)?;
-                report.push_str(line.as_str())?;
-                let line = format!(in alloc;
-                    "; ring of {}, {} bytes\n",
-                    Count(usize::from(ring.get()), "frame"),
-                    bytes.get()
-                )?;
-                report.push_str(line.as_str())?;
-            }
-            Edit::Define(sub, definition) => {
-                let line = stream_line(alloc, *sub, definition)?;
-                report.push_str(line.as_str())?;
-            }
-            _ => {}
+    for subscriber in &setup.subscribers {
+        let line = subscriber_line(alloc, subscriber)?;
+        report.push_str(line.as_str())?;
+        for definition in &subscriber.streams {
+            let line = stream_line(alloc, subscriber.sub, definition)?;
+            report.push_str(line.as_str())?;
         }
     }
     Ok(report)
 }
 
-/// How many PMUs a source has.
-fn pmu_count(setup: &Setup, source: PmuId) -> usize {
-    let mut count = 0usize;
-    for edit in &setup.edits {
-        if let Edit::AddPmu(key) = edit {
-            if key.source == source {
-                count = count.saturating_add(1);
-            }
-        }
-    }
-    count
-}
-
 /// A source: its PMUs, its address, and its rules by their keys; `clock_ms` where it is given.
-fn source_line(alloc: Global, setup: &Setup, rules: &SourceRules) -> Result<String, AllocError> {
+fn source_line(alloc: Global, setup: &Setup, source: &SourceSetup) -> Result<String, AllocError> {
+    let rules = source.rules;
+    let pmus = setup.pmus.iter().filter(|key| key.source == rules.source);
     let mut line = format!(in alloc;
         "source {}: {}; ",
         rules.source.get(),
-        Count(pmu_count(setup, rules.source), "PMU")
+        Count(pmus.count(), "PMU")
     )?;
-    match setup.links.iter().find(|link| link.0 == rules.source) {
-        Some((_, address)) => {
-            line.push_str("connect ")?;
-            line.push_str(address.as_str())?;
+    match &source.connect {
+        Some(address) => {
+            let connect = format!(in alloc; "connect {address}")?;
+            line.push_str(connect.as_str())?;
         }
         None => line.push_str("no connect")?,
     }
@@ -154,21 +133,26 @@ fn source_line(alloc: Global, setup: &Setup, rules: &SourceRules) -> Result<Stri
     Ok(line)
 }
 
-/// A subscriber: where it connects, and from where.
-fn subscriber_line(alloc: Global, setup: &Setup, sub: SubId) -> Result<String, AllocError> {
-    let rules = setup.port_rules.iter().find(|rules| rules.sub == sub);
-    let port = setup.ports.iter().find(|port| port.0 == sub);
-    match (rules, port) {
-        (Some(rules), Some((_, port))) => {
+/// A subscriber: where it connects, from where, and its ring.
+fn subscriber_line(alloc: Global, subscriber: &SubscriberSetup) -> Result<String, AllocError> {
+    let number = subscriber.sub.get();
+    let mut line = match &subscriber.port {
+        Some(PortSetup { port, rules }) => {
             let hosts = hosts_text(rules);
             format!(in alloc;
-                "subscriber {}: port {port} on {}, {hosts}",
-                sub.get(),
+                "subscriber {number}: port {port} on {}, {hosts}",
                 rules.address
-            )
+            )?
         }
-        _ => format!(in alloc; "subscriber {}: no port", sub.get()),
-    }
+        None => format!(in alloc; "subscriber {number}: no port")?,
+    };
+    let ring = format!(in alloc;
+        "; ring of {}, {} bytes\n",
+        Count(usize::from(subscriber.ring.get()), "frame"),
+        subscriber.bytes.get()
+    )?;
+    line.push_str(ring.as_str())?;
+    Ok(line)
 }
 
 /// The hosts that may connect.

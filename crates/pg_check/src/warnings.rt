@@ -1,10 +1,11 @@
 //! What a setup may say, and what is seldom meant.
 
 use crate::listing::Listing;
-use crate::places::Places;
 use crate::report::key_text;
-use pg_gateway::Edit;
-use pg_operator::{Setup, SetupLines, SetupTable, SourceRules};
+use pg_operator::{
+    PortSetup, Setup, SetupLines, SetupTable, SourceAddress, SourceRules, SourceSetup,
+    SubscriberSetup,
+};
 use pg_stream::Definition;
 use pg_wire::{PmuId, PmuKey, SubId};
 use std::alloc::{AllocError, Global};
@@ -50,14 +51,6 @@ struct Search<'a> {
     told: Listing,
 }
 
-/// A subscriber's port on an address of this machine.
-#[derive(Clone, Copy)]
-struct Listener {
-    sub: SubId,
-    address: Ipv4Addr,
-    port: u16,
-}
-
 impl Search<'_> {
     /// Warns of a key of this table.
     fn warn(&mut self, table: SetupTable, key: &str, what: &str) -> Result<(), AllocError> {
@@ -68,31 +61,25 @@ impl Search<'_> {
     /// Looks at each port of a subscriber.
     fn look_at_ports(&mut self) -> Result<(), AllocError> {
         let setup = self.setup;
-        for (number, (_, port)) in setup.ports.iter().enumerate() {
-            if let Some(rules) = setup.port_rules.get(number) {
-                let own = Listener {
-                    sub: rules.sub,
-                    address: rules.address,
-                    port: *port,
-                };
-                self.look_at_port(number, own)?;
+        for (number, subscriber) in setup.subscribers.iter().enumerate() {
+            if let Some(port) = &subscriber.port {
+                self.look_at_port(number, port)?;
             }
         }
         Ok(())
     }
 
-    /// Looks at the port with this number: whether one before it, or the page, is on the same.
-    fn look_at_port(&mut self, number: usize, own: Listener) -> Result<(), AllocError> {
+    /// Looks at the port of the subscriber with this number: whether one before it, or the page, is on the same.
+    fn look_at_port(&mut self, number: usize, own: &PortSetup) -> Result<(), AllocError> {
         let setup = self.setup;
-        let (sub, address, port) = (own.sub.get(), own.address, own.port);
-        let shared = shared_before(setup, number, own);
-        if let Some(other) = shared {
+        let (sub, address, port) = (own.rules.sub.get(), own.rules.address, own.port);
+        if let Some(other) = shared_before(setup, number, own) {
             let what = format!(in self.alloc;
                 "subscriber {sub}: port {port} on {address} is the port of subscriber {} too, so one of them can't be bound; give each its \
                  own port",
                 other.get()
             )?;
-            self.warn(subscriber_table(setup, own.sub), "port", what.as_str())?;
+            self.warn(SetupTable::Subscriber(number), "port", what.as_str())?;
         }
         let page = setup
             .status
@@ -106,22 +93,23 @@ impl Search<'_> {
         Ok(())
     }
 
-    /// Looks at each source: whether it is called, where, and how far its time may be off.
+    /// Looks at each source: whether it is connected to, where, and how far its time may be off.
     fn look_at_sources(&mut self) -> Result<(), AllocError> {
         let setup = self.setup;
-        for rules in &setup.sources {
-            let table = source_table(setup, rules.source);
-            match address_of(setup, rules.source) {
-                Some(address) => self.look_at_address(table, rules.source, address)?,
+        for source in &setup.sources {
+            let number = source.rules.source;
+            let table = source_table(setup, number);
+            match &source.connect {
+                Some(address) => self.look_at_address(table, number, address)?,
                 None => {
                     let what = format!(in self.alloc;
                         "source {}: none of its tables has connect, so no connection is made; add connect to one",
-                        rules.source.get()
+                        number.get()
                     )?;
                     self.warn(table, "connect", what.as_str())?;
                 }
             }
-            self.look_at_clock(table, rules)?;
+            self.look_at_clock(table, &source.rules)?;
         }
         Ok(())
     }
@@ -131,11 +119,12 @@ impl Search<'_> {
         &mut self,
         table: SetupTable,
         source: PmuId,
-        address: &str,
+        address: &SourceAddress,
     ) -> Result<(), AllocError> {
         let setup = self.setup;
-        let first = setup.links.iter().find(|link| link.1.as_str() == address);
-        if let Some((other, _)) = first.filter(|first| first.0 != source) {
+        let mut same = setup.sources.iter().filter(|it| has_address(it, address));
+        let first = same.next().map(|it| it.rules.source);
+        if let Some(other) = first.filter(|first| *first != source) {
             let what = format!(in self.alloc;
                 "source {}: {address} is the address of source {} too; give each source its own",
                 source.get(),
@@ -143,13 +132,12 @@ impl Search<'_> {
             )?;
             self.warn(table, "connect", what.as_str())?;
         }
-        for (sub, port) in &setup.ports {
-            let own = format!(in self.alloc; "127.0.0.1:{port}")?;
-            if own.as_str() == address {
+        for subscriber in &setup.subscribers {
+            if is_own_port(subscriber, address) {
                 let what = format!(in self.alloc;
                     "source {}: {address} is the port of subscriber {} of this gateway itself; give the address of the PMU or PDC",
                     source.get(),
-                    sub.get()
+                    subscriber.sub.get()
                 )?;
                 self.warn(table, "connect", what.as_str())?;
             }
@@ -168,12 +156,12 @@ impl Search<'_> {
             stream: 0,
             ms: u64::from(limit),
         };
-        for edit in &setup.edits {
-            if let Edit::Define(sub, definition) = edit {
+        for subscriber in &setup.subscribers {
+            for definition in &subscriber.streams {
                 let ms = held_ms(setup, definition);
                 if ms < least.ms && has_source(definition, rules.source) {
                     least = Hold {
-                        sub: sub.get(),
+                        sub: subscriber.sub.get(),
                         stream: definition.stream.get(),
                         ms,
                     };
@@ -197,21 +185,14 @@ impl Search<'_> {
     /// Looks at each subscriber and each stream.
     fn look_at_subscribers(&mut self) -> Result<(), AllocError> {
         let setup = self.setup;
-        let mut places = Places::new();
-        let mut bytes = 0u32;
-        for edit in &setup.edits {
-            let (table, _) = places.next(edit);
-            match edit {
-                Edit::AddSub(sub, ring, size) => {
-                    bytes = size.get();
-                    self.look_at_ring(table, *sub, usize::from(ring.get()))?;
-                }
-                Edit::Define(sub, definition) => {
-                    self.look_at_members(table, *sub, definition)?;
-                    self.look_at_window(table, *sub, definition)?;
-                    self.look_at_bytes(places.subscriber(), *sub, definition, bytes)?;
-                }
-                _ => {}
+        for (number, subscriber) in setup.subscribers.iter().enumerate() {
+            let table = SetupTable::Subscriber(number);
+            self.look_at_ring(table, subscriber)?;
+            for (place, definition) in subscriber.streams.iter().enumerate() {
+                let stream = SetupTable::Stream(number, place);
+                self.look_at_members(stream, subscriber, definition)?;
+                self.look_at_window(stream, subscriber.sub, definition)?;
+                self.look_at_bytes(table, subscriber, definition)?;
             }
         }
         Ok(())
@@ -221,20 +202,16 @@ impl Search<'_> {
     fn look_at_ring(
         &mut self,
         table: SetupTable,
-        sub: SubId,
-        ring: usize,
+        subscriber: &SubscriberSetup,
     ) -> Result<(), AllocError> {
-        let defined = self.setup.edits.iter().filter(|edit| match edit {
-            Edit::Define(own, _) => *own == sub,
-            _ => false,
-        });
-        let streams = defined.count();
+        let ring = usize::from(subscriber.ring.get());
+        let streams = subscriber.streams.len();
         if ring >= streams {
             return Ok(());
         }
         let what = format!(in self.alloc;
             "subscriber {}: ring {ring} is too small for one frame of each of its {streams} streams; at least {streams}",
-            sub.get()
+            subscriber.sub.get()
         )?;
         self.warn(table, "ring", what.as_str())
     }
@@ -243,13 +220,13 @@ impl Search<'_> {
     fn look_at_members(
         &mut self,
         table: SetupTable,
-        sub: SubId,
+        subscriber: &SubscriberSetup,
         definition: &Definition,
     ) -> Result<(), AllocError> {
         for key in definition.members.as_slice() {
-            let lack = if !is_registered(self.setup, key) {
+            let lack = if !self.setup.pmus.iter().any(|own| own == key) {
                 "no table [[pmu]] has it, so it is never in a frame; add the table, or correct the member"
-            } else if !is_granted(self.setup, sub, key) {
+            } else if !is_granted(subscriber, key) {
                 "it is not granted, so it is never in a frame; add it to grants, or correct the member"
             } else {
                 continue;
@@ -257,7 +234,7 @@ impl Search<'_> {
             let member = key_text(self.alloc, key)?;
             let what = format!(in self.alloc;
                 "subscriber {}: stream {}: member {member}: {lack}",
-                sub.get(),
+                subscriber.sub.get(),
                 definition.stream.get()
             )?;
             self.warn(table, "members", what.as_str())?;
@@ -295,23 +272,21 @@ impl Search<'_> {
     fn look_at_bytes(
         &mut self,
         table: SetupTable,
-        sub: SubId,
+        subscriber: &SubscriberSetup,
         definition: &Definition,
-        bytes: u32,
     ) -> Result<(), AllocError> {
         let members = definition.members.as_slice();
-        let granted = members
-            .iter()
-            .filter(|key| is_granted(self.setup, sub, key));
+        let granted = members.iter().filter(|key| is_granted(subscriber, key));
         let blocks = (granted.count() as u64).saturating_mul(BLOCK_BYTES);
         let least = blocks.saturating_add(FRAME_BYTES);
+        let bytes = subscriber.bytes.get();
         if u64::from(bytes) >= least {
             return Ok(());
         }
         let what = format!(in self.alloc;
             "subscriber {}: bytes {bytes} is below one full frame of stream {} ({least} bytes or more), so its frames are dropped; at \
              least {least}",
-            sub.get(),
+            subscriber.sub.get(),
             definition.stream.get()
         )?;
         self.warn(table, "bytes", what.as_str())
@@ -326,12 +301,12 @@ struct Hold {
     ms: u64,
 }
 
-/// The subscriber of the first port, before the one with this number, that can't be bound beside this one.
-fn shared_before(setup: &Setup, number: usize, own: Listener) -> Option<SubId> {
-    for (place, (sub, port)) in setup.ports.iter().enumerate().take(number) {
-        if let Some(rules) = setup.port_rules.get(place) {
-            if *port == own.port && meet(rules.address, own.address) {
-                return Some(*sub);
+/// The first subscriber, before the one with this number, whose port can't be bound beside this one.
+fn shared_before(setup: &Setup, number: usize, own: &PortSetup) -> Option<SubId> {
+    for subscriber in setup.subscribers.iter().take(number) {
+        if let Some(PortSetup { port, rules }) = &subscriber.port {
+            if *port == own.port && meet(rules.address, own.rules.address) {
+                return Some(subscriber.sub);
             }
         }
     }
@@ -343,49 +318,33 @@ fn meet(one: Ipv4Addr, other: Ipv4Addr) -> bool {
     one == other || one.is_unspecified() || other.is_unspecified()
 }
 
-/// The address at which a source is called.
-fn address_of(setup: &Setup, source: PmuId) -> Option<&str> {
-    let (_, address) = setup.links.iter().find(|link| link.0 == source)?;
-    Some(address.as_str())
+/// Whether a source is connected to at this address.
+fn has_address(source: &SourceSetup, address: &SourceAddress) -> bool {
+    match &source.connect {
+        Some(own) => own == address,
+        None => false,
+    }
+}
+
+/// Whether this is the address of the subscriber's own port, on this host.
+fn is_own_port(subscriber: &SubscriberSetup, address: &SourceAddress) -> bool {
+    match (&subscriber.port, address) {
+        (Some(own), SourceAddress::Endpoint(address)) => {
+            *address.ip() == Ipv4Addr::LOCALHOST && address.port() == own.port
+        }
+        _ => false,
+    }
 }
 
 /// The first table of this source.
 fn source_table(setup: &Setup, source: PmuId) -> SetupTable {
-    let place = setup.edits.iter().position(|edit| match edit {
-        Edit::AddPmu(key) => key.source == source,
-        _ => false,
-    });
+    let place = setup.pmus.iter().position(|key| key.source == source);
     SetupTable::Pmu(place.unwrap_or(0))
 }
 
-/// The table of this subscriber.
-fn subscriber_table(setup: &Setup, sub: SubId) -> SetupTable {
-    let mut places = Places::new();
-    for edit in &setup.edits {
-        let (table, _) = places.next(edit);
-        if let Edit::AddSub(own, ..) = edit {
-            if *own == sub {
-                return table;
-            }
-        }
-    }
-    SetupTable::File
-}
-
-/// Whether a table has this PMU.
-fn is_registered(setup: &Setup, key: &PmuKey) -> bool {
-    setup.edits.iter().any(|edit| match edit {
-        Edit::AddPmu(own) => own == key,
-        _ => false,
-    })
-}
-
 /// Whether this PMU is granted to this subscriber.
-fn is_granted(setup: &Setup, sub: SubId, key: &PmuKey) -> bool {
-    setup.edits.iter().any(|edit| match edit {
-        Edit::Grant(own, granted) => *own == sub && granted == key,
-        _ => false,
-    })
+fn is_granted(subscriber: &SubscriberSetup, key: &PmuKey) -> bool {
+    subscriber.grants.iter().any(|granted| granted == key)
 }
 
 /// Whether a stream has a PMU of this source.

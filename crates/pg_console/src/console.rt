@@ -182,8 +182,8 @@ impl<'a, W: Write> Console<'a, W> {
 
     /// Whether a PMU of this source is registered.
     pub fn has_source<R: Wait>(&self, rt: &R, source: PmuId) -> bool {
-        let registered = self.service.registered.lock(rt);
-        registered.has(source)
+        let directory = self.service.directory.lock(rt);
+        directory.has(source)
     }
 
     /// Posts an edit, gives workers what it asks of them, and leaves what came of it for the log.
@@ -223,9 +223,9 @@ impl<'a, W: Write> Console<'a, W> {
         reply: &Reply,
     ) {
         let matters = change.is_of_ring();
-        let mut registered = self.service.registered.lock(rt);
-        let noted = registered.note(change, reply);
-        drop(registered);
+        let mut directory = self.service.directory.lock(rt);
+        let noted = directory.note(change, reply);
+        drop(directory);
         match noted {
             Ok(after) => self.service.tell(rt, after),
             Err(_) => self.service.note(LogEvent::MailFault),

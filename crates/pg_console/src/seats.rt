@@ -1,7 +1,6 @@
 //! A gateway that threads share: first a setup's edits are posted, then workers serve, and at the end their seats are joined.
 
 ghost use Rattle.std.specs.Prelude.{◌≡◌, List, length, map, Option, Some, [], IfOk, IfErr, IfSome, vec_len};
-ghost use Rattle.atomic_table.specs.Seated.{TableId};
 ghost use Rattle.pg_ingest.specs.Runs.{event_posted};
 ghost use Rattle.pg_shared.specs.Gates.{said_at};
 ghost use Rattle.pg_shared.specs.Edits.{edited};
@@ -26,7 +25,7 @@ pub struct SetUp {
     /// The one seat at it.
     pub seat: Seat,
     /// The PMUs and subscribers that it has.
-    pub registered: Directory,
+    pub directory: Directory,
 }
 
 /// A new gateway with these edits posted, and the one seat at it. So they are posted before a worker can be there. What stands at
@@ -40,12 +39,12 @@ pub fn set_up<R: Wait>(rt: &R, alloc: Global, edits: Vec<Edit>) -> Result<SetUp,
     ensures posted { IfOk result (λ made. map event_posted (said_at made.seat.seen made.seat.own) ≡ map edited edits.items) }
 {
     let (shared, seat) = Shared::new(alloc, Gateway::new(alloc)?)?;
-    let mut registered = Directory::new(alloc)?;
-    let seat = post_all::<R, Brand>(rt, &shared, seat, edits, &mut registered)?;
+    let mut directory = Directory::new(alloc)?;
+    let seat = post_all::<R, Brand>(rt, &shared, seat, edits, &mut directory)?;
     Ok(SetUp {
         shared,
         seat,
-        registered,
+        directory,
     })
 }
 
@@ -55,7 +54,7 @@ fn post_all<'a, R: Wait, N: Named>(
     shared: &'a Shared,
     seat: Seat,
     edits: Vec<Edit>,
-    registered: &mut Directory,
+    directory: &mut Directory,
 ) -> Result<Seat, Refusal>
     requires shared { shared.now ≡ N.table }
     requires seat { seat.table ≡ N.table }
@@ -63,22 +62,19 @@ fn post_all<'a, R: Wait, N: Named>(
     ensures posted { IfOk result (λ after. PostsEdits edits.items [] (Some (said_at seat.seen seat.own)) (Some (said_at after.seen after.own))) }
 {
     let mut gate = SharedGate::<R, N>::new(rt, shared, seat);
-    post_edits(&mut gate, edits, registered)?;
+    post_edits(&mut gate, edits, directory)?;
     Ok(gate.into_seat())
 }
 
-/// What may hold a seat of one shared gateway, and gives it back at the end.
-pub trait HoldsSeat {
-    // The shared gateway.
-    ghost table: { TableId };
-
+/// What may hold a seat of the shared gateway that N names, and gives it back at the end.
+pub trait HoldsSeat<N: Named> {
     // Whether this, a seat or none, is what it may give back.
     ghost gives: { Self → Option Place → Type 0 };
 
     /// Gives its seat back, if it has one.
     fn into_seat(self) -> Option<Seat>
         ensures gives { gives self result }
-        ensures table { IfSome result (λ seat. seat.table ≡ table) };
+        ensures table { IfSome result (λ seat. seat.table ≡ N.table) };
 }
 
 /// Serves by these workers, each in a thread of its own, until all have ended, and joins the seats that they give back to
@@ -90,7 +86,7 @@ pub trait HoldsSeat {
 /// # Errors
 ///
 /// `NoMemory`, where a thread can't be started or there is none for the lists. Then all workers are dropped with their seats.
-pub fn serve_by<R: Threads + Wait + Sync, W: Work + HoldsSeat + Send + Drop>(
+pub fn serve_by<R: Threads + Wait + Sync, N: Named, W: Work + HoldsSeat<N> + Send + Drop>(
     rt: &R,
     alloc: Global,
     shared: &Shared,
@@ -98,19 +94,19 @@ pub fn serve_by<R: Threads + Wait + Sync, W: Work + HoldsSeat + Send + Drop>(
     workers: Vec<W>,
     stop: &AtomicBool,
 ) -> Result<Seat, Refusal>
-    requires shared { shared.now ≡ W.table }
-    requires seat { seat.table ≡ W.table }
+    requires shared { shared.now ≡ N.table }
+    requires seat { seat.table ≡ N.table }
     ensures joins { IfOk result (λ joined. (back : List W) × (length back ≡ vec_len workers) × Joins W.gives seat back joined) }
     ensures memory { IfErr result (λ refusal. refusal ≡ Refusal.NoMemory) }
 {
     let back = run_workers(rt, alloc, workers, u64::MAX, stop)?;
-    Ok(join_all(shared, seat, back))
+    Ok(join_all::<N, W>(shared, seat, back))
 }
 
 /// Joins the seats of these workers to this one, in their order.
-fn join_all<W: HoldsSeat + Drop>(shared: &Shared, seat: Seat, workers: Vec<W>) -> Seat
-    requires shared { shared.now ≡ W.table }
-    requires seat { seat.table ≡ W.table }
+fn join_all<N: Named, W: HoldsSeat<N> + Drop>(shared: &Shared, seat: Seat, workers: Vec<W>) -> Seat
+    requires shared { shared.now ≡ N.table }
+    requires seat { seat.table ≡ N.table }
     ensures joins { Joins W.gives seat workers.items result }
 {
     let mut joined = seat;

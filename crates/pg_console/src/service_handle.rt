@@ -23,10 +23,10 @@ pub struct ServiceHandle<'a> {
     pub handles: WorkerHandles<'a>,
     /// The gateway's name.
     pub name: &'a str,
-    /// The PMUs and subscribers that are registered.
-    pub registered: &'a Mutex<Directory>,
-    /// The mailbox of the worker that serves the control socket and the page, if there is one.
-    pub window: Option<&'a Mailbox<()>>,
+    /// The PMUs and subscribers that are registered, and which worker has which source or subscriber.
+    pub directory: &'a Mutex<Directory>,
+    /// The mailbox of the admin worker, which serves the control socket and the page, if there is one.
+    pub admin: Option<&'a Mailbox<()>>,
     /// The reloads that clients of the control socket ask for, where that is open.
     pub reloads: Option<&'a Reloads>,
     /// Set where all workers are to end.
@@ -52,20 +52,26 @@ impl ServiceHandle<'_> {
             Entry::new(LogEvent::Quit, Subject::Nobody, Detail::Nothing),
         );
         self.stop.store(true, Ordering::SeqCst);
+        self.wake_all();
+    }
+
+    /// Wakes all workers that have a mailbox, so that they see whether they are to end.
+    pub fn wake_all(&self) {
+        let journal = self.handles.journal;
         for mailbox in self.sources {
             mailbox.wake(journal);
         }
         self.handles.wake_ports();
         self.handles.resolver.wake(journal);
-        self.wake_window();
+        self.wake_admin();
         if let Some(reloads) = self.reloads {
             reloads.wake(journal);
         }
     }
 
-    /// Wakes the worker that serves the control socket and the page, if there is one.
-    pub fn wake_window(&self) {
-        if let Some(mailbox) = self.window {
+    /// Wakes the admin worker, if there is one.
+    pub fn wake_admin(&self) {
+        if let Some(mailbox) = self.admin {
             mailbox.wake(self.handles.journal);
         }
     }
@@ -73,9 +79,9 @@ impl ServiceHandle<'_> {
     /// Says to the workers that call sources how many of their events may make frames before those that were made are handed out: a
     /// quarter less than what fills a ring, which is left for ticks, and one at least.
     pub fn tell_room<R: Wait>(&self, rt: &R) {
-        let registered = self.registered.lock(rt);
-        let room = registered.room();
-        drop(registered);
+        let directory = self.directory.lock(rt);
+        let room = directory.room();
+        drop(directory);
         let workers = u32::try_from(self.sources.len()).unwrap_or(u32::MAX).max(1);
         let events = ((room - room / 4) / workers).max(1);
         for mailbox in self.sources {
@@ -125,11 +131,11 @@ impl ServiceHandle<'_> {
 
     /// The source is called from now on, by its worker.
     pub fn dial<R: Wait>(&self, rt: &R, dial: Dial) {
-        let mut registered = self.registered.lock(rt);
-        let place = registered
+        let mut directory = self.directory.lock(rt);
+        let place = directory
             .callers
             .worker_of(dial.source.get(), self.sources.len());
-        drop(registered);
+        drop(directory);
         match mailbox_at(self.sources, place) {
             Some(mailbox) => {
                 mailbox.send(rt, self.handles.journal, SourceOrder::Dial(dial));
@@ -180,9 +186,9 @@ impl ServiceHandle<'_> {
     /// Sends this order to the worker that serves the subscriber.
     fn send_to_server<R: Wait>(&self, rt: &R, sub: SubId, order: PortOrder) {
         let WorkerHandles { ports, journal, .. } = self.handles;
-        let mut registered = self.registered.lock(rt);
-        let place = registered.servers.worker_of(sub.get(), ports.len());
-        drop(registered);
+        let mut directory = self.directory.lock(rt);
+        let place = directory.servers.worker_of(sub.get(), ports.len());
+        drop(directory);
         match mailbox_at(ports, place) {
             Some(mailbox) => mailbox.send(rt, journal, order),
             None => self.note(LogEvent::MailFault),

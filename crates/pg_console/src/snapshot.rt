@@ -68,14 +68,14 @@ fn registered_at<R: Wait>(
 ) -> Result<(Vec<PmuId>, Vec<SubId>), AllocError> {
     let mut sources = Vec::new(alloc);
     let mut subs = Vec::new(alloc);
-    let registered = service.registered.lock(rt);
-    for key in registered.pmus() {
+    let directory = service.directory.lock(rt);
+    for key in directory.pmus() {
         if !sources.contains(&key.source) {
             sources.push(key.source)?;
         }
     }
-    subs.extend_from_slice(registered.subscribers())?;
-    drop(registered);
+    subs.extend_from_slice(directory.subscribers())?;
+    drop(directory);
     subs.sort_unstable_by_key(|it| it.get());
     Ok((sources, subs))
 }

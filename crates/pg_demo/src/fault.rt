@@ -3,6 +3,7 @@
 use pg_wire::Refusal;
 use std::alloc::{AllocError, AllocFailed};
 use std::io;
+use std::io::ErrorKind;
 use thiserror::Error;
 
 /// What ends a demo before its time.
@@ -18,7 +19,10 @@ pub enum Fault {
 
 impl From<io::Error> for Fault {
     fn from(error: io::Error) -> Fault {
-        Fault::Tool(pg_tools::Fault::System(error))
+        match error.kind() {
+            ErrorKind::OutOfMemory => Fault::Refused(Refusal::NoMemory),
+            _ => Fault::Tool(pg_tools::Fault::System(error)),
+        }
     }
 }
 

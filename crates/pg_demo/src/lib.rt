@@ -8,6 +8,7 @@ mod run_demo;
 mod runtime;
 mod setup;
 mod simulators;
+mod sockets;
 mod state;
 mod subscribers;
 mod workers;

@@ -5,13 +5,16 @@ ghost use Rattle.std.specs.Prelude.{◌≡◌};
 use crate::fault::Fault;
 use crate::runtime::Runtime;
 use crate::setup::edits;
-use crate::state::{DemoState, Mailboxes};
-use crate::workers::{Waits, make_workers};
-use pg_console::{SetUp, set_up};
+use crate::sockets::Sockets;
+use crate::state::DemoState;
+use crate::workers::own_workers;
+use pg_console::{
+    AdminListeners, Mailboxes, NoServiceCommands, Pollers, ServiceBuilder, ServicePlan, SetUp,
+    SharedState, WorkerCounts, set_up,
+};
 use pg_demo_core::{ExpectedStreams, Verdict};
-use pg_log::Journal;
-use pg_service::{Directory, Mailbox, Poller, Resolver, StatusCollector};
-use pg_shared::{Named, Seat, Shared, run_workers};
+use pg_service::Directory;
+use pg_shared::{Named, Seat, Shared};
 use pg_tools::Style;
 use std::alloc::Global;
 use std::io::StdinLock;
@@ -19,9 +22,19 @@ use std::marker::Brand;
 use std::mem;
 use std::net::{Net, TcpListener, TcpStream};
 use std::rt::Clock;
+use std::sync::Wait;
 use std::sync::atomic::AtomicBool;
-use std::sync::{Mutex, Wait};
 use std::thread::Threads;
+use std::time::{Duration, Instant};
+
+/// The gateway's workers that have a mailbox. None reports addresses, since no source is connected to by a name.
+const WORKERS: WorkerCounts = WorkerCounts {
+    sources: 1,
+    subscribers: 1,
+    has_resolver: false,
+    has_admin: true,
+    has_reloads: false,
+};
 
 /// The options of a demo.
 #[derive(Clone, Copy)]
@@ -55,9 +68,9 @@ where
     let SetUp {
         shared,
         seat,
-        registered,
+        directory,
     } = set_up(rt, alloc, edits(alloc)?)?;
-    run_all::<R, Brand>(rt, alloc, &shared, seat, options, registered)
+    run_all::<R, Brand>(rt, alloc, &shared, seat, options, directory)
 }
 
 /// Runs all workers, and answers the verdict.
@@ -67,22 +80,17 @@ fn run_all<R: Runtime, N: Named + Send>(
     shared: &Shared,
     seat: Seat,
     options: DemoOptions,
-    registered: Directory,
+    directory: Directory,
 ) -> Result<Verdict, Fault>
     requires shared { shared.now ≡ N.table }
     requires seat { seat.table ≡ N.table }
 {
-    let waits = Waits {
-        sources: Poller::new(rt, alloc)?,
-        ports: Poller::new(rt, alloc)?,
-        page: Poller::new(rt, alloc)?,
-    };
-    let mailboxes = mailboxes(alloc, &waits, registered)?;
+    let (mailboxes, pollers) = Mailboxes::new(rt, alloc, WORKERS)?;
+    let shared_state = SharedState::new(alloc, directory)?;
     let stop = AtomicBool::new(false);
-    let state = DemoState::new(&stop, &mailboxes, ExpectedStreams::new(alloc));
-    let workers = make_workers::<R, N>(rt, alloc, shared, seat, options, waits, &state)?;
-    let back = run_workers(rt, alloc, workers, u64::MAX, &stop)?;
-    drop(back);
+    let service = mailboxes.handle(&shared_state, "demo", &stop);
+    let state = DemoState::new(service, ExpectedStreams::new(alloc));
+    serve_demo::<R, N>(rt, alloc, shared, seat, options, &state, pollers)?;
     let mut outcome = state.outcome.lock(rt);
     match mem::replace(&mut *outcome, None) {
         Some(outcome) => outcome,
@@ -90,19 +98,49 @@ fn run_all<R: Runtime, N: Named + Send>(
     }
 }
 
-/// The mailboxes of the workers that wait with these.
-fn mailboxes(alloc: Global, waits: &Waits, registered: Directory) -> Result<Mailboxes, Fault> {
-    let mut sources = Vec::new(alloc);
-    sources.push(Mailbox::new(alloc, waits.sources.poll())?)?;
-    let mut ports = Vec::new(alloc);
-    ports.push(Mailbox::new(alloc, waits.ports.poll())?)?;
-    Ok(Mailboxes {
-        sources,
+/// From tick to tick, in milliseconds.
+const TICK: u64 = 10;
+
+/// Serves both sources and both subscribers, until the demo ends.
+fn serve_demo<'a, R: Runtime, N: Named + Send>(
+    rt: &'a R,
+    alloc: Global,
+    shared: &'a Shared,
+    seat: Seat,
+    options: DemoOptions,
+    state: &'a DemoState<'a>,
+    pollers: Pollers,
+) -> Result<(), Fault>
+    requires shared { shared.now ≡ N.table }
+    requires seat { seat.table ≡ N.table }
+{
+    let builder = ServiceBuilder {
+        rt,
+        alloc,
+        shared,
+        service: state.service,
+        start: Instant::now(rt)?,
+    };
+    let Sockets {
+        one,
+        other,
+        dials,
         ports,
-        resolver: Resolver::new(alloc, None)?,
-        window: Mailbox::new(alloc, waits.page.poll())?,
-        journal: Journal::new(alloc)?,
-        collector: StatusCollector::new(alloc),
-        registered: Mutex::new(registered),
-    })
+        page,
+        addresses,
+    } = Sockets::bind(rt, alloc)?;
+    let (seat, keyboard) = shared.split(seat);
+    let own = own_workers::<R, N>(&builder, state, keyboard, options, (one, other), addresses)?;
+    let plan = ServicePlan {
+        dials,
+        ports,
+        tick: Duration::from_millis(TICK),
+        listeners: AdminListeners {
+            lines: None,
+            page: Some(page),
+        },
+        files: None,
+    };
+    builder.serve::<N, _, _>(seat, pollers, plan, NoServiceCommands, own)?;
+    Ok(())
 }

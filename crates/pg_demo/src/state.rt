@@ -1,51 +1,16 @@
 //! What the threads of a demo share.
 
 use crate::fault::Fault;
+use pg_console::ServiceHandle;
 use pg_demo_core::{ExpectedStreams, Verdict};
-use pg_log::Journal;
-use pg_service::{Directory, Mailbox, PortOrder, Resolver, SourceOrder, StatusCollector};
 use std::sync::atomic::{AtomicBool, Ordering};
 use std::sync::{Mutex, Wait};
-
-/// The mailboxes of the gateway's workers.
-#[derive(Drop)]
-pub struct Mailboxes {
-    /// Of those that call sources.
-    pub sources: Vec<Mailbox<SourceOrder>>,
-    /// Of those that serve subscribers.
-    pub ports: Vec<Mailbox<PortOrder>>,
-    /// It has no worker, since no source is called by a name.
-    pub resolver: Resolver,
-    /// Of the one that shows the page.
-    pub window: Mailbox<()>,
-    /// What the workers note.
-    pub journal: Journal,
-    /// Where the workers report the state of their sources and ports.
-    pub collector: StatusCollector,
-    /// The PMUs and subscribers that are registered.
-    pub registered: Mutex<Directory>,
-}
-
-impl Mailboxes {
-    /// Wakes all workers, so that they see that they are to end.
-    fn wake(&self) {
-        for mailbox in &self.sources {
-            mailbox.wake(&self.journal);
-        }
-        for mailbox in &self.ports {
-            mailbox.wake(&self.journal);
-        }
-        self.window.wake(&self.journal);
-    }
-}
 
 /// What the threads of a demo share.
 #[derive(Drop)]
 pub struct DemoState<'a> {
-    /// Set where all are to end.
-    pub stop: &'a AtomicBool,
-    /// The mailboxes of the gateway's workers.
-    pub mailboxes: &'a Mailboxes,
+    /// The gateway's workers, and whether all are to end.
+    pub service: ServiceHandle<'a>,
     /// Whether the subscribers may connect.
     pub is_open: AtomicBool,
     /// Whether the streams of the first and of the second subscriber are on.
@@ -60,14 +25,9 @@ pub struct DemoState<'a> {
 
 impl<'a> DemoState<'a> {
     /// Nothing has events.
-    pub fn new(
-        stop: &'a AtomicBool,
-        mailboxes: &'a Mailboxes,
-        expected: ExpectedStreams,
-    ) -> DemoState<'a> {
+    pub fn new(service: ServiceHandle<'a>, expected: ExpectedStreams) -> DemoState<'a> {
         DemoState {
-            stop,
-            mailboxes,
+            service,
             is_open: AtomicBool::new(false),
             are_on: [AtomicBool::new(false), AtomicBool::new(false)],
             is_changed: AtomicBool::new(false),
@@ -89,13 +49,13 @@ impl<'a> DemoState<'a> {
                 *kept = Some(outcome);
             }
         }
-        self.stop.store(true, Ordering::SeqCst);
-        self.mailboxes.wake();
+        self.service.stop.store(true, Ordering::SeqCst);
+        self.service.wake_all();
     }
 
     /// Whether all are to end.
     pub fn is_over(&self) -> bool {
-        self.stop.load(Ordering::SeqCst)
+        self.service.is_over()
     }
 }
 

@@ -1,5 +1,4 @@
 pub mod Names
 pub mod Lists
-pub mod Plans
 pub mod Labels
 pub mod Sources

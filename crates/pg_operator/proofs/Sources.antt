@@ -6,7 +6,8 @@ use Rattle.std.specs.Option.{unwrap_or}
 use Rattle.std.proofs.lemmas.List.Folds.{list_any-append}
 use Rattle.pg_operator.proofs.Lists.{pushed, same_option}
 use Rattle.pg_operator.specs.declared.source.SourceRules.{SourceRules}
-use Rattle.pg_operator.specs.Setups.{Pmu, agreed, every, once, rules_of, said}
+use Rattle.pg_operator.specs.Addresses.{AddressValue}
+use Rattle.pg_operator.specs.Setups.{Pmu, SourceValue, agreed, every, once, rules_of, said, single, source_by}
 
 -- ---- what two tables say together, and those that are left
 
@@ -80,14 +81,50 @@ no_ahead pmus source h =
     rw h (ahead_none (λ silence clock ahead. record { source = source; silence = unwrap_or silence 10; clock_ms = clock; ahead_ms = unwrap_or ahead 200 })
     (agreed (said (λ p. p.silence) source pmus)) (agreed (said (λ p. p.clock_ms) source pmus)))
 
+-- ---- one address at most
+
+pub one_or_other : {X : Type 0} (a b c : Option X) (vs : List X) → single (option_to_list a ++ option_to_list b) ≡ Some c
+    → single (option_to_list a ++ (option_to_list b ++ vs)) ≡ single (option_to_list c ++ vs)
+one_or_other None None c vs h = let e : None ≡ c = search (rules, h) in ap (λ o. single (option_to_list o ++ vs)) e
+one_or_other None (Some b) c vs h = let e : Some b ≡ c = search (rules, h) in ap (λ o. single (option_to_list o ++ vs)) e
+one_or_other (Some a) None c vs h = let e : Some a ≡ c = search (rules, h) in ap (λ o. single (option_to_list o ++ vs)) e
+one_or_other (Some a) (Some b) c vs h = absurd (search (rules, h))
+
+pub both : {X : Type 0} (a b : Option X) (vs : List X) → single (option_to_list a ++ option_to_list b) ≡ None
+    → single (option_to_list a ++ (option_to_list b ++ vs)) ≡ None
+both None None vs h = absurd (search (rules, h))
+both None (Some b) vs h = absurd (search (rules, h))
+both (Some a) None vs h = absurd (search (rules, h))
+both (Some a) (Some b) vs h = refl
+
+-- the address so far, and those of the tables that are left
+abbrev pub with_left : ℕ → Option AddressValue → List Pmu → Option (Option AddressValue)
+with_left source seen ps = single (option_to_list seen ++ said (λ p. p.connect) source ps)
+
+pub own_address : (source : ℕ) (a c : Option AddressValue) (p : Pmu) (ps : List Pmu) → (p.key.source == source) ≡ true
+    → single (option_to_list a ++ option_to_list p.connect) ≡ Some c → with_left source a (p ∷ ps) ≡ with_left source c ps
+own_address source a c p ps own h = rw own (one_or_other a p.connect c (said (λ q. q.connect) source ps) h)
+
+pub second_address : (source : ℕ) (a : Option AddressValue) (p : Pmu) (ps : List Pmu) → (p.key.source == source) ≡ true
+    → single (option_to_list a ++ option_to_list p.connect) ≡ None → with_left source a (p ∷ ps) ≡ None
+second_address source a p ps own h = rw own (both a p.connect (said (λ q. q.connect) source ps) h)
+
+pub other_address : (source : ℕ) (a : Option AddressValue) (p : Pmu) (ps : List Pmu) → (p.key.source == source) ≡ false
+    → with_left source a (p ∷ ps) ≡ with_left source a ps
+other_address source a p ps other = rw other refl
+
+pub no_address_left : (source : ℕ) (a : Option AddressValue) → with_left source a [] ≡ Some a
+no_address_left source None = refl
+no_address_left source (Some v) = refl
+
 -- ---- each source once
 
-abbrev pub has : ℕ → List SourceRules → Bool
-has y rules = list_any (λ r. r.source == y) rules
+abbrev pub has : ℕ → List SourceValue → Bool
+has y sources = list_any (λ s. s.rules.source == y) sources
 
--- the rules that are there, and those of the sources that are left
-abbrev pub made : List Pmu → List SourceRules → List ℕ → Option (List SourceRules)
-made all seen ys = option_map (λ more. seen ++ more) (every (rules_of all) (filter (λ y. not (has y seen)) ys))
+-- the sources that are there, and those that are left
+abbrev pub made : List Pmu → List SourceValue → List ℕ → Option (List SourceValue)
+made all seen ys = option_map (λ more. seen ++ more) (every (source_by all) (filter (λ y. not (has y seen)) ys))
 
 filter_both : (p q r : ℕ → Bool) → ((y : ℕ) → (p y && q y) ≡ r y) → (ys : List ℕ) → filter p (filter q ys) ≡ filter r ys
 filter_both p q r h [] = refl
@@ -103,20 +140,20 @@ all_kept : (ys : List ℕ) → filter (λ y. true) ys ≡ ys
 all_kept [] = refl
 all_kept (y ∷ ys) = ap (λ l. y ∷ l) (all_kept ys)
 
-pub at_first : (all : List Pmu) (ys : List ℕ) → made all [] ys ≡ every (rules_of all) ys
-at_first all ys = same_option (every (rules_of all) (filter (λ y. true) ys)) ∙ ap (every (rules_of all)) (all_kept ys)
+pub at_first : (all : List Pmu) (ys : List ℕ) → made all [] ys ≡ every (source_by all) ys
+at_first all ys = same_option (every (source_by all) (filter (λ y. true) ys)) ∙ ap (every (source_by all)) (all_kept ys)
 
-pub at_last : (all : List Pmu) (seen : List SourceRules) → made all seen [] ≡ Some seen
+pub at_last : (all : List Pmu) (seen : List SourceValue) → made all seen [] ≡ Some seen
 at_last all seen = ap Some (append-nil seen)
 
 and_true : (a : Bool) → (a && true) ≡ a
 and_true true = refl
 and_true false = refl
 
-pub seen_before : (all : List Pmu) (seen : List SourceRules) (s : ℕ) (xs : List ℕ) → has s seen ≡ true
+pub seen_before : (all : List Pmu) (seen : List SourceValue) (s : ℕ) (xs : List ℕ) → has s seen ≡ true
     → made all seen (once (s ∷ xs)) ≡ made all seen (once xs)
 seen_before all seen s xs h =
-    rw h (ap (λ l. option_map (λ more. seen ++ more) (every (rules_of all) l)) (filter_both (λ y. not (has y seen)) (λ y. not (s == y)) (λ y. not (has y seen)) same (once xs)))
+    rw h (ap (λ l. option_map (λ more. seen ++ more) (every (source_by all) l)) (filter_both (λ y. not (has y seen)) (λ y. not (s == y)) (λ y. not (has y seen)) same (once xs)))
   where
     go : (y : ℕ) (t : Bool) → (s == y) ≡ t → (not (has y seen) && not (s == y)) ≡ not (has y seen)
     go y true e = let k : has y seen ≡ true = ap (λ x. has x seen) (sym (eqb-true s y e)) ∙ h in rw k refl
@@ -125,32 +162,42 @@ seen_before all seen s xs h =
     same : (y : ℕ) → (not (has y seen) && not (s == y)) ≡ not (has y seen)
     same y = go y (s == y) refl
 
-own_source : (all : List Pmu) (s : ℕ) (r : SourceRules) → rules_of all s ≡ Some r → r.source ≡ s
-own_source all s r h = go (agreed (said (λ p. p.silence) s all)) (agreed (said (λ p. p.clock_ms) s all)) (agreed (said (λ p. p.ahead_ms) s all)) h
+own_source : (all : List Pmu) (s : ℕ) (r : SourceValue) → source_by all s ≡ Some r → r.rules.source ≡ s
+own_source all s r h = go (single (said (λ p. p.connect) s all)) (rules_of all s) refl h
   where
-    go : (x y z : Option (Option ℕ))
-        → option_and_then (λ silence. option_and_then (λ clock. option_map (λ ahead. record { source = s; silence = unwrap_or silence 10; clock_ms = clock; ahead_ms = unwrap_or ahead 200 }) z) y) x ≡ Some r
-        → r.source ≡ s
-    go None y z k = absurd (search (rules, k))
-    go (Some a) None z k = absurd (search (rules, k))
-    go (Some a) (Some b) None k = absurd (search (rules, k))
-    go (Some a) (Some b) (Some c) k =
-        let e : record { source = s; silence = unwrap_or a 10; clock_ms = b; ahead_ms = unwrap_or c 200 } ≡ r = search (rules, k) in sym (ap (λ t. t.source) e)
+    of_rules : (q : SourceRules) → rules_of all s ≡ Some q → q.source ≡ s
+    of_rules q k = by (agreed (said (λ p. p.silence) s all)) (agreed (said (λ p. p.clock_ms) s all)) (agreed (said (λ p. p.ahead_ms) s all)) k
+      where
+        by : (x y z : Option (Option ℕ))
+            → option_and_then (λ silence. option_and_then (λ clock. option_map (λ ahead. record { source = s; silence = unwrap_or silence 10; clock_ms = clock; ahead_ms = unwrap_or ahead 200 }) z) y) x ≡ Some q
+            → q.source ≡ s
+        by None y z k = absurd (search (rules, k))
+        by (Some a) None z k = absurd (search (rules, k))
+        by (Some a) (Some b) None k = absurd (search (rules, k))
+        by (Some a) (Some b) (Some c) k =
+            let e : record { source = s; silence = unwrap_or a 10; clock_ms = b; ahead_ms = unwrap_or c 200 } ≡ q = search (rules, k) in sym (ap (λ t. t.source) e)
+
+    go : (x : Option (Option AddressValue)) (y : Option SourceRules) → rules_of all s ≡ y
+        → option_and_then (λ connect. option_map (λ rules. record { connect = connect; rules = rules }) y) x ≡ Some r → r.rules.source ≡ s
+    go None y e k = absurd (search (rules, k))
+    go (Some a) None e k = absurd (search (rules, k))
+    go (Some a) (Some q) e k =
+        let same : record { connect = a; rules = q } ≡ r = search (rules, k) in sym (ap (λ t. t.rules.source) same) ∙ of_rules q e
 
 not_either : (a b : Bool) → (not a && not b) ≡ not (a || (b || false))
 not_either true b = refl
 not_either false true = refl
 not_either false false = refl
 
-pub first_seen : (all : List Pmu) (seen : List SourceRules) (s : ℕ) (xs : List ℕ) (r : SourceRules) → has s seen ≡ false → rules_of all s ≡ Some r
+pub first_seen : (all : List Pmu) (seen : List SourceValue) (s : ℕ) (xs : List ℕ) (r : SourceValue) → has s seen ≡ false → source_by all s ≡ Some r
     → made all seen (once (s ∷ xs)) ≡ made all (seen ++ r ∷ []) (once xs)
 first_seen all seen s xs r h k =
-    rw (h, k) (pushed seen r (every (rules_of all) (filter (λ y. not (has y seen)) (filter (λ y. not (s == y)) (once xs))))
-    ∙ ap (λ l. option_map (λ more. (seen ++ r ∷ []) ++ more) (every (rules_of all) l)) (filter_both (λ y. not (has y seen)) (λ y. not (s == y)) (λ y. not (has y (seen ++ r ∷ []))) same (once xs)))
+    rw (h, k) (pushed seen r (every (source_by all) (filter (λ y. not (has y seen)) (filter (λ y. not (s == y)) (once xs))))
+    ∙ ap (λ l. option_map (λ more. (seen ++ r ∷ []) ++ more) (every (source_by all) l)) (filter_both (λ y. not (has y seen)) (λ y. not (s == y)) (λ y. not (has y (seen ++ r ∷ []))) same (once xs)))
   where
     same : (y : ℕ) → (not (has y seen) && not (s == y)) ≡ not (has y (seen ++ r ∷ []))
-    same y = not_either (has y seen) (s == y) ∙ ap (λ z. not (has y seen || (z == y || false))) (sym (own_source all s r k)) ∙ ap not (sym (list_any-append (λ t. t.source == y) seen (r ∷ [])))
+    same y = not_either (has y seen) (s == y) ∙ ap (λ z. not (has y seen || (z == y || false))) (sym (own_source all s r k)) ∙ ap not (sym (list_any-append (λ t. t.rules.source == y) seen (r ∷ [])))
 
-pub no_rules : (all : List Pmu) (seen : List SourceRules) (s : ℕ) (xs : List ℕ) → has s seen ≡ false → rules_of all s ≡ None
+pub no_source : (all : List Pmu) (seen : List SourceValue) (s : ℕ) (xs : List ℕ) → has s seen ≡ false → source_by all s ≡ None
     → made all seen (once (s ∷ xs)) ≡ None
-no_rules all seen s xs h k = rw (h, k) refl
+no_source all seen s xs h k = rw (h, k) refl

@@ -14,15 +14,18 @@ use Rattle.pg_limits.specs.Hosts.{Net}
 use Rattle.pg_limits.specs.declared.layouts.OnChange.{OnChange}
 use Rattle.pg_limits.specs.declared.layouts.OnChange.TheVariants as on_change
 use Rattle.pg_operator.specs.declared.port_rules.PortRules.{PortRules}
+use Rattle.pg_operator.specs.declared.port_rules.PortSetup.{PortSetup}
 use Rattle.pg_operator.specs.declared.general.GeneralKeys.{GeneralKeys}
 use Rattle.pg_operator.specs.declared.general.LogLevel.{LogLevel}
 use Rattle.pg_operator.specs.declared.general.LogLevel.TheVariants as level
 use Rattle.pg_operator.specs.declared.pmu.PmuTable.{PmuTable}
 use Rattle.pg_operator.specs.declared.setup.Setup.{Setup}
+use Rattle.pg_operator.specs.declared.setup.SubscriberSetup.{SubscriberSetup}
 use Rattle.pg_operator.specs.declared.source.SourceRules.{SourceRules}
+use Rattle.pg_operator.specs.declared.source.SourceSetup.{SourceSetup}
 use Rattle.pg_lines.specs.Words.{Text, key_of, pair_in}
 use Rattle.pg_lines.specs.Addresses.{Endpoint, endpoint, endpoint_in, host_in}
-use Rattle.pg_operator.specs.Addresses.{is_address, network_in}
+use Rattle.pg_operator.specs.Addresses.{AddressValue, address_of, address_value, called_value, network_in}
 
 -- ---- tables
 
@@ -69,8 +72,8 @@ abbrev pub key_in : Data → Option PmuKey
 key_in (string s) = pair_in s
 key_in d = option_map (λ n. key_of n n) (whole_in 1 65534 d)
 
-abbrev pub address_in : Data → Option Text
-address_in (string s) = if is_address s then Some s else None
+abbrev pub address_in : Data → Option AddressValue
+address_in (string s) = address_of s
 address_in _ = None
 
 abbrev pub host_text_in : Data → Option ℕ
@@ -97,14 +100,14 @@ boolean_in _ = None
 
 pub record Pmu : Type 0 where
   pub key : PmuKey
-  pub connect : Option Text
+  pub connect : Option AddressValue
   pub silence : Option ℕ
   pub clock_ms : Option ℕ
   pub ahead_ms : Option ℕ
 
 -- the same, of a table that was read
 abbrev pub told : PmuTable → Pmu
-told p = record { key = p.key; connect = option_map (λ s. s.now) p.connect; silence = p.silence; clock_ms = p.clock_ms; ahead_ms = p.ahead_ms }
+told p = record { key = p.key; connect = option_map called_value p.connect; silence = p.silence; clock_ms = p.clock_ms; ahead_ms = p.ahead_ms }
 
 abbrev pub pmu_by : Members → Option Pmu
 pmu_by ms =
@@ -124,25 +127,7 @@ abbrev pub pmu_in : Data → Option Pmu
 pmu_in (table ms) = only pmu_names pmu_by ms
 pmu_in _ = None
 
--- it is registered
-abbrev pub pmu_edit : Pmu → Edit
-pmu_edit p = AddPmu p.key
-
--- sources with their addresses
-abbrev pub Links : Type 0
-Links = List (ℕ × Text)
-
-abbrev pub has_source : ℕ → Links → Bool
-has_source source links = list_any (λ link. link.0 == source) links
-
--- the links, in order, of which no two are of one source
-abbrev pub links_from : Links → List Pmu → Option Links
-links_from seen [] = Some seen
-links_from seen (p ∷ pmus) = option_map_or
-    (λ address. if has_source p.key.source seen then None else links_from (seen ++ (p.key.source, address) ∷ []) pmus)
-    p.connect (links_from seen pmus)
-
--- ---- the rules of sources
+-- ---- the sources
 
 -- each number once, where it first stands
 abbrev pub once : List ℕ → List ℕ
@@ -150,7 +135,7 @@ once [] = []
 once (x ∷ xs) = x ∷ filter (λ y. not (x == y)) (once xs)
 
 -- what the tables of a source say at a key
-abbrev pub said : (Pmu → Option ℕ) → ℕ → List Pmu → List ℕ
+abbrev pub said : {X : Type 0} → (Pmu → Option X) → ℕ → List Pmu → List X
 said key source [] = []
 said key source (p ∷ pmus) = if p.key.source == source then option_to_list (key p) ++ said key source pmus else said key source pmus
 
@@ -172,9 +157,28 @@ abbrev pub every : {X Y : Type 0} → (X → Option Y) → List X → Option (Li
 every read [] = Some []
 every read (x ∷ xs) = option_and_then (λ y. option_map (λ ys. y ∷ ys) (every read xs)) (read x)
 
--- the sources in the order in which the PMUs first name them
-abbrev pub sources_of : List Pmu → Option (List SourceRules)
-sources_of pmus = every (rules_of pmus) (once (map (λ p. p.key.source) pmus))
+-- where a source is connected to, if it is, and how it is watched
+pub record SourceValue : Type 0 where
+  pub connect : Option AddressValue
+  pub rules : SourceRules
+
+-- the same, of a source that was read
+abbrev pub source_value : SourceSetup → SourceValue
+source_value s = record { connect = option_map address_value s.connect; rules = s.rules }
+
+-- the one value that there is, or nothing where there is none; there may not be two
+abbrev pub single : {X : Type 0} → List X → Option (Option X)
+single [] = Some None
+single (x ∷ []) = Some (Some x)
+single (x ∷ y ∷ ys) = None
+
+abbrev pub source_by : List Pmu → ℕ → Option SourceValue
+source_by pmus source =
+    option_and_then (λ connect. option_map (λ rules. record { connect = connect; rules = rules }) (rules_of pmus source)) (single (said (λ p. p.connect) source pmus))
+
+-- in the order in which the PMUs first name them
+abbrev pub sources_of : List Pmu → Option (List SourceValue)
+sources_of pmus = every (source_by pmus) (once (map (λ p. p.key.source) pmus))
 
 -- ---- `[[subscriber.stream]]`
 
@@ -205,20 +209,7 @@ abbrev pub stream_in : Data → Option Definition
 stream_in (table ms) = only stream_names stream_by ms
 stream_in _ = None
 
--- ---- `[[subscriber]]`: its edits, the port that it connects to, and the rules of that port
-
-abbrev pub grants_in : ℕ → Data → Option (List Edit)
-grants_in id = list_of (λ d. option_map (Grant id) (key_in d))
-
-abbrev pub streams_in : ℕ → Data → Option (List Edit)
-streams_in id = list_of (λ d. option_map (Define id) (stream_in d))
-
--- AddSub, its grants, its streams
-abbrev pub edits_by : ℕ → ℕ → ℕ → Members → Option (List Edit)
-edits_by id size bytes ms =
-    option_and_then (λ grants. option_map (λ streams. AddSub id size bytes ∷ grants ++ streams)
-    (optional [] (streams_in id) (codes "stream") ms))
-    (optional [] (grants_in id) (codes "grants") ms)
+-- ---- `[[subscriber]]`: its ring, its grants, its streams, and the port that it connects to
 
 -- a subscriber's own values
 pub record Entry : Type 0 where
@@ -272,15 +263,33 @@ port_rules_by id ms =
     (optional false boolean_in (codes "takeover") ms))
     (optional 0 host_text_in (codes "address") ms)
 
-pub record Subscriber : Type 0 where
-  pub edits : List Edit
-  pub port : Option (ℕ × ℕ)
+-- a port, and its rules
+pub record PortValue : Type 0 where
+  pub port : ℕ
   pub rules : PortRulesValue
+
+abbrev pub port_value : PortSetup → PortValue
+port_value p = record { port = p.port; rules = port_rules_of p.rules }
+
+pub record Subscriber : Type 0 where
+  pub sub : ℕ
+  pub ring : ℕ
+  pub bytes : ℕ
+  pub grants : List PmuKey
+  pub streams : List Definition
+  pub port : Option PortValue
+
+-- the same, of a subscriber that was read
+abbrev pub subscriber_value : SubscriberSetup → Subscriber
+subscriber_value s = record { sub = s.sub; ring = s.ring; bytes = s.bytes; grants = s.grants.items; streams = s.streams.items; port = option_map port_value s.port }
 
 abbrev pub subscriber_by : Members → Option Subscriber
 subscriber_by ms =
-    option_and_then (λ e. option_and_then (λ rules. option_map (λ edits. record { edits = edits; port = option_map (λ p. (e.id, p)) e.port; rules = rules })
-    (edits_by e.id e.size e.bytes ms)) (port_rules_by e.id ms)) (entry_by ms)
+    option_and_then (λ e. option_and_then (λ rules. option_and_then (λ grants. option_map
+    (λ streams. record { sub = e.id; ring = e.size; bytes = e.bytes; grants = grants; streams = streams; port = option_map (λ p. record { port = p; rules = rules }) e.port })
+    (optional [] (list_of stream_in) (codes "stream") ms))
+    (optional [] (list_of key_in) (codes "grants") ms))
+    (port_rules_by e.id ms)) (entry_by ms)
 
 abbrev pub subscriber_names : List Text
 subscriber_names =
@@ -359,44 +368,34 @@ general_by ms =
 
 -- ---- the file
 
--- the PMUs in the file's order, then each subscriber's edits
+-- a subscriber is added, then its grants, then its streams
+abbrev pub subscriber_edits : Subscriber → List Edit
+subscriber_edits s = AddSub s.sub s.ring s.bytes ∷ map (Grant s.sub) s.grants ++ map (Define s.sub) s.streams
+
 abbrev pub edits_of : List Subscriber → List Edit
 edits_of [] = []
-edits_of (s ∷ ss) = s.edits ++ edits_of ss
+edits_of (s ∷ ss) = subscriber_edits s ++ edits_of ss
 
--- the ports, and the rules of just those that have one, in the same order
-abbrev pub ports_of : List Subscriber → List (ℕ × ℕ)
-ports_of [] = []
-ports_of (s ∷ ss) = option_to_list s.port ++ ports_of ss
+-- the PMUs in the file's order, then each subscriber's edits
+abbrev pub edits_by : List PmuKey → List Subscriber → List Edit
+edits_by pmus subscribers = map AddPmu pmus ++ edits_of subscribers
 
-abbrev pub all_port_rules : List Subscriber → List PortRulesValue
-all_port_rules [] = []
-all_port_rules (s ∷ ss) = option_to_list (option_map (λ p. s.rules) s.port) ++ all_port_rules ss
-
-pub record Plans : Type 0 where
-  pub edits : List Edit
-  pub ports : List (ℕ × ℕ)
-  pub port_rules : List PortRulesValue
-
-abbrev pub planned : List Subscriber → Plans
-planned ss = record { edits = edits_of ss; ports = ports_of ss; port_rules = all_port_rules ss }
+-- the same, of a setup that was read
+abbrev pub setup_edits : Setup → List Edit
+setup_edits s = edits_by s.pmus.items (map subscriber_value s.subscribers.items)
 
 pub record Settings : Type 0 where
-  pub edits : List Edit
-  pub links : Links
-  pub sources : List SourceRules
-  pub ports : List (ℕ × ℕ)
-  pub port_rules : List PortRulesValue
+  pub pmus : List PmuKey
+  pub sources : List SourceValue
+  pub subscribers : List Subscriber
   pub general : General
 
 -- the same, of a setup that was read
 abbrev pub settings : Setup → Settings
 settings s = record {
-  edits = s.edits.items;
-  links = map (λ l. (l.0, string_bytes l.1)) s.links.items;
-  sources = s.sources.items;
-  ports = s.ports.items;
-  port_rules = map port_rules_of s.port_rules.items;
+  pmus = s.pmus.items;
+  sources = map source_value s.sources.items;
+  subscribers = map subscriber_value s.subscribers.items;
   general = record {
     tick_ms = s.tick_ms;
     ingest = s.ingest;
@@ -408,23 +407,12 @@ settings s = record {
   };
 }
 
-abbrev pub settings_by : List Pmu → Links → List SourceRules → List Subscriber → General → Settings
-settings_by pmus links sources subscribers general = record {
-  edits = map pmu_edit pmus ++ edits_of subscribers;
-  links = links;
-  sources = sources;
-  ports = ports_of subscribers;
-  port_rules = all_port_rules subscribers;
-  general = general;
-}
-
 abbrev pub setup_by : Members → Option Settings
 setup_by ms =
-    option_and_then (λ general. option_and_then (λ pmus. option_and_then (λ links. option_and_then (λ sources. option_map
-    (λ subscribers. settings_by pmus links sources subscribers general)
+    option_and_then (λ general. option_and_then (λ pmus. option_and_then (λ sources. option_map
+    (λ subscribers. record { pmus = map (λ p. p.key) pmus; sources = sources; subscribers = subscribers; general = general })
     (required (list_of subscriber_in) (codes "subscriber") ms))
     (sources_of pmus))
-    (links_from [] pmus))
     (required (list_of pmu_in) (codes "pmu") ms))
     (general_by ms)
 
@@ -444,7 +432,7 @@ setup_of text = option_and_then setup_in (parse_document text)
 abbrev pub asked_by : Members → Option (List Edit)
 asked_by ms =
     option_and_then (λ general. option_and_then (λ pmus. option_map
-    (λ subscribers. map pmu_edit pmus ++ edits_of subscribers)
+    (λ subscribers. edits_by (map (λ p. p.key) pmus) subscribers)
     (required (list_of subscriber_in) (codes "subscriber") ms))
     (required (list_of pmu_in) (codes "pmu") ms))
     (general_by ms)

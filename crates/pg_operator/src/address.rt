@@ -1,16 +1,19 @@
 //! Names of hosts, addresses and networks, as the setup file writes them.
-ghost use Rattle.std.specs.Prelude.{◌≡◌, Some, None, option_map};
+ghost use Rattle.std.specs.Prelude.{◌≡◌, Some, None, IfOk, IfErr, option_map};
 ghost use Rattle.std.specs.Char.{is_ascii_digit};
 ghost use Rattle.std.specs.List.{list_all};
 ghost use Rattle.std.specs.Net.Addr.{ipv4_bits};
 ghost use Rattle.toml.specs.View.{view};
 ghost use Rattle.pg_lines.specs.Addresses.{endpoint};
-ghost use Rattle.pg_operator.specs.Addresses.{is_address, is_label, is_label_byte, is_name, labels_of, last_of, network_by, network_in};
+ghost use Rattle.pg_operator.specs.Addresses.{address_of, address_value, called_value, is_label, is_label_byte, is_name, labels_of, last_of, named_in, network_by, network_in};
 ghost use Rattle.pg_operator.specs.Setups.{address_in, endpoint_text_in, host_text_in, network_text_in};
 
 use pg_limits::Network;
-use pg_lines::address::{endpoint, host};
+use pg_lines::address::{endpoint, host, port};
 use pg_lines::words;
+use pg_wire::Refusal;
+use std::alloc::Global;
+use std::fmt;
 use std::net::{Ipv4Addr, SocketAddrV4};
 use toml::Value;
 
@@ -71,22 +74,91 @@ fn is_name(word: &str) -> bool
     word.len() <= NAME_LIMIT && all_labels(word) && !ends_in_digits(word.as_bytes())
 }
 
-/// `A.B.C.D:PORT` or `NAME:PORT`.
-fn is_address(word: &str) -> bool
-    ensures { result ≡ is_address word.now }
+/// `NAME:PORT`.
+fn is_named(word: &str) -> bool
+    ensures { result ≡ named_in word.now }
 {
-    let Some((name, port)) = words::halves(word, ':') else {
-        return false;
-    };
-    (host(name).is_some() || is_name(name)) && words::number(port, 1, 65535).is_some()
+    match words::halves(word, ':') {
+        Some((name, number)) => is_name(name) && port(number).is_some(),
+        None => false,
+    }
 }
 
-/// The text of an address that is called.
-pub(crate) fn called(value: &Value) -> Option<&str>
-    ensures { option_map (λ s. s.now) result ≡ address_in (view value.now) }
+/// Where a source is connected to, as the setup file writes it.
+#[derive(Clone, Copy)]
+pub(crate) enum CalledAddress<'a> {
+    /// `A.B.C.D:PORT`.
+    Endpoint(SocketAddrV4),
+    /// `NAME:PORT`.
+    Name(&'a str),
+}
+
+/// Where a source is connected to.
+#[derive(Debug, Drop, PartialEq, Eq)]
+pub enum SourceAddress {
+    /// The address of a host, and a port.
+    Endpoint(SocketAddrV4),
+    /// The name of a host, and a port: `NAME:PORT`.
+    Name(String),
+}
+
+impl fmt::Display for SourceAddress {
+    fn fmt<W: fmt::Write>(&self, f: &mut fmt::Formatter<W>) -> fmt::Result {
+        match self {
+            SourceAddress::Endpoint(address) => write!(f, "{address}"),
+            SourceAddress::Name(name) => f.write_str(name.as_str()),
+        }
+    }
+}
+
+impl SourceAddress {
+    /// The same address.
+    ///
+    /// # Errors
+    ///
+    /// `NoMemory`.
+    pub fn try_clone(&self, alloc: Global) -> Result<SourceAddress, Refusal>
+        ensures ok { IfOk result (λ copy. address_value copy ≡ address_value self.now) }
+        ensures err { IfErr result (λ r. r ≡ Refusal.NoMemory) }
+    {
+        match self {
+            SourceAddress::Endpoint(address) => Ok(SourceAddress::Endpoint(*address)),
+            SourceAddress::Name(name) => Ok(SourceAddress::Name(String::from_str(
+                alloc,
+                name.as_str(),
+            )?)),
+        }
+    }
+}
+
+/// An address of its own.
+pub(crate) fn owned(alloc: Global, address: CalledAddress<'_>) -> Result<SourceAddress, Refusal>
+    ensures ok { IfOk result (λ own. address_value own ≡ called_value address.entry) }
+    ensures err { IfErr result (λ r. r ≡ Refusal.NoMemory) }
+{
+    match address {
+        CalledAddress::Endpoint(address) => Ok(SourceAddress::Endpoint(address)),
+        CalledAddress::Name(name) => Ok(SourceAddress::Name(String::from_str(alloc, name)?)),
+    }
+}
+
+/// `A.B.C.D:PORT` or `NAME:PORT`.
+fn address_of(word: &str) -> Option<CalledAddress<'_>>
+    ensures { option_map called_value result ≡ address_of word.now }
+{
+    match endpoint(word) {
+        Some(address) => Some(CalledAddress::Endpoint(address)),
+        None if is_named(word) => Some(CalledAddress::Name(word)),
+        None => None,
+    }
+}
+
+/// The address of a source.
+pub(crate) fn called(value: &Value) -> Option<CalledAddress<'_>>
+    ensures { option_map called_value result ≡ address_in (view value.now) }
 {
     match value {
-        Value::String(text) if is_address(text.as_str()) => Some(text.as_str()),
+        Value::String(text) => address_of(text.as_str()),
         _ => None,
     }
 }

@@ -44,6 +44,9 @@ pub(crate) const SILENCE: u16 = 10;
 /// How many milliseconds a source may be ahead of the reference, where its tables do not say it.
 pub(crate) const AHEAD_MS: u16 = 200;
 
+/// After how many seconds in which a subscriber accepts nothing it is disconnected, where its table does not say it.
+pub(crate) const STALL: u16 = 30;
+
 /// The keys, those of a table in the order in which they are listed. The kinds of a stream's numbers are the ranges of a definition: the
 /// reader takes each number of 32 bits (of 8 as `rate`), and the gateway refuses a definition that is out of them.
 #[rattlefmt::skip]
@@ -81,7 +84,7 @@ impl SetupKey {
     pub(crate) const ADDRESS: SetupKey = SetupKey { name: "address", kind: Kind::Bound, absent: Absent::Words("\"0.0.0.0\", all") };
     pub(crate) const ALLOW: SetupKey = SetupKey { name: "allow", kind: Kind::Networks, absent: Absent::Words("every host") };
     pub(crate) const TAKEOVER: SetupKey = SetupKey { name: "takeover", kind: Kind::Truth, absent: Absent::Words("false") };
-    pub(crate) const STALL: SetupKey = SetupKey { name: "stall", kind: Kind::Whole(0, 3600), absent: Absent::Number(30) };
+    pub(crate) const STALL: SetupKey = SetupKey { name: "stall", kind: Kind::Whole(0, 3600), absent: Absent::Number(STALL as u32) };
     pub(crate) const IDLE: SetupKey = SetupKey { name: "idle", kind: Kind::Whole(0, 3600), absent: Absent::Number(0) };
     pub(crate) const CHANGE: SetupKey = SetupKey { name: "change", kind: Kind::Change, absent: Absent::Words("\"safe\"") };
     pub(crate) const SUBSCRIBER_KEYS: [SetupKey; 12] = [

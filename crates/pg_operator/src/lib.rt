@@ -18,6 +18,7 @@ mod source;
 mod stream;
 mod table;
 
+pub use address::SourceAddress;
 pub use faults::{Fault, Wrong, setup_faults};
 pub use general::{LogLevel, is_gateway_name};
 pub use key_texts::help_on_keys;
@@ -25,6 +26,6 @@ pub use kind::{Found, Heading, Kind, Misfit};
 pub use lines::{SetupLines, SetupTable};
 pub use pg_lines::{Steer, parse_line, parse_steer, words_of};
 pub use place::{BoundBy, line_of_key};
-pub use port_rules::PortRules;
-pub use setup::{Setup, read_setup, setup_edits};
-pub use source::SourceRules;
+pub use port_rules::{PortRules, PortSetup};
+pub use setup::{Setup, SubscriberSetup, read_setup, setup_edits};
+pub use source::{SourceRules, SourceSetup};

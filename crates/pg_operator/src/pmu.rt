@@ -1,11 +1,12 @@
 //! The tables `[[pmu]]` of the setup file.
-ghost use Rattle.std.specs.Prelude.{◌≡◌, ◌⊎◌, IfOk, IfErr, map, option_map, codes, string_bytes, Some, None, []};
+ghost use Rattle.std.specs.Prelude.{◌≡◌, ◌⊎◌, IfOk, IfErr, map, option_map, codes, Some, None};
 ghost use Rattle.toml.specs.View.{view, table_view};
-ghost use Rattle.pg_operator.specs.Setups.{absent_or, address_in, has_source, links_from, list_of, only, optional, pmu_by, pmu_edit, pmu_in, pmu_names, required, told, whole_in};
+ghost use Rattle.pg_operator.specs.Addresses.{called_value};
+ghost use Rattle.pg_operator.specs.Setups.{absent_or, address_in, list_of, only, optional, pmu_by, pmu_in, pmu_names, required, told, whole_in};
 
+use crate::address::CalledAddress;
 use crate::keys::SetupKey;
 use crate::{address, table};
-use pg_gateway::Edit;
 use pg_wire::{PmuId, PmuKey, Refusal};
 use std::alloc::Global;
 use toml::{Table, Value};
@@ -14,7 +15,7 @@ use toml::{Table, Value};
 #[derive(Clone, Copy)]
 pub(crate) struct PmuTable<'a> {
     pub(crate) key: PmuKey,
-    pub(crate) connect: Option<&'a str>,
+    pub(crate) connect: Option<CalledAddress<'a>>,
     pub(crate) silence: Option<u16>,
     pub(crate) clock_ms: Option<u16>,
     pub(crate) ahead_ms: Option<u16>,
@@ -98,8 +99,8 @@ fn source_of(table: &Table, pmu: PmuId) -> Option<PmuId>
 }
 
 /// The address of a source, or none where it is left out.
-fn connect_at(table: &Table) -> Option<Option<&str>>
-    ensures { option_map (λ o. option_map (λ s. s.now) o) result ≡ absent_or address_in (codes "connect") (table_view table.now) }
+fn connect_at(table: &Table) -> Option<Option<CalledAddress<'_>>>
+    ensures { option_map (λ o. option_map called_value o) result ≡ absent_or address_in (codes "connect") (table_view table.now) }
 {
     match table::value_at(table, SetupKey::CONNECT.name) {
         Some(value) => Some(Some(address::called(value)?)),
@@ -107,41 +108,14 @@ fn connect_at(table: &Table) -> Option<Option<&str>>
     }
 }
 
-/// The links that the PMUs ask for, of which no two are of one source.
-pub(crate) fn links_of(
-    alloc: Global,
-    pmus: &[PmuTable<'_>],
-) -> Result<Vec<(PmuId, String)>, Refusal>
-    ensures ok { IfOk result (λ v. links_from [] (map told pmus.now) ≡ Some (map (λ l. (l.0, string_bytes l.1)) v.items)) }
-    ensures err { IfErr result (λ r. (r ≡ Refusal.NoMemory) ⊎ ((r ≡ Refusal.BadSetup) × (links_from [] (map told pmus.now) ≡ None))) }
-{
-    let mut links = Vec::new(alloc);
-    'pmus: for pmu in pmus {
-        if let Some(address) = pmu.connect {
-            if has_source(links.as_slice(), pmu.key.source) {
-                return Err(Refusal::BadSetup);
-            }
-            links.push((pmu.key.source, String::from_str(alloc, address)?))?;
-        }
-    }
-    Ok(links)
-}
-
-/// Whether one of the links is of this source.
-fn has_source(links: &[(PmuId, String)], source: PmuId) -> bool
-    ensures { result ≡ has_source source (map (λ l. (l.0, string_bytes l.1)) links.now) }
-{
-    links.iter().any(|link| link.0 == source)
-}
-
-/// The edits that register the PMUs.
-pub(crate) fn edits_of(alloc: Global, pmus: &[PmuTable<'_>]) -> Result<Vec<Edit>, Refusal>
-    ensures ok { IfOk result (λ v. v.items ≡ map pmu_edit (map told pmus.now)) }
+/// The keys of the PMUs.
+pub(crate) fn keys_of(alloc: Global, pmus: &[PmuTable<'_>]) -> Result<Vec<PmuKey>, Refusal>
+    ensures ok { IfOk result (λ v. v.items ≡ map (λ p. p.key) (map told pmus.now)) }
     ensures err { IfErr result (λ r. r ≡ Refusal.NoMemory) }
 {
-    let mut edits = Vec::new(alloc);
+    let mut keys = Vec::new(alloc);
     'pmus: for pmu in pmus {
-        edits.push(Edit::AddPmu(pmu.key))?;
+        keys.push(pmu.key)?;
     }
-    Ok(edits)
+    Ok(keys)
 }

@@ -1,10 +1,10 @@
 //! The rules of a subscriber's port.
-ghost use Rattle.std.specs.Prelude.{◌≡◌, ◌⊎◌, IfOk, IfErr, option_map, codes, Some, None};
+ghost use Rattle.std.specs.Prelude.{◌≡◌, ◌⊎◌, IfOk, IfErr, option_map, codes, Some, None, false};
 ghost use Rattle.std.specs.Net.Addr.{ipv4_bits};
 ghost use Rattle.toml.specs.View.{view, table_view};
-ghost use Rattle.pg_operator.specs.Setups.{absent_or, change_in, change_of, port_rules_by, port_rules_of, host_text_in, list_of, network_text_in, optional, whole_in};
+ghost use Rattle.pg_operator.specs.Setups.{absent_or, change_in, change_of, port_rules_by, port_rules_of, port_value, host_text_in, list_of, network_text_in, optional, whole_in};
 
-use crate::keys::SetupKey;
+use crate::keys::{STALL, SetupKey};
 use crate::{address, table};
 use pg_limits::{Allow, Network, OnChange};
 use pg_wire::{Refusal, SubId};
@@ -29,6 +29,92 @@ pub struct PortRules {
     pub idle: u16,
     /// What is done where the effective blocks of a stream change while it is on.
     pub change: OnChange,
+}
+
+/// The port of a subscriber.
+#[derive(Debug, Drop)]
+pub struct PortSetup {
+    /// Its number: 1 to 65535.
+    pub port: u16,
+    /// Its rules.
+    pub rules: PortRules,
+}
+
+impl PortSetup {
+    /// The same port.
+    ///
+    /// # Errors
+    ///
+    /// `NoMemory`.
+    pub fn try_clone(&self, alloc: Global) -> Result<PortSetup, Refusal>
+        ensures ok { IfOk result (λ copy. port_value copy ≡ port_value self.now) }
+        ensures err { IfErr result (λ r. r ≡ Refusal.NoMemory) }
+    {
+        match self.rules.on(alloc, self.rules.address) {
+            Ok(rules) => Ok(PortSetup {
+                port: self.port,
+                rules,
+            }),
+            Err(refusal) => Err(refusal),
+        }
+    }
+}
+
+impl PortRules {
+    /// Those of a subscriber's port on this address, of which a setup says nothing: every host may connect, none takes the place of another,
+    /// and it is hung up after 30 seconds in which it accepts nothing.
+    pub fn default_of(sub: SubId, address: Ipv4Addr) -> PortRules
+        ensures { port_rules_of result ≡ record { sub = sub; address = ipv4_bits address; allow = None; takeover = false; stall = 30; idle = 0; change = OnChange.Safe } }
+    {
+        PortRules {
+            sub,
+            address,
+            allow: Allow { networks: None },
+            takeover: false,
+            stall: STALL,
+            idle: 0,
+            change: OnChange::Safe,
+        }
+    }
+
+    /// The same rules, for a port on this address.
+    ///
+    /// # Errors
+    ///
+    /// `NoMemory`.
+    pub fn on(&self, alloc: Global, address: Ipv4Addr) -> Result<PortRules, Refusal>
+        ensures ok { IfOk result (λ copy. port_rules_of copy ≡ record (port_rules_of self.now) { address = ipv4_bits address }) }
+        ensures err { IfErr result (λ r. r ≡ Refusal.NoMemory) }
+    {
+        match copied(alloc, &self.allow) {
+            Ok(allow) => Ok(PortRules {
+                sub: self.sub,
+                address,
+                allow,
+                takeover: self.takeover,
+                stall: self.stall,
+                idle: self.idle,
+                change: self.change,
+            }),
+            Err(refusal) => Err(refusal),
+        }
+    }
+}
+
+/// A copy of the hosts that may connect.
+fn copied(alloc: Global, allow: &Allow) -> Result<Allow, Refusal>
+    ensures ok { IfOk result (λ copy. option_map (λ v. v.items) copy.networks ≡ option_map (λ v. v.items) allow.now.networks) }
+    ensures err { IfErr result (λ r. r ≡ Refusal.NoMemory) }
+{
+    match &allow.networks {
+        None => Ok(Allow { networks: None }),
+        Some(networks) => {
+            let copy = networks.as_slice().to_vec(alloc)?;
+            Ok(Allow {
+                networks: Some(copy),
+            })
+        }
+    }
 }
 
 /// The rules in a subscriber's table.

@@ -1,16 +1,18 @@
 //! The setup file: what it is read as.
-ghost use Rattle.std.specs.Prelude.{◌≡◌, ◌⊎◌, ◌++◌, IfOk, IfErr, OnOk, map, option_map, option_to_list, codes, string_bytes, Some, None, []};
+ghost use Rattle.std.specs.Prelude.{◌≡◌, ◌⊎◌, ◌++◌, IfOk, IfErr, OnOk, map, option_map, codes, Some, None, []};
 ghost use Rattle.toml.specs.View.{view, table_view};
-ghost use Rattle.pg_operator.specs.Setups.{absent_or, asked_in, asked_of, port_rules_of, edits_by, entry_by, grants_in, list_of, optional, planned, required, settings, setup_in, setup_of, streams_in, subscriber_in, told, whole_in};
+ghost use Rattle.pg_gateway.specs.declared.edit.Edit.TheVariants.{AddPmu, Define, Grant};
+ghost use Rattle.pg_operator.specs.Setups.{absent_or, asked_in, asked_of, edits_by, entry_by, key_in, list_of, optional, required, settings, setup_edits, setup_in, setup_of, stream_in, subscriber_edits, subscriber_in, subscriber_value, whole_in};
 
 use crate::general::{self, LogLevel};
 use crate::keys::SetupKey;
-use crate::port_rules::{PortRules, port_rules_at};
-use crate::source::{self, SourceRules};
+use crate::port_rules::{PortSetup, port_rules_at};
+use crate::source::{self, SourceSetup};
 use crate::{pmu, stream, table};
 use pg_gateway::Edit;
 use pg_ring::{RingBytes, RingSize};
-use pg_wire::{PmuId, Refusal, SubId};
+use pg_stream::{Definition, HeaderText, Members};
+use pg_wire::{PmuKey, Refusal, SubId};
 use std::alloc::Global;
 use std::net::SocketAddrV4;
 use toml::{Table, Value};
@@ -18,19 +20,15 @@ use toml::{Table, Value};
 /// What a setup file asks for.
 #[derive(Debug, Drop)]
 pub struct Setup {
-    /// The edits, in order: each PMU is registered, then each subscriber is added, with its grants and its streams.
-    pub edits: Vec<Edit>,
-    /// The sources to which links are made, each with its address `A.B.C.D:PORT` or `NAME:PORT`; no source twice.
-    pub links: Vec<(PmuId, String)>,
-    /// How each source of the PMUs is watched: each once, in the order in which the file first names them.
-    pub sources: Vec<SourceRules>,
-    /// The subscribers that have a port of their own, with it.
-    pub ports: Vec<(SubId, u16)>,
-    /// The rules of these ports: one for each, in the same order.
-    pub port_rules: Vec<PortRules>,
+    /// The PMUs, in the order of the file.
+    pub pmus: Vec<PmuKey>,
+    /// The sources of the PMUs: each once, in the order in which the file first names them.
+    pub sources: Vec<SourceSetup>,
+    /// The subscribers, in the order of the file.
+    pub subscribers: Vec<SubscriberSetup>,
     /// Milliseconds from tick to tick: 1 to 1000.
     pub tick_ms: u16,
-    /// Threads that read the links: 1 to 8.
+    /// Threads that read the sources: 1 to 8.
     pub ingest: u8,
     /// Threads that serve the subscribers: 1 to 8.
     pub serve: u8,
@@ -42,6 +40,113 @@ pub struct Setup {
     pub status: Option<SocketAddrV4>,
     /// The gateway's name: 1 to 64 printable ASCII characters; `None` for the host's name.
     pub name: Option<String>,
+}
+
+/// A subscriber of a setup.
+#[derive(Debug, Drop)]
+pub struct SubscriberSetup {
+    /// Its number.
+    pub sub: SubId,
+    /// How many data frames its ring holds.
+    pub ring: RingSize,
+    /// How many bytes of data frames its ring holds.
+    pub bytes: RingBytes,
+    /// The PMUs that are granted to it.
+    pub grants: Vec<PmuKey>,
+    /// Its streams.
+    pub streams: Vec<Definition>,
+    /// The port that it connects to, if it has one of its own.
+    pub port: Option<PortSetup>,
+}
+
+impl Setup {
+    /// The edits that the setup asks for, in order: each PMU is registered, then each subscriber is added, with its grants and its streams.
+    ///
+    /// # Errors
+    ///
+    /// `NoMemory`.
+    pub fn edits(&self, alloc: Global) -> Result<Vec<Edit>, Refusal>
+        ensures ok { IfOk result (λ v. v.items ≡ setup_edits self.now) }
+        ensures err { IfErr result (λ r. r ≡ Refusal.NoMemory) }
+    {
+        edits_by(alloc, self.pmus.as_slice(), self.subscribers.as_slice())
+    }
+}
+
+/// The edits that register these PMUs and add these subscribers.
+fn edits_by(
+    alloc: Global,
+    pmus: &[PmuKey],
+    subscribers: &[SubscriberSetup],
+) -> Result<Vec<Edit>, Refusal>
+    ensures ok { IfOk result (λ v. v.items ≡ edits_by pmus.now (map subscriber_value subscribers.now)) }
+    ensures err { IfErr result (λ r. r ≡ Refusal.NoMemory) }
+{
+    let mut edits = Vec::new(alloc);
+    'pmus: for key in pmus {
+        edits.push(Edit::AddPmu(*key))?;
+    }
+    'subscribers: for subscriber in subscribers {
+        subscriber.add_edits(alloc, &mut edits)?;
+    }
+    Ok(edits)
+}
+
+impl SubscriberSetup {
+    /// Adds its edits: it is added, then its grants, then its streams.
+    fn add_edits(&self, alloc: Global, edits: &mut Vec<Edit>) -> Result<(), Refusal>
+        ensures ok { OnOk result (edits.new.items ≡ edits.old.items ++ subscriber_edits (subscriber_value self.now)) }
+        ensures err { IfErr result (λ r. r ≡ Refusal.NoMemory) }
+    {
+        edits.push(Edit::AddSub(self.sub, self.ring, self.bytes))?;
+        add_grants(edits, self.sub, self.grants.as_slice())?;
+        add_streams(alloc, edits, self.sub, self.streams.as_slice())
+    }
+}
+
+/// Adds the grants of these PMUs.
+fn add_grants(edits: &mut Vec<Edit>, sub: SubId, keys: &[PmuKey]) -> Result<(), Refusal>
+    ensures ok { OnOk result (edits.new.items ≡ edits.old.items ++ map (Grant sub) keys.now) }
+    ensures err { IfErr result (λ r. r ≡ Refusal.NoMemory) }
+{
+    'keys: for key in keys {
+        edits.push(Edit::Grant(sub, *key))?;
+    }
+    Ok(())
+}
+
+/// Adds the definitions of these streams.
+fn add_streams(
+    alloc: Global,
+    edits: &mut Vec<Edit>,
+    sub: SubId,
+    streams: &[Definition],
+) -> Result<(), Refusal>
+    ensures ok { OnOk result (edits.new.items ≡ edits.old.items ++ map (Define sub) streams.now) }
+    ensures err { IfErr result (λ r. r ≡ Refusal.NoMemory) }
+{
+    'streams: for definition in streams {
+        edits.push(Edit::Define(sub, copied(alloc, definition)?))?;
+    }
+    Ok(())
+}
+
+/// A copy of a definition.
+fn copied(alloc: Global, definition: &Definition) -> Result<Definition, Refusal>
+    ensures ok { IfOk result (λ copy. copy ≡ definition.now) }
+    ensures err { IfErr result (λ r. r ≡ Refusal.NoMemory) }
+{
+    let header = definition.header.as_slice().to_vec(alloc)?;
+    let members = definition.members.as_slice().to_vec(alloc)?;
+    Ok(Definition {
+        stream: definition.stream,
+        rate: definition.rate,
+        base: definition.base,
+        wait: definition.wait,
+        window: definition.window,
+        header: HeaderText::new(header),
+        members: Members::new(members),
+    })
 }
 
 /// What a setup file asks for. It is TOML, with the keys of [`SetupKey`] and no other, and such values as their kinds say; but a stream's
@@ -72,7 +177,7 @@ pub fn read_setup(alloc: Global, text: &str) -> Result<Setup, Refusal>
     }
 }
 
-/// The edits that a setup file asks for, those of `Setup::edits`, in a time that grows with the length of the text alone: it is not looked
+/// The edits that a setup file asks for, as `Setup::edits` gives them, in a time that grows with the length of the text alone: it is not looked
 /// at what the tables of one source say together.
 ///
 /// # Errors
@@ -107,10 +212,8 @@ fn edits_in(alloc: Global, table: &Table) -> Result<Vec<Edit>, Refusal>
     };
     let pmus = pmu::pmus_at(alloc, table)?;
     let subscribers = subscribers_at(alloc, table)?;
-    let mut edits = pmu::edits_of(alloc, pmus.as_slice())?;
-    let mut rest = subscribers.edits;
-    edits.append(&mut rest)?;
-    Ok(edits)
+    let keys = pmu::keys_of(alloc, pmus.as_slice())?;
+    edits_by(alloc, keys.as_slice(), subscribers.as_slice())
 }
 
 /// What the file's table asks for.
@@ -124,21 +227,16 @@ fn setup_in(alloc: Global, table: &Table) -> Result<Setup, Refusal>
     let Some(general) = general::general_at(table) else {
         return Err(Refusal::BadSetup);
     };
-    let pmus = pmu::pmus_at(alloc, table)?;
-    let links = pmu::links_of(alloc, pmus.as_slice())?;
-    let sources = source::sources_of(alloc, pmus.as_slice())?;
+    let tables = pmu::pmus_at(alloc, table)?;
+    let sources = source::sources_of(alloc, tables.as_slice())?;
     let subscribers = subscribers_at(alloc, table)?;
     let control = general::own_text(alloc, general.control)?;
     let name = general::own_text(alloc, general.name)?;
-    let mut edits = pmu::edits_of(alloc, pmus.as_slice())?;
-    let mut rest = subscribers.edits;
-    edits.append(&mut rest)?;
+    let pmus = pmu::keys_of(alloc, tables.as_slice())?;
     Ok(Setup {
-        edits,
-        links,
+        pmus,
         sources,
-        ports: subscribers.ports,
-        port_rules: subscribers.port_rules,
+        subscribers,
         tick_ms: general.tick_ms,
         ingest: general.ingest,
         serve: general.serve,
@@ -149,17 +247,9 @@ fn setup_in(alloc: Global, table: &Table) -> Result<Setup, Refusal>
     })
 }
 
-/// The edits of the subscribers, the ports that they connect to, and the rules of these.
-#[derive(Drop)]
-struct Subscribers {
-    edits: Vec<Edit>,
-    ports: Vec<(SubId, u16)>,
-    port_rules: Vec<PortRules>,
-}
-
 /// The subscribers, in order.
-fn subscribers_at(alloc: Global, table: &Table) -> Result<Subscribers, Refusal>
-    ensures ok { IfOk result (λ s. option_map planned (required (list_of subscriber_in) (codes "subscriber") (table_view table.now)) ≡ Some (record { edits = s.edits.items; ports = s.ports.items; port_rules = map port_rules_of s.port_rules.items })) }
+fn subscribers_at(alloc: Global, table: &Table) -> Result<Vec<SubscriberSetup>, Refusal>
+    ensures ok { IfOk result (λ v. required (list_of subscriber_in) (codes "subscriber") (table_view table.now) ≡ Some (map subscriber_value v.items)) }
     ensures err { IfErr result (λ r. (r ≡ Refusal.NoMemory) ⊎ ((r ≡ Refusal.BadSetup) × (required (list_of subscriber_in) (codes "subscriber") (table_view table.now) ≡ None))) }
 {
     match table::value_at(table, SetupKey::SUBSCRIBER.name) {
@@ -169,64 +259,27 @@ fn subscribers_at(alloc: Global, table: &Table) -> Result<Subscribers, Refusal>
 }
 
 /// The subscribers' tables.
-fn subscribers_in(alloc: Global, value: &Value) -> Result<Subscribers, Refusal>
-    ensures ok { IfOk result (λ s. option_map planned (list_of subscriber_in (view value.now)) ≡ Some (record { edits = s.edits.items; ports = s.ports.items; port_rules = map port_rules_of s.port_rules.items })) }
+fn subscribers_in(alloc: Global, value: &Value) -> Result<Vec<SubscriberSetup>, Refusal>
+    ensures ok { IfOk result (λ v. list_of subscriber_in (view value.now) ≡ Some (map subscriber_value v.items)) }
     ensures err { IfErr result (λ r. (r ≡ Refusal.NoMemory) ⊎ ((r ≡ Refusal.BadSetup) × (list_of subscriber_in (view value.now) ≡ None))) }
 {
     let Some(items) = value.as_array() else {
         return Err(Refusal::BadSetup);
     };
-    let mut edits = Vec::new(alloc);
-    let mut ports = Vec::new(alloc);
-    let mut port_rules = Vec::new(alloc);
+    let mut subscribers = Vec::new(alloc);
     'items: for item in items {
-        let Subscriber {
-            edits: mut own,
-            port,
-            rules,
-        } = match subscriber_in(alloc, item) {
+        let subscriber = match subscriber_in(alloc, item) {
             Ok(subscriber) => subscriber,
             Err(refusal) => return Err(refusal),
         };
-        edits.append(&mut own)?;
-        add_port(&mut ports, &mut port_rules, port, rules)?;
+        subscribers.push(subscriber)?;
     }
-    Ok(Subscribers {
-        edits,
-        ports,
-        port_rules,
-    })
-}
-
-/// Adds a port that is there, and its rules.
-fn add_port(
-    ports: &mut Vec<(SubId, u16)>,
-    port_rules: &mut Vec<PortRules>,
-    port: Option<(SubId, u16)>,
-    rules: PortRules,
-) -> Result<(), Refusal>
-    ensures ports { OnOk result (ports.new.items ≡ ports.old.items ++ option_to_list port) }
-    ensures port_rules { OnOk result (map port_rules_of port_rules.new.items ≡ map port_rules_of port_rules.old.items ++ option_to_list (option_map (λ p. port_rules_of rules) port)) }
-    ensures err { IfErr result (λ r. r ≡ Refusal.NoMemory) }
-{
-    if let Some(port) = port {
-        ports.push(port)?;
-        port_rules.push(rules)?;
-    }
-    Ok(())
-}
-
-/// The edits of a subscriber, the port that it connects to, and the rules of that port.
-#[derive(Drop)]
-struct Subscriber {
-    edits: Vec<Edit>,
-    port: Option<(SubId, u16)>,
-    rules: PortRules,
+    Ok(subscribers)
 }
 
 /// A subscriber's table.
-fn subscriber_in(alloc: Global, value: &Value) -> Result<Subscriber, Refusal>
-    ensures ok { IfOk result (λ s. subscriber_in (view value.now) ≡ Some (record { edits = s.edits.items; port = s.port; rules = port_rules_of s.rules })) }
+fn subscriber_in(alloc: Global, value: &Value) -> Result<SubscriberSetup, Refusal>
+    ensures ok { IfOk result (λ s. subscriber_in (view value.now) ≡ Some (subscriber_value s)) }
     ensures err { IfErr result (λ r. (r ≡ Refusal.NoMemory) ⊎ ((r ≡ Refusal.BadSetup) × (subscriber_in (view value.now) ≡ None))) }
 {
     let Some(table) = value.as_table() else {
@@ -238,13 +291,27 @@ fn subscriber_in(alloc: Global, value: &Value) -> Result<Subscriber, Refusal>
     let Some(entry) = entry_at(table) else {
         return Err(Refusal::BadSetup);
     };
-    let port = entry.own_port();
     let rules = match port_rules_at(alloc, entry.id, table) {
         Ok(rules) => rules,
         Err(refusal) => return Err(refusal),
     };
-    match edits_at(alloc, &entry, table) {
-        Ok(edits) => Ok(Subscriber { edits, port, rules }),
+    let grants = match grants_at(alloc, table) {
+        Ok(grants) => grants,
+        Err(refusal) => return Err(refusal),
+    };
+    let port = match entry.port {
+        Some(port) => Some(PortSetup { port, rules }),
+        None => None,
+    };
+    match streams_at(alloc, table) {
+        Ok(streams) => Ok(SubscriberSetup {
+            sub: entry.id,
+            ring: entry.size,
+            bytes: entry.bytes,
+            grants,
+            streams,
+            port,
+        }),
         Err(refusal) => Err(refusal),
     }
 }
@@ -256,18 +323,6 @@ struct Entry {
     port: Option<u16>,
     size: RingSize,
     bytes: RingBytes,
-}
-
-impl Entry {
-    /// The subscriber and its port, where it has one.
-    fn own_port(&self) -> Option<(SubId, u16)>
-        ensures { result ≡ option_map (λ p. (self.now.id, p)) self.now.port }
-    {
-        match self.port {
-            Some(port) => Some((self.id, port)),
-            None => None,
-        }
-    }
 }
 
 /// A subscriber's own values in its table.
@@ -314,44 +369,24 @@ fn ring_bytes(table: &Table) -> Option<RingBytes>
     RingBytes::new(table::optional(table, &SetupKey::BYTES)?)
 }
 
-/// A subscriber's edits: it is added, then its grants, then its streams.
-fn edits_at(alloc: Global, entry: &Entry, table: &Table) -> Result<Vec<Edit>, Refusal>
-    ensures ok { IfOk result (λ v. edits_by entry.now.id entry.now.size entry.now.bytes (table_view table.now) ≡ Some v.items) }
-    ensures err { IfErr result (λ r. (r ≡ Refusal.NoMemory) ⊎ ((r ≡ Refusal.BadSetup) × (edits_by entry.now.id entry.now.size entry.now.bytes (table_view table.now) ≡ None))) }
-{
-    let mut grants = match grants_at(alloc, entry.id, table) {
-        Ok(grants) => grants,
-        Err(refusal) => return Err(refusal),
-    };
-    let mut streams = match streams_at(alloc, entry.id, table) {
-        Ok(streams) => streams,
-        Err(refusal) => return Err(refusal),
-    };
-    let mut edits = Vec::new(alloc);
-    edits.push(Edit::AddSub(entry.id, entry.size, entry.bytes))?;
-    edits.append(&mut grants)?;
-    edits.append(&mut streams)?;
-    Ok(edits)
-}
-
-/// A subscriber's grants, none where they are left out.
-fn grants_at(alloc: Global, id: SubId, table: &Table) -> Result<Vec<Edit>, Refusal>
-    ensures ok { IfOk result (λ v. optional [] (grants_in id) (codes "grants") (table_view table.now) ≡ Some v.items) }
-    ensures err { IfErr result (λ r. (r ≡ Refusal.NoMemory) ⊎ ((r ≡ Refusal.BadSetup) × (optional [] (grants_in id) (codes "grants") (table_view table.now) ≡ None))) }
+/// The PMUs that are granted to a subscriber, none where they are left out.
+fn grants_at(alloc: Global, table: &Table) -> Result<Vec<PmuKey>, Refusal>
+    ensures ok { IfOk result (λ v. optional [] (list_of key_in) (codes "grants") (table_view table.now) ≡ Some v.items) }
+    ensures err { IfErr result (λ r. (r ≡ Refusal.NoMemory) ⊎ ((r ≡ Refusal.BadSetup) × (optional [] (list_of key_in) (codes "grants") (table_view table.now) ≡ None))) }
 {
     match table::value_at(table, SetupKey::GRANTS.name) {
-        Some(value) => stream::grants_in(alloc, id, value),
+        Some(value) => stream::keys_in(alloc, value),
         None => Ok(Vec::new(alloc)),
     }
 }
 
 /// A subscriber's streams, none where they are left out.
-fn streams_at(alloc: Global, id: SubId, table: &Table) -> Result<Vec<Edit>, Refusal>
-    ensures ok { IfOk result (λ v. optional [] (streams_in id) (codes "stream") (table_view table.now) ≡ Some v.items) }
-    ensures err { IfErr result (λ r. (r ≡ Refusal.NoMemory) ⊎ ((r ≡ Refusal.BadSetup) × (optional [] (streams_in id) (codes "stream") (table_view table.now) ≡ None))) }
+fn streams_at(alloc: Global, table: &Table) -> Result<Vec<Definition>, Refusal>
+    ensures ok { IfOk result (λ v. optional [] (list_of stream_in) (codes "stream") (table_view table.now) ≡ Some v.items) }
+    ensures err { IfErr result (λ r. (r ≡ Refusal.NoMemory) ⊎ ((r ≡ Refusal.BadSetup) × (optional [] (list_of stream_in) (codes "stream") (table_view table.now) ≡ None))) }
 {
     match table::value_at(table, SetupKey::STREAM.name) {
-        Some(value) => stream::streams_in(alloc, id, value),
+        Some(value) => stream::streams_in(alloc, value),
         None => Ok(Vec::new(alloc)),
     }
 }

@@ -1,8 +1,10 @@
 //! The rules of sources, as the tables of their PMUs say them.
-ghost use Rattle.std.specs.Prelude.{◌≡◌, ◌==◌, ◌⊎◌, ◌++◌, IfOk, IfErr, map, option_to_list, Some, None};
+ghost use Rattle.std.specs.Prelude.{◌≡◌, ◌==◌, ◌⊎◌, ◌++◌, IfOk, IfErr, map, option_map, option_to_list, Some, None};
 ghost use Rattle.std.specs.List.{list_any};
-ghost use Rattle.pg_operator.specs.Setups.{agreed, rules_of, sources_of, told};
+ghost use Rattle.pg_operator.specs.Addresses.{address_value, called_value};
+ghost use Rattle.pg_operator.specs.Setups.{agreed, rules_of, said, single, source_by, source_value, sources_of, told};
 
+use crate::address::{CalledAddress, SourceAddress, owned};
 use crate::keys::{AHEAD_MS, SILENCE};
 use crate::pmu::PmuTable;
 use pg_wire::{PmuId, Refusal};
@@ -22,28 +24,132 @@ pub struct SourceRules {
     pub ahead_ms: u16,
 }
 
-/// The rules of each source of the PMUs, in the order in which they first name it.
-pub(crate) fn sources_of(alloc: Global, pmus: &[PmuTable<'_>]) -> Result<Vec<SourceRules>, Refusal>
-    ensures ok { IfOk result (λ v. sources_of (map told pmus.now) ≡ Some v.items) }
+impl SourceRules {
+    /// Those of a source of which a setup says nothing.
+    pub fn default_of(source: PmuId) -> SourceRules
+        ensures { result ≡ record { source = source; silence = 10; clock_ms = None; ahead_ms = 200 } }
+    {
+        SourceRules {
+            source,
+            silence: SILENCE,
+            clock_ms: None,
+            ahead_ms: AHEAD_MS,
+        }
+    }
+}
+
+/// A source of a setup's PMUs.
+#[derive(Debug, Drop)]
+pub struct SourceSetup {
+    /// Where it is connected to; `None` where no connection is made.
+    pub connect: Option<SourceAddress>,
+    /// How it is watched.
+    pub rules: SourceRules,
+}
+
+impl SourceSetup {
+    /// The same source.
+    ///
+    /// # Errors
+    ///
+    /// `NoMemory`.
+    pub fn try_clone(&self, alloc: Global) -> Result<SourceSetup, Refusal>
+        ensures ok { IfOk result (λ copy. source_value copy ≡ source_value self.now) }
+        ensures err { IfErr result (λ r. r ≡ Refusal.NoMemory) }
+    {
+        let rules = self.rules;
+        match &self.connect {
+            Some(address) => match address.try_clone(alloc) {
+                Ok(address) => Ok(SourceSetup {
+                    connect: Some(address),
+                    rules,
+                }),
+                Err(refusal) => Err(refusal),
+            },
+            None => Ok(SourceSetup {
+                connect: None,
+                rules,
+            }),
+        }
+    }
+}
+
+/// Each source of the PMUs, in the order in which they first name it.
+pub(crate) fn sources_of(alloc: Global, pmus: &[PmuTable<'_>]) -> Result<Vec<SourceSetup>, Refusal>
+    ensures ok { IfOk result (λ v. sources_of (map told pmus.now) ≡ Some (map source_value v.items)) }
     ensures err { IfErr result (λ r. (r ≡ Refusal.NoMemory) ⊎ ((r ≡ Refusal.BadSetup) × (sources_of (map told pmus.now) ≡ None))) }
 {
     let mut sources = Vec::new(alloc);
     'pmus: for pmu in pmus {
         if !is_there(sources.as_slice(), pmu.key.source) {
-            let Some(rules) = rules_of(pmus, pmu.key.source) else {
-                return Err(Refusal::BadSetup);
+            let source = match source_by(alloc, pmus, pmu.key.source) {
+                Ok(source) => source,
+                Err(refusal) => return Err(refusal),
             };
-            sources.push(rules)?;
+            sources.push(source)?;
         }
     }
     Ok(sources)
 }
 
-/// Whether one of the rules is of this source.
-fn is_there(rules: &[SourceRules], source: PmuId) -> bool
-    ensures { result ≡ list_any (λ r. r.source == source) rules.now }
+/// Whether one of the sources is this one.
+fn is_there(sources: &[SourceSetup], source: PmuId) -> bool
+    ensures { result ≡ list_any (λ s. s.rules.source == source) sources.now }
 {
-    rules.iter().any(|rule| rule.source == source)
+    sources.iter().any(|it| it.rules.source == source)
+}
+
+/// A source, as its tables say it.
+fn source_by(alloc: Global, pmus: &[PmuTable<'_>], source: PmuId) -> Result<SourceSetup, Refusal>
+    ensures ok { IfOk result (λ s. source_by (map told pmus.now) source ≡ Some (source_value s)) }
+    ensures err { IfErr result (λ r. (r ≡ Refusal.NoMemory) ⊎ ((r ≡ Refusal.BadSetup) × (source_by (map told pmus.now) source ≡ None))) }
+{
+    let Some(address) = address_of(pmus, source) else {
+        return Err(Refusal::BadSetup);
+    };
+    let Some(rules) = rules_of(pmus, source) else {
+        return Err(Refusal::BadSetup);
+    };
+    match address {
+        Some(address) => match owned(alloc, address) {
+            Ok(address) => Ok(SourceSetup {
+                connect: Some(address),
+                rules,
+            }),
+            Err(refusal) => Err(refusal),
+        },
+        None => Ok(SourceSetup {
+            connect: None,
+            rules,
+        }),
+    }
+}
+
+/// The address of a source, or nothing where two of its tables have one.
+fn address_of<'a>(pmus: &[PmuTable<'a>], source: PmuId) -> Option<Option<CalledAddress<'a>>>
+    ensures { option_map (λ o. option_map called_value o) result ≡ single (said (λ p. p.connect) source (map told pmus.now)) }
+{
+    let mut address = None;
+    'pmus: for pmu in pmus {
+        if pmu.key.source == source {
+            address = only_one(address, pmu.connect)?;
+        }
+    }
+    Some(address)
+}
+
+/// The address that is there; nothing where both are.
+fn only_one<'a>(
+    one: Option<CalledAddress<'a>>,
+    other: Option<CalledAddress<'a>>,
+) -> Option<Option<CalledAddress<'a>>>
+    ensures { option_map (λ o. option_map called_value o) result ≡ single (option_to_list (option_map called_value one.entry) ++ option_to_list (option_map called_value other.entry)) }
+{
+    match (one, other) {
+        (Some(_), Some(_)) => None,
+        (Some(one), None) => Some(Some(one)),
+        (None, other) => Some(other),
+    }
 }
 
 /// The rules of a source, or nothing where two of its tables differ.

@@ -1,53 +1,34 @@
-//! The tables `[[subscriber.stream]]` of the setup file, and a subscriber's grants.
+//! The tables `[[subscriber.stream]]` of the setup file, and lists of PMUs.
 ghost use Rattle.std.specs.Prelude.{◌≡◌, ◌⊎◌, IfOk, IfErr, IfSome, map, option_map, codes, Some, None, []};
 ghost use Rattle.toml.specs.View.{view, table_view};
-ghost use Rattle.pg_operator.specs.Setups.{key_in, list_of, members_in, numbers_in, optional, required, text_in, keys_within, stream_names, stream_in, whole_in, wide, grants_in, streams_in};
+ghost use Rattle.pg_operator.specs.Setups.{key_in, list_of, members_in, numbers_in, optional, required, text_in, keys_within, stream_names, stream_in, whole_in, wide};
 
 use crate::keys::SetupKey;
 use crate::kind::MEMBER_LIMIT;
 use crate::table;
-use pg_gateway::Edit;
 use pg_lines::Numbers;
 use pg_stream::{Definition, HeaderText, Members};
-use pg_wire::{PmuKey, Refusal, StreamId, SubId};
+use pg_wire::{PmuKey, Refusal, StreamId};
 use std::alloc::Global;
 use toml::{Table, Value};
 
-/// The grants of a subscriber.
-pub(crate) fn grants_in(alloc: Global, id: SubId, value: &Value) -> Result<Vec<Edit>, Refusal>
-    ensures ok { IfOk result (λ v. grants_in id (view value.now) ≡ Some v.items) }
-    ensures err { IfErr result (λ r. (r ≡ Refusal.NoMemory) ⊎ ((r ≡ Refusal.BadSetup) × (grants_in id (view value.now) ≡ None))) }
-{
-    let Some(items) = value.as_array() else {
-        return Err(Refusal::BadSetup);
-    };
-    let mut edits = Vec::new(alloc);
-    'items: for item in items {
-        let Some(key) = table::key(item) else {
-            return Err(Refusal::BadSetup);
-        };
-        edits.push(Edit::Grant(id, key))?;
-    }
-    Ok(edits)
-}
-
 /// The streams of a subscriber.
-pub(crate) fn streams_in(alloc: Global, id: SubId, value: &Value) -> Result<Vec<Edit>, Refusal>
-    ensures ok { IfOk result (λ v. streams_in id (view value.now) ≡ Some v.items) }
-    ensures err { IfErr result (λ r. (r ≡ Refusal.NoMemory) ⊎ ((r ≡ Refusal.BadSetup) × (streams_in id (view value.now) ≡ None))) }
+pub(crate) fn streams_in(alloc: Global, value: &Value) -> Result<Vec<Definition>, Refusal>
+    ensures ok { IfOk result (λ v. list_of stream_in (view value.now) ≡ Some v.items) }
+    ensures err { IfErr result (λ r. (r ≡ Refusal.NoMemory) ⊎ ((r ≡ Refusal.BadSetup) × (list_of stream_in (view value.now) ≡ None))) }
 {
     let Some(items) = value.as_array() else {
         return Err(Refusal::BadSetup);
     };
-    let mut edits = Vec::new(alloc);
+    let mut streams = Vec::new(alloc);
     'items: for item in items {
         let definition = match stream_in(alloc, item) {
             Ok(definition) => definition,
             Err(refusal) => return Err(refusal),
         };
-        edits.push(Edit::Define(id, definition))?;
+        streams.push(definition)?;
     }
-    Ok(edits)
+    Ok(streams)
 }
 
 /// A stream's table.
@@ -161,7 +142,7 @@ fn members_in(alloc: Global, value: &Value) -> Result<Members, Refusal>
 }
 
 /// The keys of a list.
-fn keys_in(alloc: Global, value: &Value) -> Result<Vec<PmuKey>, Refusal>
+pub(crate) fn keys_in(alloc: Global, value: &Value) -> Result<Vec<PmuKey>, Refusal>
     ensures ok { IfOk result (λ v. list_of key_in (view value.now) ≡ Some v.items) }
     ensures err { IfErr result (λ r. (r ≡ Refusal.NoMemory) ⊎ ((r ≡ Refusal.BadSetup) × (list_of key_in (view value.now) ≡ None))) }
 {

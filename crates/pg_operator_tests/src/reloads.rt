@@ -3,7 +3,7 @@
 use crate::asserts::same;
 use crate::told::{edits_told, port_told, watch_told};
 use pg_gateway::{Edit, Event, Gate, Gateway, Reply};
-use pg_operator::read_setup;
+use pg_operator::{SourceSetup, read_setup};
 use pg_reload::{Changes, Order, changes_between};
 use std::alloc::Global;
 use std::process::Abort;
@@ -155,9 +155,17 @@ fn changes_told(rt: &impl Abort, alloc: Global, changes: &Changes) -> String {
             Order::Unlisten(sub) => format!(in alloc; "unlisten {}; ", sub.get()),
             Order::Undial(source) => format!(in alloc; "undial {}; ", source.get()),
             Order::Listen(port) => Ok(port_told(rt, alloc, port.port, &port.rules)),
-            Order::Dial(call) => {
-                let watch = watch_told(rt, alloc, &call.rules);
-                format!(in alloc; "dial {} {} {watch}; ", call.source.get(), call.address)
+            Order::Dial(
+                SourceSetup {
+                    connect: Some(address),
+                    rules,
+                },
+            ) => {
+                let watch = watch_told(rt, alloc, rules);
+                format!(in alloc; "dial {} {address} {watch}; ", rules.source.get())
+            }
+            Order::Dial(source) => {
+                format!(in alloc; "dial {} nowhere; ", source.rules.source.get())
             }
         };
         text.push_str(told.expect(rt, "memory").as_str())
@@ -216,7 +224,7 @@ fn between(rt: &impl Abort, alloc: Global, old: &str, new: &str) -> String {
     let back = changes_between(alloc, &new, &old).expect(rt, "memory");
     let text = changes_told(rt, alloc, &there);
     let mut gateway = Gateway::new(alloc).expect(rt, "memory");
-    does_all(rt, &mut gateway, old.edits);
+    does_all(rt, &mut gateway, old.edits(alloc).expect(rt, "memory"));
     does_all(rt, &mut gateway, there.edits);
     does_all(rt, &mut gateway, back.edits);
     text

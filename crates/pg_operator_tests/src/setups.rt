@@ -318,14 +318,19 @@ enum Part {
     General,
 }
 
-/// The edits, links, ports and numbers.
+/// The edits, the addresses of sources, the ports and the numbers.
 fn edits_of(rt: &impl Abort, alloc: Global, setup: &Setup) -> String {
-    let mut text = edits_told(rt, alloc, setup.edits.as_slice());
-    for link in setup.links.as_slice() {
-        write!(text, "link {} {}; ", link.0.get(), link.1).expect(rt, "memory");
+    let edits = setup.edits(alloc).expect(rt, "memory");
+    let mut text = edits_told(rt, alloc, edits.as_slice());
+    for source in setup.sources.as_slice() {
+        if let Some(address) = &source.connect {
+            write!(text, "link {} {address}; ", source.rules.source.get()).expect(rt, "memory");
+        }
     }
-    for port in setup.ports.as_slice() {
-        write!(text, "port {} {}; ", port.0.get(), port.1).expect(rt, "memory");
+    for subscriber in setup.subscribers.as_slice() {
+        if let Some(port) = &subscriber.port {
+            write!(text, "port {} {}; ", subscriber.sub.get(), port.port).expect(rt, "memory");
+        }
     }
     write!(text, "{} {} {}", setup.tick_ms, setup.ingest, setup.serve).expect(rt, "memory");
     text
@@ -334,25 +339,22 @@ fn edits_of(rt: &impl Abort, alloc: Global, setup: &Setup) -> String {
 /// The sources, with how each is watched.
 fn sources_of(rt: &impl Abort, alloc: Global, setup: &Setup) -> String {
     let mut text = String::new(alloc);
-    for rules in setup.sources.as_slice() {
-        let watch = watch_told(rt, alloc, rules);
-        write!(text, "{} {watch}; ", rules.source.get()).expect(rt, "memory");
+    for source in setup.sources.as_slice() {
+        let watch = watch_told(rt, alloc, &source.rules);
+        write!(text, "{} {watch}; ", source.rules.source.get()).expect(rt, "memory");
     }
     text
 }
 
-/// The ports with their rules, of which there are as many.
+/// The ports with their rules.
 fn ports_of(rt: &impl Abort, alloc: Global, setup: &Setup) -> String {
-    same(rt, setup.port_rules.len(), setup.ports.len());
     let mut text = String::new(alloc);
-    for (rules, port) in setup
-        .port_rules
-        .as_slice()
-        .iter()
-        .zip(setup.ports.as_slice())
-    {
-        let port = port_told(rt, alloc, port.1, rules);
-        text.push_str(port.as_str()).expect(rt, "memory");
+    for subscriber in setup.subscribers.as_slice() {
+        if let Some(port) = &subscriber.port {
+            same(rt, port.rules.sub, subscriber.sub);
+            let port = port_told(rt, alloc, port.port, &port.rules);
+            text.push_str(port.as_str()).expect(rt, "memory");
+        }
     }
     text
 }

@@ -1,8 +1,8 @@
 -- Definitions that the contracts of reload cite, in the order in which to read them.
 pub mod Alike
 pub mod Edits
+pub mod Restarts
 pub mod Ports
 pub mod Orders
-pub mod Restarts
 pub mod Apart
 pub mod Leading

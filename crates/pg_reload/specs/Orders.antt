@@ -1,97 +1,91 @@
--- Sources that are called, and ports that are open, by one setup and not, or otherwise, by another.
-use Rattle.std.specs.Prelude.{◌≡◌, true, false, ℕ, ◌==◌, ◌&&◌, ◌++◌, Bool, List, map, find, Option, Some, None, if◌then◌else◌, nat_eq, string_bytes}
+-- Sources that are connected to, and ports that are open, by one setup and not, or otherwise, by another.
+use Rattle.std.specs.Prelude.{◌≡◌, true, false, ℕ, ◌==◌, ◌&&◌, ◌++◌, Bool, List, map, filter, Option, Some, None, is_some, if◌then◌else◌, nat_eq}
 use Rattle.std.specs.List.{list_any, filter_map}
-use Rattle.std.specs.Option.{option_eq, unwrap_or}
+use Rattle.std.specs.Option.{option_eq}
 use Rattle.std.specs.Str.{bytes_eq}
+use Rattle.pg_operator.specs.Addresses.{AddressValue, at, named}
+use Rattle.pg_operator.specs.Setups.{PortValue, SourceValue, port_value, source_value}
+use Rattle.pg_operator.specs.declared.setup.Setup.{Setup}
 use Rattle.pg_operator.specs.declared.source.SourceRules.{SourceRules}
-use Rattle.pg_reload.specs.declared.orders.Call.{Call}
-use Rattle.pg_reload.specs.Ports.{Opened, is_open, opened_of}
+use Rattle.pg_reload.specs.Ports.{is_open}
+use Rattle.pg_reload.specs.Restarts.{endpoint_eq}
 use Rattle.pg_reload.specs.declared.orders.Order.{Order}
 use Rattle.pg_reload.specs.declared.orders.Order.TheVariants as order
 
--- a source, its address, and how it is watched
-pub record Called : Type 0 where
-  pub source : ℕ
-  pub address : List ℕ
-  pub rules : SourceRules
+-- those of the sources that are connected to
+abbrev pub calls_of : List SourceValue → List SourceValue
+calls_of sources = filter (λ s. is_some s.connect) sources
 
--- the same, of a call of the code
-abbrev pub called_of : Call → Called
-called_of c = record { source = c.source; address = string_bytes c.address; rules = c.rules }
-
--- the rules that a setup has for a source; 10 seconds, no guard, and 200 milliseconds ahead, where it has none
-abbrev pub rules_for : List SourceRules → ℕ → SourceRules
-rules_for sources source = unwrap_or (find (λ r. r.source == source) sources) (record { source = source; silence = 10; clock_ms = None; ahead_ms = 200 })
-
--- the calls that a setup's links ask for
-abbrev pub called_by : List SourceRules → ℕ × List ℕ → Called
-called_by sources link = record { source = link.0; address = link.1; rules = rules_for sources link.0 }
-
-abbrev pub calls_by : List (ℕ × List ℕ) → List SourceRules → List Called
-calls_by links sources = map (called_by sources) links
+abbrev pub connected : Setup → List SourceValue
+connected setup = calls_of (map source_value setup.sources.items)
 
 -- every field is the same
 abbrev pub rules_eq : SourceRules → SourceRules → Bool
 rules_eq r q = ((r.source == q.source && r.silence == q.silence) && option_eq nat_eq r.clock_ms q.clock_ms) && r.ahead_ms == q.ahead_ms
 
-abbrev pub called_eq : Called → Called → Bool
-called_eq c d = (c.source == d.source && bytes_eq c.address d.address) && rules_eq c.rules d.rules
+abbrev pub address_eq : AddressValue → AddressValue → Bool
+address_eq (at a) (at b) = endpoint_eq a b
+address_eq (named a) (named b) = bytes_eq a b
+address_eq a b = false
+
+abbrev pub called_eq : SourceValue → SourceValue → Bool
+called_eq c d = option_eq address_eq c.connect d.connect && rules_eq c.rules d.rules
 
 -- one of the calls is this one
-abbrev pub is_called : List Called → Called → Bool
+abbrev pub is_called : List SourceValue → SourceValue → Bool
 is_called calls c = list_any (λ d. called_eq d c) calls
 
 -- ---- orders
 
 pub data OrderValue : Type 0 where
   undialled : ℕ → OrderValue
-  dialled : Called → OrderValue
+  dialled : SourceValue → OrderValue
   unlistened : ℕ → OrderValue
-  listened : Opened → OrderValue
+  listened : PortValue → OrderValue
 
 -- the value of an order
 abbrev pub order_value : Order → OrderValue
 order_value (order.Undial source) = undialled source
-order_value (order.Dial call) = dialled (called_of call)
+order_value (order.Dial call) = dialled (source_value call)
 order_value (order.Unlisten sub) = unlistened sub
-order_value (order.Listen port) = listened (opened_of port)
+order_value (order.Listen port) = listened (port_value port)
 
 -- calls that are not among the others end, or begin
-abbrev pub ended : List Called → Called → Option OrderValue
-ended others c = if is_called others c then None else Some (undialled c.source)
+abbrev pub ended : List SourceValue → SourceValue → Option OrderValue
+ended others c = if is_called others c then None else Some (undialled c.rules.source)
 
-abbrev pub begun : List Called → Called → Option OrderValue
+abbrev pub begun : List SourceValue → SourceValue → Option OrderValue
 begun others c = if is_called others c then None else Some (dialled c)
 
 -- first end those that are gone or changed, then begin the new and changed ones
-abbrev pub orders_between : List Called → List Called → List OrderValue
+abbrev pub orders_between : List SourceValue → List SourceValue → List OrderValue
 orders_between old new = filter_map (ended new) old ++ filter_map (begun old) new
 
 -- ports that are not among the others are closed, or opened
-abbrev pub closed : List Opened → Opened → Option OrderValue
+abbrev pub closed : List PortValue → PortValue → Option OrderValue
 closed others p = if is_open others p then None else Some (unlistened p.rules.sub)
 
-abbrev pub listened_of : List Opened → Opened → Option OrderValue
+abbrev pub listened_of : List PortValue → PortValue → Option OrderValue
 listened_of others p = if is_open others p then None else Some (listened p)
 
-abbrev pub port_orders_between : List Opened → List Opened → List OrderValue
+abbrev pub port_orders_between : List PortValue → List PortValue → List OrderValue
 port_orders_between old new = filter_map (closed new) old ++ filter_map (listened_of old) new
 
 -- ---- what orders leave alone
 
 -- both setups have the same of these calls
-abbrev pub SameCalls : (Called → Bool) → List Called → List Called → Type 0
-SameCalls p old new = (c : Called) → p c ≡ true → is_called old c ≡ is_called new c
+abbrev pub SameCalls : (SourceValue → Bool) → List SourceValue → List SourceValue → Type 0
+SameCalls p old new = (c : SourceValue) → p c ≡ true → is_called old c ≡ is_called new c
 
 -- an order about this source
 abbrev pub is_about : ℕ → OrderValue → Bool
 is_about s (undialled t) = t == s
-is_about s (dialled c) = c.source == s
+is_about s (dialled c) = c.rules.source == s
 is_about s t = false
 
 -- both setups have the same of these ports
-abbrev pub SamePorts : (Opened → Bool) → List Opened → List Opened → Type 0
-SamePorts p old new = (o : Opened) → p o ≡ true → is_open old o ≡ is_open new o
+abbrev pub SamePorts : (PortValue → Bool) → List PortValue → List PortValue → Type 0
+SamePorts p old new = (o : PortValue) → p o ≡ true → is_open old o ≡ is_open new o
 
 -- an order about this subscriber
 abbrev pub is_of : ℕ → OrderValue → Bool

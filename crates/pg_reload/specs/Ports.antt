@@ -1,28 +1,19 @@
 -- Ports that are open by one setup and not, or otherwise, by another.
-use Rattle.std.specs.Prelude.{ℕ, ◌==◌, ◌&&◌, Bool, true, false, List, find, Option, Some, None, option_map}
+use Rattle.std.specs.Prelude.{ℕ, ◌==◌, ◌&&◌, Bool, true, false, List, map, Option, Some, None}
 use Rattle.std.specs.Cmp.Lexicographic.{pointwise}
 use Rattle.std.specs.List.{list_any, filter_map}
 use Rattle.pg_limits.specs.Hosts.{Net}
 use Rattle.pg_limits.specs.declared.layouts.OnChange.{OnChange}
 use Rattle.pg_limits.specs.declared.layouts.OnChange.TheVariants as on_change
-use Rattle.pg_operator.specs.Setups.{PortRulesValue, port_rules_of}
-use Rattle.pg_reload.specs.declared.ports.Port.{Port}
+use Rattle.pg_operator.specs.Setups.{PortRulesValue, PortValue, Subscriber, subscriber_value}
+use Rattle.pg_operator.specs.declared.setup.Setup.{Setup}
 
--- a subscriber's port, and its rules
-pub record Opened : Type 0 where
-  pub port : ℕ
-  pub rules : PortRulesValue
+-- those of the subscribers that have one
+abbrev pub ports_of : List Subscriber → List PortValue
+ports_of subscribers = filter_map (λ s. s.port) subscribers
 
--- the same, of a port of the code
-abbrev pub opened_of : Port → Opened
-opened_of p = record { port = p.port; rules = port_rules_of p.rules }
-
--- a port with the rules that the setup has for its subscriber
-abbrev pub opened_by : List PortRulesValue → ℕ × ℕ → Option Opened
-opened_by port_rules port = option_map (λ d. record { port = port.1; rules = d }) (find (λ d. d.sub == port.0) port_rules)
-
-abbrev pub ports_by : List (ℕ × ℕ) → List PortRulesValue → List Opened
-ports_by ports port_rules = filter_map (opened_by port_rules) ports
+abbrev pub open_ports : Setup → List PortValue
+open_ports setup = ports_of (map subscriber_value setup.subscribers.items)
 
 -- every field is the same
 abbrev pub net_eq : Net → Net → Bool
@@ -49,9 +40,9 @@ port_rules_eq c d =
     (((((c.sub == d.sub && c.address == d.address) && allow_eq c.allow d.allow) && is_same_bool c.takeover d.takeover) && c.stall == d.stall) && c.idle == d.idle)
     && change_eq c.change d.change
 
-abbrev pub opened_eq : Opened → Opened → Bool
+abbrev pub opened_eq : PortValue → PortValue → Bool
 opened_eq p q = p.port == q.port && port_rules_eq p.rules q.rules
 
 -- one of the ports is this one
-abbrev pub is_open : List Opened → Opened → Bool
+abbrev pub is_open : List PortValue → PortValue → Bool
 is_open ports p = list_any (λ q. opened_eq q p) ports

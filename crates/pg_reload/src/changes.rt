@@ -1,12 +1,12 @@
 //! What is to be done so that a gateway that runs by one setup runs by another.
-ghost use Rattle.std.specs.Prelude.{◌≡◌, ◌==◌, ◌++◌, ℕ, false, true, [], IfOk, IfErr, map, string_bytes};
+ghost use Rattle.std.specs.Prelude.{◌≡◌, ◌==◌, ◌++◌, ℕ, false, true, [], IfOk, IfErr, map};
 ghost use Rattle.std.specs.List.{list_any};
 ghost use Rattle.pg_reload.specs.Apart.{Agree, AgreeOn, touches};
 ghost use Rattle.pg_reload.specs.Edits.{edits_between};
 ghost use Rattle.pg_reload.specs.Leading.{IsSound, LeadsFrom};
-ghost use Rattle.pg_reload.specs.Orders.{SameCalls, SamePorts, calls_by, is_about, is_of, orders_between, port_orders_between, order_value};
-ghost use Rattle.pg_reload.specs.Ports.{ports_by};
-ghost use Rattle.pg_operator.specs.Setups.{port_rules_of};
+ghost use Rattle.pg_reload.specs.Orders.{SameCalls, SamePorts, connected, is_about, is_of, orders_between, port_orders_between, order_value};
+ghost use Rattle.pg_reload.specs.Ports.{open_ports};
+ghost use Rattle.pg_operator.specs.Setups.{setup_edits};
 ghost use Rattle.pg_reload.specs.Restarts.{keys_of, restarts_between};
 
 use crate::orders::{self, Order};
@@ -50,32 +50,28 @@ pub struct Changes {
 ///
 /// `NoMemory` alone.
 pub fn changes_between(alloc: Global, old: &Setup, new: &Setup) -> Result<Changes, Refusal>
-    ensures edits { IfOk result (λ c. c.edits.items ≡ edits_between old.now.edits.items new.now.edits.items) }
-    ensures neighbours { IfOk result (λ c. (u : ℕ) → AgreeOn (touches old.now.edits.items u) old.now.edits.items new.now.edits.items
-        → list_any (touches old.now.edits.items u) c.edits.items ≡ false) }
-    ensures nothing { IfOk result (λ c. Agree old.now.edits.items new.now.edits.items → c.edits.items ≡ []) }
-    ensures leads { IfOk result (λ c. IsSound old.now.edits.items → IsSound new.now.edits.items
-        → LeadsFrom old.now.edits.items new.now.edits.items c.edits.items) }
-    ensures orders { IfOk result (λ c. map order_value c.orders.items ≡ orders_between
-        (calls_by (map (λ l. (l.0, string_bytes l.1)) old.now.links.items) old.now.sources.items)
-        (calls_by (map (λ l. (l.0, string_bytes l.1)) new.now.links.items) new.now.sources.items)
-        ++ port_orders_between (ports_by old.now.ports.items (map port_rules_of old.now.port_rules.items)) (ports_by new.now.ports.items (map port_rules_of new.now.port_rules.items))) }
-    ensures sources { IfOk result (λ c. let before = calls_by (map (λ l. (l.0, string_bytes l.1)) old.now.links.items) old.now.sources.items in
-        let after = calls_by (map (λ l. (l.0, string_bytes l.1)) new.now.links.items) new.now.sources.items in
-        (s : ℕ) → SameCalls (λ call. call.source == s) before after → list_any (is_about s) (map order_value c.orders.items) ≡ false) }
-    ensures ports { IfOk result (λ c. let before = ports_by old.now.ports.items (map port_rules_of old.now.port_rules.items) in
-        let after = ports_by new.now.ports.items (map port_rules_of new.now.port_rules.items) in
-        (u : ℕ) → SamePorts (λ port. port.rules.sub == u) before after → list_any (is_of u) (map order_value c.orders.items) ≡ false) }
-    ensures quiet { IfOk result (λ c. SameCalls (λ call. true)
-        (calls_by (map (λ l. (l.0, string_bytes l.1)) old.now.links.items) old.now.sources.items)
-        (calls_by (map (λ l. (l.0, string_bytes l.1)) new.now.links.items) new.now.sources.items)
-        → SamePorts (λ port. true) (ports_by old.now.ports.items (map port_rules_of old.now.port_rules.items)) (ports_by new.now.ports.items (map port_rules_of new.now.port_rules.items))
-        → map order_value c.orders.items ≡ []) }
+    ensures edits { IfOk result (λ c. c.edits.items ≡ edits_between (setup_edits old.now) (setup_edits new.now)) }
+    ensures neighbours { IfOk result (λ c. (u : ℕ) → AgreeOn (touches (setup_edits old.now) u) (setup_edits old.now) (setup_edits new.now)
+        → list_any (touches (setup_edits old.now) u) c.edits.items ≡ false) }
+    ensures nothing { IfOk result (λ c. Agree (setup_edits old.now) (setup_edits new.now) → c.edits.items ≡ []) }
+    ensures leads { IfOk result (λ c. IsSound (setup_edits old.now) → IsSound (setup_edits new.now)
+        → LeadsFrom (setup_edits old.now) (setup_edits new.now) c.edits.items) }
+    ensures orders { IfOk result (λ c. map order_value c.orders.items
+        ≡ orders_between (connected old.now) (connected new.now) ++ port_orders_between (open_ports old.now) (open_ports new.now)) }
+    ensures sources { IfOk result (λ c. (s : ℕ) → SameCalls (λ call. call.rules.source == s) (connected old.now) (connected new.now)
+        → list_any (is_about s) (map order_value c.orders.items) ≡ false) }
+    ensures ports { IfOk result (λ c. (u : ℕ) → SamePorts (λ port. port.rules.sub == u) (open_ports old.now) (open_ports new.now)
+        → list_any (is_of u) (map order_value c.orders.items) ≡ false) }
+    ensures quiet { IfOk result (λ c. SameCalls (λ call. true) (connected old.now) (connected new.now)
+        → SamePorts (λ port. true) (open_ports old.now) (open_ports new.now) → map order_value c.orders.items ≡ []) }
     ensures restarts { IfOk result (λ c. c.restarts.items ≡ restarts_between (keys_of old.now) (keys_of new.now)) }
     ensures refused { IfErr result (λ r. r ≡ Refusal.NoMemory) }
 {
-    let edits = steps::edits_between(alloc, old.edits.as_slice(), new.edits.as_slice())?;
-    let mut orders = orders::orders_between(alloc, old, new)?;
+    let before = old.edits(alloc)?;
+    let after = new.edits(alloc)?;
+    let edits = steps::edits_between(alloc, before.as_slice(), after.as_slice())?;
+    let mut orders = Vec::new(alloc);
+    orders::add_orders(alloc, &mut orders, old, new)?;
     ports::add_orders(alloc, &mut orders, old, new)?;
     let restarts = restarts::restarts_between(alloc, old, new)?;
     Ok(Changes {

@@ -11,6 +11,5 @@ mod restarts;
 mod steps;
 
 pub use changes::{Changes, changes_between};
-pub use orders::{Call, Order};
-pub use ports::Port;
+pub use orders::Order;
 pub use restarts::Restart;

@@ -1,93 +1,43 @@
-//! Sources that are called by one setup and not, or otherwise, by another.
-ghost use Rattle.std.specs.Prelude.{◌≡◌, ◌++◌, IfOk, IfErr, OnOk, map, string_bytes};
+//! Sources that are connected to by one setup and not, or otherwise, by another.
+ghost use Rattle.std.specs.Prelude.{◌≡◌, ◌++◌, IfOk, IfErr, OnOk, map, option_map};
 ghost use Rattle.std.specs.List.{filter_map, list_any};
-ghost use Rattle.pg_reload.specs.Orders.{begun, called_by, called_eq, called_of, calls_by, ended, orders_between, rules_eq, rules_for, order_value};
+ghost use Rattle.std.specs.Option.{option_eq};
+ghost use Rattle.pg_operator.specs.Addresses.{address_value};
+ghost use Rattle.pg_operator.specs.Setups.{source_value};
+ghost use Rattle.pg_reload.specs.Orders.{address_eq, begun, called_eq, calls_of, connected, ended, orders_between, order_value, rules_eq};
 
-use crate::ports::Port;
-use pg_operator::{Setup, SourceRules};
+use crate::restarts::is_same_endpoint;
+use pg_operator::{PortSetup, Setup, SourceAddress, SourceRules, SourceSetup};
 use pg_wire::{PmuId, Refusal, SubId};
 use std::alloc::Global;
-
-/// A source that is called.
-#[derive(Debug, Drop)]
-pub struct Call {
-    /// The source.
-    pub source: PmuId,
-    /// Where it is called: `A.B.C.D:PORT` or `NAME:PORT`.
-    pub address: String,
-    /// How it is watched.
-    pub rules: SourceRules,
-}
 
 /// What is to be done about a source or a port.
 #[derive(Debug, Drop)]
 pub enum Order {
-    /// The connection of a source ends, and it is called no longer.
+    /// The connection of a source ends, and it is connected to no longer.
     Undial(PmuId),
-    /// A source is called.
-    Dial(Call),
+    /// A source is connected to, where its setup says.
+    Dial(SourceSetup),
     /// A subscriber's port is closed, and the subscriber that is connected is hung up.
     Unlisten(SubId),
     /// A port is opened for its subscriber.
-    Listen(Port),
+    Listen(PortSetup),
 }
 
-/// After how many seconds a source is silent of which nothing is said.
-const SILENCE: u16 = 10;
-
-/// How many milliseconds a source may be ahead of the reference of which nothing is said.
-const AHEAD_MS: u16 = 200;
-
-/// The rules of a source.
-fn rules_for(sources: &[SourceRules], source: PmuId) -> SourceRules
-    ensures { result ≡ rules_for sources.now source }
-{
-    'sources: for rules in sources {
-        if rules.source == source {
-            return *rules;
-        }
-    }
-    SourceRules {
-        source,
-        silence: SILENCE,
-        clock_ms: None,
-        ahead_ms: AHEAD_MS,
-    }
-}
-
-/// The call that a link asks for.
-fn called_by(
-    alloc: Global,
-    link: &(PmuId, String),
-    sources: &[SourceRules],
-) -> Result<Call, Refusal>
-    ensures ok { IfOk result (λ call. called_of call ≡ called_by sources.now (link.now.0, string_bytes link.now.1)) }
-    ensures err { IfErr result (λ r. r ≡ Refusal.NoMemory) }
-{
-    let address = String::from_str(alloc, link.1.as_str())?;
-    Ok(Call {
-        source: link.0,
-        address,
-        rules: rules_for(sources, link.0),
-    })
-}
-
-/// The calls that a setup's links ask for.
-fn calls_by(
-    alloc: Global,
-    links: &[(PmuId, String)],
-    sources: &[SourceRules],
-) -> Result<Vec<Call>, Refusal>
-    ensures ok { IfOk result (λ calls. map called_of calls.items ≡ calls_by (map (λ l. (l.0, string_bytes l.1)) links.now) sources.now) }
+/// The sources that are connected to.
+fn calls_of(alloc: Global, sources: &[SourceSetup]) -> Result<Vec<SourceSetup>, Refusal>
+    ensures ok { IfOk result (λ calls. map source_value calls.items ≡ calls_of (map source_value sources.now)) }
     ensures err { IfErr result (λ r. r ≡ Refusal.NoMemory) }
 {
     let mut calls = Vec::new(alloc);
-    'links: for link in links {
-        let call = match called_by(alloc, link, sources) {
-            Ok(call) => call,
-            Err(refusal) => return Err(refusal),
-        };
-        calls.push(call)?;
+    'sources: for source in sources {
+        if source.connect.is_some() {
+            let call = match source.try_clone(alloc) {
+                Ok(call) => call,
+                Err(refusal) => return Err(refusal),
+            };
+            calls.push(call)?;
+        }
     }
     Ok(calls)
 }
@@ -102,30 +52,56 @@ fn are_rules_alike(one: &SourceRules, other: &SourceRules) -> bool
         && one.ahead_ms == other.ahead_ms
 }
 
-/// Whether both are one call.
-fn is_same_call(one: &Call, other: &Call) -> bool
-    ensures { result ≡ called_eq (called_of one.now) (called_of other.now) }
+/// Whether both are one address.
+fn is_same_address(one: &SourceAddress, other: &SourceAddress) -> bool
+    ensures { result ≡ address_eq (address_value one.now) (address_value other.now) }
 {
-    one.source == other.source
-        && one.address.as_str() == other.address.as_str()
-        && are_rules_alike(&one.rules, &other.rules)
+    match (one, other) {
+        (SourceAddress::Endpoint(one), SourceAddress::Endpoint(other)) => {
+            is_same_endpoint(*one, *other)
+        }
+        (SourceAddress::Name(one), SourceAddress::Name(other)) => one.as_str() == other.as_str(),
+        _ => false,
+    }
+}
+
+/// Whether both are connected to at one address, or neither is connected to.
+fn is_same_connect(one: &Option<SourceAddress>, other: &Option<SourceAddress>) -> bool
+    ensures { result ≡ option_eq address_eq (option_map address_value one.now) (option_map address_value other.now) }
+{
+    match (one, other) {
+        (None, None) => true,
+        (Some(one), Some(other)) => is_same_address(one, other),
+        _ => false,
+    }
+}
+
+/// Whether both are one source, connected to and watched alike.
+fn is_same_call(one: &SourceSetup, other: &SourceSetup) -> bool
+    ensures { result ≡ called_eq (source_value one.now) (source_value other.now) }
+{
+    is_same_connect(&one.connect, &other.connect) && are_rules_alike(&one.rules, &other.rules)
 }
 
 /// Whether one of the calls is this one.
-fn is_called(calls: &[Call], call: &Call) -> bool
-    ensures { result ≡ list_any (λ d. called_eq (called_of d) (called_of call.now)) calls.now }
+fn is_called(calls: &[SourceSetup], call: &SourceSetup) -> bool
+    ensures { result ≡ list_any (λ d. called_eq (source_value d) (source_value call.now)) calls.now }
 {
     calls.iter().any(|other| is_same_call(other, call))
 }
 
 /// Ends the calls that are not among the others.
-fn end_calls(orders: &mut Vec<Order>, calls: &[Call], others: &[Call]) -> Result<(), Refusal>
-    ensures ok { OnOk result (map order_value orders.new.items ≡ map order_value orders.old.items ++ filter_map (λ c. ended (map called_of others.now) (called_of c)) calls.now) }
+fn end_calls(
+    orders: &mut Vec<Order>,
+    calls: &[SourceSetup],
+    others: &[SourceSetup],
+) -> Result<(), Refusal>
+    ensures ok { OnOk result (map order_value orders.new.items ≡ map order_value orders.old.items ++ filter_map (λ c. ended (map source_value others.now) (source_value c)) calls.now) }
     ensures err { IfErr result (λ r. r ≡ Refusal.NoMemory) }
 {
     'calls: for call in calls {
         if !is_called(others, call) {
-            orders.push(Order::Undial(call.source))?;
+            orders.push(Order::Undial(call.rules.source))?;
         }
     }
     Ok(())
@@ -135,38 +111,37 @@ fn end_calls(orders: &mut Vec<Order>, calls: &[Call], others: &[Call]) -> Result
 fn begin_calls(
     alloc: Global,
     orders: &mut Vec<Order>,
-    links: &[(PmuId, String)],
-    sources: &[SourceRules],
-    others: &[Call],
+    calls: &[SourceSetup],
+    others: &[SourceSetup],
 ) -> Result<(), Refusal>
-    ensures ok { OnOk result (map order_value orders.new.items ≡ map order_value orders.old.items ++ filter_map (λ l. begun (map called_of others.now) (called_by sources.now (l.0, string_bytes l.1))) links.now) }
+    ensures ok { OnOk result (map order_value orders.new.items ≡ map order_value orders.old.items ++ filter_map (λ c. begun (map source_value others.now) (source_value c)) calls.now) }
     ensures err { IfErr result (λ r. r ≡ Refusal.NoMemory) }
 {
-    'links: for link in links {
-        let call = match called_by(alloc, link, sources) {
-            Ok(call) => call,
-            Err(refusal) => return Err(refusal),
-        };
-        if !is_called(others, &call) {
-            orders.push(Order::Dial(call))?;
+    'calls: for call in calls {
+        if !is_called(others, call) {
+            let copy = match call.try_clone(alloc) {
+                Ok(copy) => copy,
+                Err(refusal) => return Err(refusal),
+            };
+            orders.push(Order::Dial(copy))?;
         }
     }
     Ok(())
 }
 
-/// The orders of what differs.
-pub(crate) fn orders_between(alloc: Global, old: &Setup, new: &Setup) -> Result<Vec<Order>, Refusal>
-    ensures ok { IfOk result (λ orders. map order_value orders.items ≡ orders_between
-        (calls_by (map (λ l. (l.0, string_bytes l.1)) old.now.links.items) old.now.sources.items)
-        (calls_by (map (λ l. (l.0, string_bytes l.1)) new.now.links.items) new.now.sources.items)) }
+/// Adds the orders about sources.
+pub(crate) fn add_orders(
+    alloc: Global,
+    orders: &mut Vec<Order>,
+    old: &Setup,
+    new: &Setup,
+) -> Result<(), Refusal>
+    ensures ok { OnOk result (map order_value orders.new.items ≡ map order_value orders.old.items ++ orders_between (connected old.now) (connected new.now)) }
     ensures err { IfErr result (λ r. r ≡ Refusal.NoMemory) }
 {
-    let links = new.links.as_slice();
-    let sources = new.sources.as_slice();
-    let before = calls_by(alloc, old.links.as_slice(), old.sources.as_slice())?;
-    let after = calls_by(alloc, links, sources)?;
-    let mut orders = Vec::new(alloc);
-    end_calls(&mut orders, before.as_slice(), after.as_slice())?;
-    begin_calls(alloc, &mut orders, links, sources, before.as_slice())?;
-    Ok(orders)
+    let before = calls_of(alloc, old.sources.as_slice())?;
+    let after = calls_of(alloc, new.sources.as_slice())?;
+    end_calls(orders, before.as_slice(), after.as_slice())?;
+    begin_calls(alloc, orders, after.as_slice(), before.as_slice())?;
+    Ok(())
 }

@@ -1,103 +1,32 @@
 //! Ports that are open by one setup and not, or otherwise, by another.
-ghost use Rattle.std.specs.Prelude.{◌≡◌, ◌++◌, IfOk, IfErr, OnOk, find, map, option_map, ◌==◌, if◌then◌else◌, Some, None};
+ghost use Rattle.std.specs.Prelude.{◌≡◌, ◌++◌, IfOk, IfErr, OnOk, map, option_map};
 ghost use Rattle.std.specs.List.{filter_map, list_any};
-ghost use Rattle.pg_operator.specs.Setups.{port_rules_of};
+ghost use Rattle.pg_operator.specs.Setups.{port_rules_of, port_value, subscriber_value};
 ghost use Rattle.pg_reload.specs.Orders.{closed, listened_of, port_orders_between, order_value};
-ghost use Rattle.pg_reload.specs.Ports.{allow_eq, change_eq, port_rules_eq, opened_by, opened_eq, opened_of, ports_by};
+ghost use Rattle.pg_reload.specs.Ports.{allow_eq, change_eq, open_ports, opened_eq, port_rules_eq, ports_of};
 
 use crate::orders::Order;
 use pg_limits::{Allow, OnChange};
-use pg_operator::{PortRules, Setup};
-use pg_wire::{Refusal, SubId};
+use pg_operator::{PortRules, PortSetup, Setup, SubscriberSetup};
+use pg_wire::Refusal;
 use std::alloc::Global;
 
-/// A port of a subscriber.
-#[derive(Debug, Drop)]
-pub struct Port {
-    /// Its number: 1 to 65535.
-    pub port: u16,
-    /// Its subscriber, the hosts that may connect, when it is hung up, and what is done where the blocks of a stream change.
-    pub rules: PortRules,
-}
-
-/// A copy of the hosts that may connect.
-fn allow_of(alloc: Global, allow: &Allow) -> Result<Allow, Refusal>
-    ensures ok { IfOk result (λ copy. option_map (λ v. v.items) copy.networks ≡ option_map (λ v. v.items) allow.now.networks) }
+/// The ports of subscribers.
+fn ports_of(alloc: Global, subscribers: &[SubscriberSetup]) -> Result<Vec<PortSetup>, Refusal>
+    ensures ok { IfOk result (λ v. map port_value v.items ≡ ports_of (map subscriber_value subscribers.now)) }
     ensures err { IfErr result (λ r. r ≡ Refusal.NoMemory) }
 {
-    match &allow.networks {
-        None => Ok(Allow { networks: None }),
-        Some(networks) => {
-            let copy = networks.as_slice().to_vec(alloc)?;
-            Ok(Allow {
-                networks: Some(copy),
-            })
-        }
-    }
-}
-
-/// A port with a copy of these rules.
-fn port_of(alloc: Global, port: u16, rules: &PortRules) -> Result<Port, Refusal>
-    ensures ok { IfOk result (λ copy. opened_of copy ≡ record { port = port; rules = port_rules_of rules.now }) }
-    ensures err { IfErr result (λ r. r ≡ Refusal.NoMemory) }
-{
-    match allow_of(alloc, &rules.allow) {
-        Ok(allow) => Ok(Port {
-            port,
-            rules: PortRules {
-                sub: rules.sub,
-                address: rules.address,
-                allow,
-                takeover: rules.takeover,
-                stall: rules.stall,
-                idle: rules.idle,
-                change: rules.change,
-            },
-        }),
-        Err(refusal) => Err(refusal),
-    }
-}
-
-/// The port of a subscriber with the rules that a setup has for it.
-fn opened_by(
-    alloc: Global,
-    port: &(SubId, u16),
-    port_rules: &[PortRules],
-) -> Result<Option<Port>, Refusal>
-    ensures ok { IfOk result (λ o. option_map opened_of o ≡ opened_by (map port_rules_of port_rules.now) port.now) }
-    ensures err { IfErr result (λ r. r ≡ Refusal.NoMemory) }
-{
-    'port_rules: for rules in port_rules {
-        if rules.sub == port.0 {
-            return match port_of(alloc, port.1, rules) {
-                Ok(port) => Ok(Some(port)),
-                Err(refusal) => Err(refusal),
+    let mut ports = Vec::new(alloc);
+    'subscribers: for subscriber in subscribers {
+        if let Some(port) = &subscriber.port {
+            let copy = match port.try_clone(alloc) {
+                Ok(copy) => copy,
+                Err(refusal) => return Err(refusal),
             };
+            ports.push(copy)?;
         }
     }
-    Ok(None)
-}
-
-/// The ports of a setup.
-fn ports_by(
-    alloc: Global,
-    ports: &[(SubId, u16)],
-    port_rules: &[PortRules],
-) -> Result<Vec<Port>, Refusal>
-    ensures ok { IfOk result (λ v. map opened_of v.items ≡ ports_by ports.now (map port_rules_of port_rules.now)) }
-    ensures err { IfErr result (λ r. r ≡ Refusal.NoMemory) }
-{
-    let mut opened = Vec::new(alloc);
-    'ports: for port in ports {
-        let found = match opened_by(alloc, port, port_rules) {
-            Ok(found) => found,
-            Err(refusal) => return Err(refusal),
-        };
-        if let Some(one) = found {
-            opened.push(one)?;
-        }
-    }
-    Ok(opened)
+    Ok(ports)
 }
 
 /// Whether the same hosts may connect, by the same networks in the same order.
@@ -137,22 +66,26 @@ fn are_rules_alike(one: &PortRules, other: &PortRules) -> bool
 }
 
 /// Whether both are one port.
-fn is_same_port(one: &Port, other: &Port) -> bool
-    ensures { result ≡ opened_eq (opened_of one.now) (opened_of other.now) }
+fn is_same_port(one: &PortSetup, other: &PortSetup) -> bool
+    ensures { result ≡ opened_eq (port_value one.now) (port_value other.now) }
 {
     one.port == other.port && are_rules_alike(&one.rules, &other.rules)
 }
 
 /// Whether one of the ports is this one.
-fn is_open(ports: &[Port], port: &Port) -> bool
-    ensures { result ≡ list_any (λ q. opened_eq (opened_of q) (opened_of port.now)) ports.now }
+fn is_open(ports: &[PortSetup], port: &PortSetup) -> bool
+    ensures { result ≡ list_any (λ q. opened_eq (port_value q) (port_value port.now)) ports.now }
 {
     ports.iter().any(|other| is_same_port(other, port))
 }
 
 /// Closes the ports that are not among the others.
-fn close_ports(orders: &mut Vec<Order>, ports: &[Port], others: &[Port]) -> Result<(), Refusal>
-    ensures ok { OnOk result (map order_value orders.new.items ≡ map order_value orders.old.items ++ filter_map (λ p. closed (map opened_of others.now) (opened_of p)) ports.now) }
+fn close_ports(
+    orders: &mut Vec<Order>,
+    ports: &[PortSetup],
+    others: &[PortSetup],
+) -> Result<(), Refusal>
+    ensures ok { OnOk result (map order_value orders.new.items ≡ map order_value orders.old.items ++ filter_map (λ p. closed (map port_value others.now) (port_value p)) ports.now) }
     ensures err { IfErr result (λ r. r ≡ Refusal.NoMemory) }
 {
     'ports: for port in ports {
@@ -167,15 +100,15 @@ fn close_ports(orders: &mut Vec<Order>, ports: &[Port], others: &[Port]) -> Resu
 fn open_ports(
     alloc: Global,
     orders: &mut Vec<Order>,
-    ports: &[Port],
-    others: &[Port],
+    ports: &[PortSetup],
+    others: &[PortSetup],
 ) -> Result<(), Refusal>
-    ensures ok { OnOk result (map order_value orders.new.items ≡ map order_value orders.old.items ++ filter_map (λ p. listened_of (map opened_of others.now) (opened_of p)) ports.now) }
+    ensures ok { OnOk result (map order_value orders.new.items ≡ map order_value orders.old.items ++ filter_map (λ p. listened_of (map port_value others.now) (port_value p)) ports.now) }
     ensures err { IfErr result (λ r. r ≡ Refusal.NoMemory) }
 {
     'ports: for port in ports {
         if !is_open(others, port) {
-            let copy = match port_of(alloc, port.port, &port.rules) {
+            let copy = match port.try_clone(alloc) {
                 Ok(copy) => copy,
                 Err(refusal) => return Err(refusal),
             };
@@ -193,11 +126,11 @@ pub(crate) fn add_orders(
     new: &Setup,
 ) -> Result<(), Refusal>
     ensures ok { OnOk result (map order_value orders.new.items ≡ map order_value orders.old.items ++ port_orders_between
-        (ports_by old.now.ports.items (map port_rules_of old.now.port_rules.items)) (ports_by new.now.ports.items (map port_rules_of new.now.port_rules.items))) }
+        (open_ports old.now) (open_ports new.now)) }
     ensures err { IfErr result (λ r. r ≡ Refusal.NoMemory) }
 {
-    let before = ports_by(alloc, old.ports.as_slice(), old.port_rules.as_slice())?;
-    let after = ports_by(alloc, new.ports.as_slice(), new.port_rules.as_slice())?;
+    let before = ports_of(alloc, old.subscribers.as_slice())?;
+    let after = ports_of(alloc, new.subscribers.as_slice())?;
     close_ports(orders, before.as_slice(), after.as_slice())?;
     open_ports(alloc, orders, after.as_slice(), before.as_slice())?;
     Ok(())

@@ -49,15 +49,20 @@ fn is_same_text(one: &Option<String>, other: &Option<String>) -> bool
     }
 }
 
+/// Whether both are one address with one port.
+pub(crate) fn is_same_endpoint(one: SocketAddrV4, other: SocketAddrV4) -> bool
+    ensures { result ≡ endpoint_eq (endpoint one) (endpoint other) }
+{
+    one.ip().to_bits() == other.ip().to_bits() && one.port() == other.port()
+}
+
 /// Whether both are one address, or both none.
 fn is_same_address(one: Option<SocketAddrV4>, other: Option<SocketAddrV4>) -> bool
     ensures { result ≡ option_eq endpoint_eq (option_map endpoint one) (option_map endpoint other) }
 {
     match (one, other) {
         (None, None) => true,
-        (Some(one), Some(other)) => {
-            one.ip().to_bits() == other.ip().to_bits() && one.port() == other.port()
-        }
+        (Some(one), Some(other)) => is_same_endpoint(one, other),
         _ => false,
     }
 }

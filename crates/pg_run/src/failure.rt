@@ -1,5 +1,8 @@
 //! Why the service does not run.
 
+ghost use Rattle.std.specs.Prelude.{◌≡◌, ◌≢◌};
+ghost use Rattle.std.specs.IoError.{error_kind};
+
 use pg_check::Trouble;
 use pg_operator::BoundBy;
 use pg_wire::Refusal;
@@ -49,5 +52,17 @@ pub(crate) fn not_bound(by: BoundBy, address: Option<SocketAddr>, error: io::Err
         by,
         address,
         kind: error.kind(),
+    }
+}
+
+/// What the system's fault ends the program with, where it starts: want of memory, or what it waits for or listens to can't be
+/// had.
+pub(crate) fn refusal_of(error: io::Error) -> Refusal
+    ensures memory { error_kind error ≡ ErrorKind.OutOfMemory → result ≡ Refusal.NoMemory }
+    ensures other { error_kind error ≢ ErrorKind.OutOfMemory → result ≡ Refusal.ReadFault }
+{
+    match error.kind() {
+        ErrorKind::OutOfMemory => Refusal::NoMemory,
+        _ => Refusal::ReadFault,
     }
 }

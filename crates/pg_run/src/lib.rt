@@ -10,6 +10,7 @@ mod operator;
 mod redefined;
 mod reload_worker;
 mod reloading;
+mod run_context;
 mod running;
 mod runtime;
 mod served;

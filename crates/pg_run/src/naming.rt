@@ -12,10 +12,10 @@ const HOST_NAME: &str = "/proc/sys/kernel/hostname";
 pub(crate) fn name_of(
     files: &HostRuntime,
     alloc: Global,
-    given: Option<String>,
+    given: Option<&String>,
 ) -> Result<String, Refusal> {
     if let Some(name) = given {
-        return Ok(name);
+        return Ok(String::from_str(alloc, name.as_str())?);
     }
     let name = match fs::read(files, HOST_NAME) {
         Ok(bytes) => host_name(bytes),

@@ -47,7 +47,7 @@ pub(crate) fn started_streams<G: Gate>(
     for edit in edits {
         if let Edit::Remove(sub, stream) = edit {
             if is_on(gate, *sub, *stream) {
-                let before = definition_in(old.edits.as_slice(), *sub, *stream);
+                let before = definition_by(old, *sub, *stream);
                 let after = definition_in(edits, *sub, *stream);
                 let goes_on = have_same_members(before, after);
                 started.push(Started {
@@ -74,6 +74,12 @@ fn is_on<G: Gate>(gate: &mut MeteredGate<G>, sub: SubId, stream: StreamId) -> bo
         }
     }
     false
+}
+
+/// How this setup defines a stream, if it does.
+fn definition_by(setup: &Setup, sub: SubId, stream: StreamId) -> Option<&Definition> {
+    let subscriber = setup.subscribers.iter().find(|it| it.sub == sub)?;
+    subscriber.streams.iter().find(|it| it.stream == stream)
 }
 
 /// How these edits define a stream, if they do.

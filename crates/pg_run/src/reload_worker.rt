@@ -85,7 +85,7 @@ impl<'a, R: Wait + Net + Clock, N: Named> ReloadWorker<'a, R, N> {
         let empty = Vec::new(self.console.alloc());
         let answer = mem::replace(self.console.out_mut(), empty);
         self.reloads.answer(self.rt, number, answer);
-        service.wake_window();
+        service.wake_admin();
     }
 }
 

@@ -1,8 +1,8 @@
 //! The line `reload`: the setup file is read again, and what changed is done.
 
+use crate::failure::refusal_of;
 use crate::redefined::{Started, started_streams};
-use crate::running::{connection_rules, dial_by, rules_of};
-use crate::workers::told_as;
+use crate::running::{connection_rules, dial_of, rules_of};
 use log::LevelFilter;
 use mio::net::TcpListener as PortListener;
 use pg_check::check_setup;
@@ -10,8 +10,8 @@ use pg_console::{Console, ServiceHandle};
 use pg_gateway::{Gate, Reply};
 use pg_lines::{NotPrinted, print_refusal};
 use pg_log::{Asked, Detail, Entry, Journal, LogEvent, Subject, system_words};
-use pg_operator::{LogLevel, Setup, SourceRules, read_setup};
-use pg_reload::{Call, Changes, Order, Port, Restart, changes_between};
+use pg_operator::{LogLevel, PortSetup, Setup, SourceRules, read_setup};
+use pg_reload::{Changes, Order, Restart, changes_between};
 use pg_service::MeteredGate;
 use pg_wire::{PmuId, Refusal, SubId};
 use std::alloc::Global;
@@ -26,12 +26,6 @@ use std::{fs, io, thread};
 const TRIES: u32 = 100;
 
 const PAUSE_MS: u64 = 10;
-
-/// The seconds without an event after which a source is called anew, where the setup does not name it.
-const SILENCE: u16 = 10;
-
-/// How many milliseconds a source may be ahead of the reference where the setup does not name it.
-const AHEAD_MS: u16 = 200;
 
 /// The setup by which the gateway runs, and the file that it stands in.
 #[derive(Drop)]
@@ -80,7 +74,7 @@ impl<R: Net + Clock> SetupManager<'_, R> {
             Err(error) => {
                 let why = system_words(error.kind());
                 writeln!(out, "{}: can't be read: {why}", self.file)?;
-                print_refusal(out, "refused", told_as(error))?;
+                print_refusal(out, "refused", refusal_of(error))?;
                 return Ok(None);
             }
         };
@@ -232,7 +226,7 @@ impl Report {
         );
         let (number, why) = (sub.get(), system_words(error.kind()));
         let written = writeln!(self.lines, "subscriber {number}: port {address}: {why}");
-        self.refused(written, told_as(error));
+        self.refused(written, refusal_of(error));
     }
 
     /// A change of this key takes effect at the next restart.
@@ -270,17 +264,14 @@ impl<R: Net + Clock> SetupManager<'_, R> {
     ) {
         match order {
             Order::Undial(source) => service.undial(rt, source),
-            Order::Dial(call) => {
-                let Call {
-                    source,
-                    address,
-                    rules,
-                } = call;
-                service.dial(rt, dial_by(source, address, &rules));
+            Order::Dial(source) => {
+                if let Some(dial) = dial_of(source) {
+                    service.dial(rt, dial);
+                }
             }
             Order::Unlisten(sub) => service.close(rt, sub),
             Order::Listen(port) => {
-                let Port { port, rules } = port;
+                let PortSetup { port, rules } = port;
                 let address = SocketAddr::from((rules.address, port));
                 match self.bind(address) {
                     Ok(listener) => service.open(rt, rules.sub, connection_rules(rules), listener),
@@ -370,15 +361,7 @@ impl<R: Net + Clock> SetupManager<'_, R> {
     /// How a source is watched, by the setup; by its defaults, where it does not name it.
     pub(crate) fn rules_of<Q: Wait>(&self, rt: &Q, source: PmuId) -> SourceRules {
         let setup = self.setup.lock(rt);
-        match rules_of(&setup.sources, source) {
-            Some(rules) => rules,
-            None => SourceRules {
-                source,
-                silence: SILENCE,
-                clock_ms: None,
-                ahead_ms: AHEAD_MS,
-            },
-        }
+        rules_of(&setup.sources, source).unwrap_or(SourceRules::default_of(source))
     }
 }
 

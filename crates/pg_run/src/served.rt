@@ -1,7 +1,6 @@
 //! What the log begins with.
 
 use crate::running::Start;
-use pg_gateway::Edit;
 use pg_operator::Setup;
 use std::fmt;
 
@@ -19,24 +18,19 @@ pub(crate) struct Served<'a> {
 impl<'a> Served<'a> {
     /// What is served by this setup.
     pub(crate) fn of(start: Start<'a>, name: &'a str, setup: &Setup) -> Served<'a> {
-        let mut served = Served {
+        let streams = setup.subscribers.iter().map(|it| it.streams.len());
+        Served {
             start,
             name,
-            pmus: 0,
-            sources: setup.links.len(),
-            subscribers: 0,
-            streams: 0,
-        };
-        for edit in &setup.edits {
-            let count = match edit {
-                Edit::AddPmu(_) => &mut served.pmus,
-                Edit::AddSub(..) => &mut served.subscribers,
-                Edit::Define(..) => &mut served.streams,
-                _ => continue,
-            };
-            *count = count.saturating_add(1);
+            pmus: setup.pmus.len(),
+            sources: setup
+                .sources
+                .iter()
+                .filter(|it| it.connect.is_some())
+                .count(),
+            subscribers: setup.subscribers.len(),
+            streams: streams.fold(0, usize::saturating_add),
         }
-        served
     }
 }
 

@@ -3,166 +3,117 @@
 ghost use Rattle.std.specs.Prelude.{◌≡◌, IfOk};
 ghost use Rattle.pg_console.specs.Joining.{Begins};
 
-use crate::admin_listeners::AdminListeners;
-use crate::make_workers::{Place, WorkerContext, make_workers};
+use crate::failure::refusal_of;
+use crate::make_workers::own_workers;
 use crate::operator::StandardIo;
+use crate::run_context::RunContext;
 use crate::runtime::Runtime;
-use crate::workers::{Worker, mailbox, mailboxes};
-use pg_console::{Reloads, ServiceHandle, serve_by};
-use pg_log::Journal;
-use pg_service::{
-    Dial, Directory, Mailbox, Poller, PortOrder, Resolver, SourceOrder, StatusCollector,
-    WorkerHandles,
-};
+use pg_console::{Mailboxes, Pollers, ServiceBuilder, ServicePlan, SharedState, WorkerCounts};
+use pg_log::{Detail, Entry, Journal, LogEvent, Subject};
 use pg_shared::{Named, Seat, Shared};
 use pg_subscribers::Port;
 use pg_wire::Refusal;
 use std::alloc::Global;
 use std::net::Net;
-use std::sync::Mutex;
-use std::sync::atomic::AtomicBool;
-use std::time::{Duration, Instant};
+use std::rt::Clock;
+use std::sync::Wait;
+use std::time::Instant;
 
 /// What is served, and by how many.
 #[derive(Drop)]
-pub(crate) struct Plan {
-    pub(crate) ports: Vec<Port>,
-    pub(crate) dials: Vec<Dial>,
-    pub(crate) openings: AdminListeners,
-    pub(crate) tick: Duration,
+pub(crate) struct Plan<'a> {
+    pub(crate) service: ServicePlan<'a>,
     pub(crate) ingest: usize,
     pub(crate) serve: usize,
     pub(crate) now: Instant,
 }
 
-/// What all workers know.
-#[derive(Drop)]
-pub(crate) struct SharedState {
-    pub(crate) journal: Journal,
-    // Whether each line of the log begins with its priority.
-    pub(crate) has_priority: bool,
-    pub(crate) collector: StatusCollector,
-    pub(crate) registered: Mutex<Directory>,
-}
-
-/// What workers wait with and get orders by.
-#[derive(Drop)]
-struct Boxes {
-    sources: Vec<Mailbox<SourceOrder>>,
-    ports: Vec<Mailbox<PortOrder>>,
-    resolver: Resolver,
-    window: Option<Mailbox<()>>,
-    reloads: Option<Reloads>,
-}
-
-/// The waits of the workers of each kind.
-#[derive(Drop)]
-pub(crate) struct Waits {
-    pub(crate) sources: Vec<Poller>,
-    pub(crate) ports: Vec<Poller>,
-    pub(crate) names: Poller,
-    pub(crate) window: Option<Poller>,
-    pub(crate) reloads: Option<Poller>,
-}
-
-/// Serves by workers until they are stopped. Their seats are split from this one, and joined to it at the end.
-pub(crate) fn serve_all<R: Runtime, N: Named + Send>(
-    rt: &R,
+/// Serves by workers until they are stopped. Their seats are split from this one, and joined to it at the end. Each port is written to the log.
+pub(crate) fn serve_all<'a, R: Runtime, N: Named + Send>(
+    rt: &'a R,
     alloc: Global,
-    shared: &Shared,
+    shared: &'a Shared,
     seat: Seat,
-    plan: Plan,
-    lines: StandardIo<'_, R>,
-    known: &SharedState,
-    place: Place<'_>,
-    stop: &AtomicBool,
+    context: RunContext<'a>,
+    plan: Plan<'a>,
+    state: &'a SharedState,
+    lines: StandardIo<'a, R>,
 ) -> Result<Seat, Refusal>
     requires shared { shared.now ≡ N.table }
     requires seat { seat.table ≡ N.table }
     ensures begins { IfOk result (λ joined. Begins seat joined) }
 {
-    let (waits, boxes) = waits_of(rt, alloc, &plan)?;
-    boxes.resolver.start(rt)?;
-    let (seat, workers) = workers_of::<R, N>(
-        rt, alloc, shared, seat, plan, waits, &boxes, lines, known, place, stop,
-    )?;
-    serve_by(rt, alloc, shared, seat, workers, stop)
+    let (mailboxes, pollers) = mailboxes_of(rt, alloc, &plan)?;
+    mailboxes.resolver.start(rt)?;
+    log_ports(rt, &state.journal, &plan.service.ports);
+    serve_with::<R, N>(
+        rt, alloc, shared, seat, context, plan, &mailboxes, pollers, state, lines,
+    )
 }
 
-/// All workers, with seats that are split from this one.
-fn workers_of<'a, R: Runtime, N: Named>(
+/// Serves by workers with these mailboxes.
+fn serve_with<'a, R: Runtime, N: Named + Send>(
     rt: &'a R,
     alloc: Global,
     shared: &'a Shared,
     seat: Seat,
-    plan: Plan,
-    waits: Waits,
-    boxes: &'a Boxes,
+    context: RunContext<'a>,
+    plan: Plan<'a>,
+    mailboxes: &'a Mailboxes,
+    mut pollers: Pollers,
+    state: &'a SharedState,
     lines: StandardIo<'a, R>,
-    known: &'a SharedState,
-    place: Place<'a>,
-    stop: &'a AtomicBool,
-) -> Result<(Seat, Vec<Worker<'a, R, N>>), Refusal>
+) -> Result<Seat, Refusal>
     requires shared { shared.now ≡ N.table }
     requires seat { seat.table ≡ N.table }
-    ensures seat { IfOk result (λ made. made.0 ≡ seat) }
+    ensures begins { IfOk result (λ joined. Begins seat joined) }
 {
-    let handles = WorkerHandles {
-        ports: &boxes.ports,
-        resolver: &boxes.resolver,
-        journal: &known.journal,
-        collector: &known.collector,
-    };
-    let context = WorkerContext {
+    let builder = ServiceBuilder {
         rt,
         alloc,
         shared,
-        service: ServiceHandle {
-            sources: &boxes.sources,
-            handles,
-            name: place.name,
-            registered: &known.registered,
-            window: boxes.window.as_ref(),
-            reloads: boxes.reloads.as_ref(),
-            stop,
-        },
-        place,
-        known,
-        now: plan.now,
+        service: mailboxes.handle(state, context.name, context.stop),
+        start: plan.now,
     };
-    make_workers(&context, seat, plan, waits, lines)
+    let reloads = pollers.reloads.take();
+    let (seat, own) = own_workers::<R, N>(&builder, context, seat, reloads, lines)?;
+    let commands = context.in_force(rt);
+    match builder.serve::<N, _, _>(seat, pollers, plan.service, commands, own) {
+        Ok(joined) => Ok(joined),
+        Err(error) => Err(refusal_of(error)),
+    }
 }
 
-/// What the workers of this plan wait with, and the mailboxes by which they get orders.
-fn waits_of<R: Net>(rt: &R, alloc: Global, plan: &Plan) -> Result<(Waits, Boxes), Refusal> {
-    let (source_waits, sources) = mailboxes(rt, alloc, plan.ingest)?;
-    let (port_waits, ports) = mailboxes(rt, alloc, plan.serve)?;
-    let (names, resolver) = mailbox(rt, alloc)?;
-    let (window_wait, window) = if plan.openings.is_any() {
-        let (wait, mailbox) = mailbox(rt, alloc)?;
-        (Some(wait), Some(mailbox))
-    } else {
-        (None, None)
+/// Writes to the log where each subscriber may connect.
+fn log_ports<R: Wait + Clock>(rt: &R, journal: &Journal, ports: &[Port]) {
+    for port in ports {
+        if let Ok(address) = port.address() {
+            let subject = Subject::Subscriber(port.sub());
+            journal.log(
+                rt,
+                Entry::new(LogEvent::Listening, subject, Detail::At(address)),
+            );
+        }
+    }
+}
+
+/// The mailboxes of the workers of this plan, and what they wait with.
+fn mailboxes_of<R: Net>(
+    rt: &R,
+    alloc: Global,
+    plan: &Plan<'_>,
+) -> Result<(Mailboxes, Pollers), Refusal> {
+    let listeners = &plan.service.listeners;
+    let takes_lines = listeners.lines.is_some();
+    let counts = WorkerCounts {
+        sources: plan.ingest,
+        subscribers: plan.serve,
+        has_resolver: true,
+        has_admin: takes_lines || listeners.page.is_some(),
+        has_reloads: takes_lines,
     };
-    let (reload_wait, reloads) = if plan.openings.takes_lines() {
-        let (wait, mailbox) = mailbox(rt, alloc)?;
-        (Some(wait), Some(Reloads::new(alloc, mailbox)))
-    } else {
-        (None, None)
-    };
-    let waits = Waits {
-        sources: source_waits,
-        ports: port_waits,
-        names,
-        window: window_wait,
-        reloads: reload_wait,
-    };
-    let boxes = Boxes {
-        sources,
-        ports,
-        resolver: Resolver::new(alloc, Some(resolver))?,
-        window,
-        reloads,
-    };
-    Ok((waits, boxes))
+    match Mailboxes::new(rt, alloc, counts) {
+        Ok(made) => Ok(made),
+        Err(error) => Err(refusal_of(error)),
+    }
 }

@@ -1,11 +1,10 @@
 //! Lines about the sources and ports of the running service.
 
+use crate::failure::refusal_of;
 use crate::reloading::SetupManager;
 use crate::running::{connection_rules, dial_to, port_rules_of};
-use crate::workers::told_as;
 use pg_console::{Console, ServiceCommands};
 use pg_gateway::{Event, Gate, Reply};
-use pg_limits::{Allow, OnChange};
 use pg_lines::{NotPrinted, Steer, print_refusal};
 use pg_log::system_words;
 use pg_operator::PortRules;
@@ -16,10 +15,6 @@ use std::io::Write;
 use std::net::{Ipv4Addr, Net, SocketAddr, SocketAddrV4};
 use std::rt::Clock;
 use std::sync::Wait;
-
-/// The seconds after which a subscriber is hung up whose socket takes nothing of what waits for it, where the setup has no port
-/// for it.
-const STALL: u16 = 30;
 
 impl<R: Net + Clock> SetupManager<'_, R> {
     /// Calls a registered source at this address from now on.
@@ -36,7 +31,7 @@ impl<R: Net + Clock> SetupManager<'_, R> {
         let address = Address::Known(SocketAddr::V4(address));
         let service = console.service();
         service.undial(rt, source);
-        service.dial(rt, dial_to(source, address, &self.rules_of(rt, source)));
+        service.dial(rt, dial_to(address, &self.rules_of(rt, source)));
         Ok(())
     }
 
@@ -50,30 +45,10 @@ impl<R: Net + Clock> SetupManager<'_, R> {
         address: Ipv4Addr,
     ) -> Result<PortRules, Refusal> {
         let setup = self.setup.lock(rt);
-        let Some(rules) = port_rules_of(&setup.port_rules, sub) else {
-            return Ok(PortRules {
-                sub,
-                address,
-                allow: Allow { networks: None },
-                takeover: false,
-                stall: STALL,
-                idle: 0,
-                change: OnChange::Safe,
-            });
-        };
-        let networks = match &rules.allow.networks {
-            Some(networks) => Some(Vec::from_slice(alloc, networks.as_slice())?),
-            None => None,
-        };
-        Ok(PortRules {
-            sub,
-            address,
-            allow: Allow { networks },
-            takeover: rules.takeover,
-            stall: rules.stall,
-            idle: rules.idle,
-            change: rules.change,
-        })
+        match port_rules_of(&setup.subscribers, sub) {
+            Some(rules) => rules.on(alloc, address),
+            None => Ok(PortRules::default_of(sub, address)),
+        }
     }
 
     /// Opens a port for a subscriber. Where it has one, that is closed, unless the new one can't be bound.
@@ -107,7 +82,7 @@ impl<R: Net + Clock> SetupManager<'_, R> {
                     console.out_mut(),
                     "subscriber {number}: port {address}: {why}"
                 )?;
-                Ok(Err(told_as(error)))
+                Ok(Err(refusal_of(error)))
             }
         }
     }

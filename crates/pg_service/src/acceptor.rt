@@ -1,7 +1,8 @@
 //! When a listener is asked for a connection.
-ghost use Rattle.std.specs.Prelude.{◌≡◌, true, option_map};
+ghost use Rattle.std.specs.Prelude.{◌≡◌, ◌≢◌, true, Ok, Err, Some, None, IfOk, IfErr, option_map};
 ghost use Rattle.std.specs.Duration.{as_nanos};
 ghost use Rattle.std.specs.Time.{instant_nanos};
+ghost use Rattle.std.specs.IoError.{error_kind};
 ghost use Rattle.pg_service.specs.Accepting.{failed, is_due, left_by, none_waits, one_may_wait};
 
 use pg_limits::Deadline;
@@ -117,7 +118,9 @@ pub struct Acceptor<L> {
 
 impl<L> Acceptor<L> {
     /// Of a new listener.
-    pub fn new(listener: L) -> Acceptor<L> {
+    pub fn new(listener: L) -> Acceptor<L>
+        ensures { result ≡ record { listener = listener; timer = one_may_wait } }
+    {
         Acceptor {
             listener,
             timer: AcceptTimer::new(),
@@ -129,7 +132,12 @@ impl<L> Acceptor<L> {
     /// # Errors
     ///
     /// Why the system could not accept. It is tried again in a second.
-    pub fn accepted<C>(&mut self, outcome: io::Result<C>, now: Instant) -> io::Result<Option<C>> {
+    pub fn accepted<C>(&mut self, outcome: io::Result<C>, now: Instant) -> io::Result<Option<C>>
+        ensures listener { self.new.listener ≡ self.old.listener }
+        ensures connection { IfOk outcome (λ c. (result ≡ Ok (Some c)) × (self.new.timer ≡ one_may_wait)) }
+        ensures no_more { IfErr outcome (λ e. error_kind e ≡ ErrorKind.WouldBlock → (result ≡ Ok None) × (self.new.timer ≡ none_waits)) }
+        ensures failed { IfErr outcome (λ e. error_kind e ≢ ErrorKind.WouldBlock → (result ≡ Err e) × (self.new.timer ≡ failed (instant_nanos now))) }
+    {
         match outcome {
             Ok(connection) => {
                 self.timer.accepted();

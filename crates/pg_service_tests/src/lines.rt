@@ -23,7 +23,7 @@ struct Boxes {
     resolver: Resolver,
     journal: Journal,
     collector: StatusCollector,
-    registered: Mutex<Directory>,
+    directory: Mutex<Directory>,
     waits: [Poller; 2],
 }
 
@@ -42,7 +42,7 @@ fn make_boxes<R: Net + Abort>(rt: &R, alloc: Global) -> Boxes {
         resolver: Resolver::new(alloc, None).expect(rt, "memory"),
         journal: Journal::new(alloc).expect(rt, "memory"),
         collector: StatusCollector::new(alloc),
-        registered: Mutex::new(Directory::new(alloc).expect(rt, "memory")),
+        directory: Mutex::new(Directory::new(alloc).expect(rt, "memory")),
         waits: [source_wait, port_wait],
     }
 }
@@ -61,8 +61,8 @@ fn unanswered<R: Net + Abort + Wait + Clock>(rt: &R, alloc: Global, is_over: boo
             collector: &boxes.collector,
         },
         name: "test",
-        registered: &boxes.registered,
-        window: None,
+        directory: &boxes.directory,
+        admin: None,
         reloads: None,
         stop: &stop,
     };

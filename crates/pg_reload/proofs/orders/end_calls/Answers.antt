@@ -1,8 +1,9 @@
-use Rattle.std.proofs.Common.{rules, ap, ◌∙◌, ◌≡◌, ◌+◌, ◌++◌, ◌∷◌, [], map, drop, true, false}
+use Rattle.std.proofs.Common.{rules, refl, ap, ◌∙◌, ◌≡◌, ◌+◌, ◌++◌, ◌∷◌, [], map, drop, true, false}
+use Rattle.pg_operator.specs.Setups.{source_value}
 use Rattle.pg_reload.specs.declared.orders.Order.TheVariants.{Undial}
-use Rattle.pg_reload.specs.Orders.{called_of, ended, order_value, undialled}
+use Rattle.pg_reload.specs.Orders.{ended, order_value, undialled, called_eq}
 use Rattle.pg_reload.proofs.Adding.{next_added, next_passed, pushed_so, with_rest}
-use Rattle.pg_reload.proofs.Calling.{ended_not, ended_so, is_there}
+use Rattle.pg_reload.proofs.Calling.{is_there, not_ordered, ordered}
 use Rattle.pg_reload.proofs.orders.end_calls.Goals as goal
 use Rattle.pg_reload.proofs.orders.end_calls.Goals.{then-not-is_called+in_ok-push, else-not-is_called}
 
@@ -10,16 +11,16 @@ pub calls-preserved : goal.calls-preserved
 calls-preserved c =
     elim c.if-not-is_called.branch [
       | then-not-is_called+in_ok-push w ↦
-          let items : c.if-not-is_called.orders.items ≡ c.calls.orders.items ++ Undial c.call-item.result.source ∷ [] = search rules in
-          let absent : is_there c.args.others.now c.call-item.result ≡ false = search rules in
-          next_added (λ d. ended (map called_of c.args.others.now) (called_of d)) c.args.calls.now c.calls.call-index c.call-item.result
-          (undialled c.call-item.result.source) (map order_value c.calls.orders.items) (map order_value c.if-not-is_called.orders.items) _
-          c.calls-test.true c.call-item.is (ended_so c.args.others.now c.call-item.result absent)
-          (ap (map order_value) items ∙ pushed_so order_value c.calls.orders.items (Undial c.call-item.result.source)) c.calls.invariant
+          let items : c.if-not-is_called.orders.items ≡ c.calls.orders.items ++ Undial c.call-item.result.rules.source ∷ [] = search rules in
+          let absent : is_there called_eq source_value c.args.others.now c.call-item.result ≡ false = search rules in
+          next_added (λ x. ended (map source_value c.args.others.now) (source_value x)) c.args.calls.now c.calls.call-index c.call-item.result
+          (undialled c.call-item.result.rules.source) (map order_value c.calls.orders.items) (map order_value c.if-not-is_called.orders.items) _
+          c.calls-test.true c.call-item.is (ordered called_eq (λ v. undialled v.rules.source) source_value c.args.others.now c.call-item.result (source_value c.call-item.result) refl absent)
+          (ap (map order_value) items ∙ pushed_so order_value c.calls.orders.items (Undial c.call-item.result.rules.source)) c.calls.invariant
       | else-not-is_called w ↦
           let items : c.if-not-is_called.orders.items ≡ c.calls.orders.items = search rules in
-          let there : is_there c.args.others.now c.call-item.result ≡ true = search rules in
-          ap (λ ys. with_rest (λ d. ended (map called_of c.args.others.now) (called_of d)) (map order_value ys) (drop (c.calls.call-index + 1) c.args.calls.now)) items
-          ∙ next_passed (λ d. ended (map called_of c.args.others.now) (called_of d)) c.args.calls.now c.calls.call-index c.call-item.result
-          (map order_value c.calls.orders.items) _ c.calls-test.true c.call-item.is (ended_not c.args.others.now c.call-item.result there) c.calls.invariant
+          let there : is_there called_eq source_value c.args.others.now c.call-item.result ≡ true = search rules in
+          ap (λ ys. with_rest (λ x. ended (map source_value c.args.others.now) (source_value x)) (map order_value ys) (drop (c.calls.call-index + 1) c.args.calls.now)) items
+          ∙ next_passed (λ x. ended (map source_value c.args.others.now) (source_value x)) c.args.calls.now c.calls.call-index c.call-item.result
+          (map order_value c.calls.orders.items) _ c.calls-test.true c.call-item.is (not_ordered called_eq (λ v. undialled v.rules.source) source_value c.args.others.now c.call-item.result there) c.calls.invariant
     ]

@@ -1,10 +1,7 @@
-use Rattle.std.proofs.Common.{◌≡◌, ◌++◌, map}
-use Rattle.std.specs.Vec.Iter.{into_iter_items}
-use Rattle.pg_run.specs.OpenedPorts.{opened_by}
+use Rattle.std.proofs.Common.{◌≡◌, ◌++◌, drop, map}
+use Rattle.pg_operator.specs.Setups.{subscriber_value}
+use Rattle.pg_run.specs.OpenedPorts.{opened_of}
 use Rattle.pg_run.proofs.running.ports_of.Given as goal
 
-abbrev pub invariant-plans : goal.invariant-plans
-invariant-plans g l =
-    (goal.iterator-plans g).can_next l.plan-iterator ×
-    (goal.iterator-plans g).is_finite l.plan-iterator ×
-    (l.bound.items ++ map (λ p. opened_by p.sub p.rules) (into_iter_items l.plan-iterator) ≡ map (λ p. opened_by p.sub p.rules) l.fn.plans.items)
+abbrev pub invariant-subscribers : goal.invariant-subscribers
+invariant-subscribers g l = l.bound.items ++ opened_of (map subscriber_value (drop l.subscriber-index l.subscribers)) ≡ opened_of (map subscriber_value l.subscribers)

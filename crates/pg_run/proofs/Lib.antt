@@ -1,2 +1,0 @@
--- Lemmas of the running program.
-pub mod Joined
