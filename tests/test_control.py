@@ -130,8 +130,8 @@ def test_quit_waits_for_the_answers_before_it(bench):
         client.socket.shutdown(socket.SHUT_WR)
         time.sleep(0.5)
         same(gateway.process.poll(), None, "the program, before the answers are read:")
-        # Two sources, two subscribers and three streams.
-        same(read_all(client.socket).count(b"\n"), 800 * 7, "lines of `status`")
+        # Two sources with a PMU each, two subscribers and three streams.
+        same(read_all(client.socket).count(b"\n"), 800 * 9, "lines of `status`")
         same(gateway.ended(3), 0)
         for source in (pair.seven, pair.nine):
             source.close()
@@ -529,11 +529,12 @@ def test_status_and_metrics_are_the_same(bench):
     # The page shows what was taken in the last second.
     time.sleep(1.1)
     status = gateway.answer("status")
-    same(len(status), 7)
-    same([it.rpartition(" last ")[0] for it in status[:2]],
+    same(len(status), 9)
+    same([it.rpartition(" last ")[0] for it in (status[0], status[2])],
          [f"source 7 {pair.seven.address} up frames 4 events 4 ignored -", f"source 9 {pair.nine.address} up frames 4 events 4 ignored -"])
     # A CFG-2 of one PMU with a phasor has 74 bytes, a data frame 26. Stream 2001 is off.
-    same(status[2:], [f"subscriber 1 {pair.ports[0]} connected {first.name} made 3 dropped 0 lost 0 late 0 twice 0 handed 152 queue 0 0",
+    same([it.partition(" delay ")[0] for it in (status[1], status[3])], ['pmu 7/7 "PMU 7" 30/s got 100.0%', 'pmu 9/9 "PMU 9" 30/s got 100.0%'])
+    same(status[4:], [f"subscriber 1 {pair.ports[0]} connected {first.name} made 3 dropped 0 lost 0 late 0 twice 0 handed 152 queue 0 0",
                       f"subscriber 20 {pair.ports[1]} connected {second.name} made 2 dropped 0 lost 0 late 1 twice 0 handed 126 queue 0 0",
                       "stream 1 101 on members 1/1", "stream 20 2000 on members 1/1", "stream 20 2001 off members 1/1"])
     same([it.partition(" last ")[0] for it in gateway.ctl("status")[1].splitlines()], [it.partition(" last ")[0] for it in status])

@@ -206,7 +206,7 @@ def test_an_edit_that_a_reload_can_not_do_is_reported(bench):
 
 
 def test_status_has_each_once_after_many_changes(bench):
-    """`status` has each source, subscriber and stream once, whatever was asked of which thread before."""
+    """`status` has each source, PMU, subscriber and stream once, whatever was asked of which thread before."""
     pair = Reloads(bench).begin()
     port = bench.port()
     pair.change("reloaded: 0 edits, 2 changes of connections and ports", twenty=subscriber(20, port, ring=16, grants=[9]))
@@ -217,7 +217,7 @@ def test_status_has_each_once_after_many_changes(bench):
     pair.gateway.does(f"dial 9 {pair.nine.address}", "done 0 0")
     pair.nine.come()
     same([" ".join(it.split()[:4 if it.startswith("stream") else 2]) for it in pair.gateway.answer("status")],
-         ["source 7", "source 9", "subscriber 1", "subscriber 20", "stream 1 101 on", "stream 20 2000 off"])
+         ["source 7", "pmu 7/7", "source 9", "pmu 9/9", "subscriber 1", "subscriber 20", "stream 1 101 on", "stream 20 2000 off"])
     pair.end()
 
 

@@ -8,10 +8,15 @@ from peers import RATE, expect, http, metrics, pmu, same, stream, stream_frame, 
 
 STATUS = """\
 source 7 {seven} up frames 10 events 7 ignored BadCheck=2 WrongId=1 last N
+pmu 7/7 "PMU 7" 30/s got 100.0% delay N N N ms sync locked stat 0000 60.000 Hz
 source 8 {eight} up frames 2 events 2 ignored - last N
+pmu 8/8 "PMU 8" 30/s got 100.0% delay N N N ms sync locked stat 0000 60.000 Hz
 source 9 {nine} pause N frames 0 events 0 ignored - last -
+pmu 9/9 - - not announced
 source 300 {full} calling frames 0 events 0 ignored - last -
+pmu 300/300 - - not announced
 source 65534 - pause - frames 0 events 0 ignored - last -
+pmu 65534/65534 - - not announced
 subscriber 1 {port} connected {client} made 9 dropped 3 lost 0 late 6 twice 3 handed 528 queue 0 0
 subscriber 65535 - waiting N made 0 dropped 0 lost 0 late 0 twice 0 handed 0 queue 0 0
 stream 1 101 on members 1/1
@@ -20,6 +25,10 @@ stream 1 103 on members 1/1
 stream 65535 7 off members 0/1
 """
 ONE, TWO = 'subscriber="1"', 'subscriber="65535"'
+PMUS = ('source="7",pmu="7",station="PMU 7"', 'source="8",pmu="8",station="PMU 8"')
+FLAGS = ("pmu_error", "test_or_absent", "do_not_use", "out_of_sync", "by_arrival", "triggered", "config_change", "modified")
+# The bounds of delays in seconds, of which that of each frame is above all but one.
+DELAYS = ("-1.024", "-0.128", "-0.016", "0.000", "0.016", "0.032", "0.064", "0.128", "0.256", "0.512", "1.024", "2.048", "8.192")
 # Name, type and text of each metric, and its value by its labels.
 METRICS = [
     ("info", "gauge", "The gateway's name.", {r'name="North \"7\" \\ PDC"': 1}),
@@ -30,6 +39,24 @@ METRICS = [
     ("source_since_event_seconds", "gauge", "Seconds since the last configuration or data frame taken from the source.", {7: "N", 8: "N"}),
     ("source_ignored_total", "counter", "Frames of the source that were ignored, and bytes that begin no frame, by reason.",
      {'source="7",reason="BadCheck"': 2, 'source="7",reason="WrongId"': 1}),
+    ("source_data_frames_total", "counter", "Data frames read from the source.", {7: 6, 8: 1, 9: 0, 300: 0}),
+    ("source_expected_data_frames_total", "counter",
+     "Data frames that DATA_RATE asks for, between the first and the last since the source connected.", {7: 3, 8: 1, 9: 0, 300: 0}),
+    ("source_received_data_frames_total", "counter", "Expected data frames that came since the source connected.", {7: 3, 8: 1, 9: 0, 300: 0}),
+    ("source_repeated_data_frames_total", "counter", "Data frames with a timestamp that had come.", {7: 3, 8: 0, 9: 0, 300: 0}),
+    ("source_disordered_data_frames_total", "counter", "Data frames with a timestamp before the last one.", {7: 0, 8: 0, 9: 0, 300: 0}),
+    ("source_spans_total", "counter", "Runs of data frames without a jump of their timestamps.", {7: 1, 8: 1, 9: 0, 300: 0}),
+    ("source_unlocked_data_frames_total", "counter", "Data frames whose time quality says that the clock is not locked.", {7: 0, 8: 0, 9: 0, 300: 0}),
+    ("source_time_quality", "gauge", "Time quality of the last data frame: 0 locked, up to 15 not reliable.", {7: 0, 8: 0, 9: 0, 300: 0}),
+    ("source_leap_second_pending", "gauge", "1 if the last data frame says that a leap second comes, else 0.", {7: 0, 8: 0, 9: 0, 300: 0}),
+    ("source_completeness_ratio", "gauge", "Data frames that came in the last minute, of those expected, rounded down.", {7: "1.000", 8: "1.000"}),
+    ("source_delay_seconds", "histogram", "This machine's clock minus the timestamp of a data frame, when it is read.", {7: 6, 8: 1, 9: 0, 300: 0}),
+    ("pmu_announced", "gauge", "1 if the source's configuration has the registered PMU, else 0.",
+     {f'source="{it}",pmu="{it}"': int(it < 9) for it in (7, 8, 9, 300, 65534)}),
+    ("pmu_stat_blocks_total", "counter", "Blocks of the PMU whose STAT has the flag.", {f'{label},flag="{flag}"': 0 for label in PMUS for flag in FLAGS}),
+    ("pmu_in_sync", "gauge", "1 if the PMU's last block is in sync with UTC, else 0.", {label: 1 for label in PMUS}),
+    ("pmu_frequency_hertz", "gauge", "FREQ of the PMU's last block.", {label: "60.000" for label in PMUS}),
+    ("pmu_rocof_hertz_per_second", "gauge", "DFREQ of the PMU's last block.", {label: "0.000" for label in PMUS}),
     ("subscriber_connected", "gauge", "1 if the subscriber is connected, else 0.", {ONE: 1, TWO: 0}),
     ("subscriber_waiting_seconds", "gauge", "Seconds since the subscriber was last connected, 0 while it is.", {ONE: 0, TWO: "N"}),
     ("subscriber_made_frames_total", "counter", "Data frames made for the subscriber.", {ONE: 9, TWO: 0}),
@@ -56,11 +83,17 @@ STATE = """\
 {"name":"North \\"7\\" \\\\ PDC",\
 "sources":[\
 {"source":7,"address":"SEVEN","call":"up","pause":null,"frames":10,"events":7,\
-"ignored":[{"reason":"BadCheck","count":2},{"reason":"WrongId","count":1}],"last":N},\
-{"source":8,"address":"EIGHT","call":"up","pause":null,"frames":2,"events":2,"ignored":[],"last":N},\
-{"source":9,"address":"NINE","call":"pause","pause":N,"frames":0,"events":0,"ignored":[],"last":null},\
-{"source":300,"address":"FULL","call":"calling","pause":null,"frames":0,"events":0,"ignored":[],"last":null},\
-{"source":65534,"address":null,"call":"rests","pause":null,"frames":0,"events":0,"ignored":[],"last":null}],\
+"ignored":[{"reason":"BadCheck","count":2},{"reason":"WrongId","count":1}],"last":N,\
+"quality":{"rate":30,"minute":1000,"hour":1000,"expected":3,"received":3,"repeated":3,"out_of_order":0,"spans":1,DELAY,"time":"locked"},\
+"pmus":[{"pmu":7,"blocks":BLOCKS}]},\
+{"source":8,"address":"EIGHT","call":"up","pause":null,"frames":2,"events":2,"ignored":[],"last":N,\
+"quality":{"rate":30,"minute":1000,"hour":1000,"expected":1,"received":1,"repeated":0,"out_of_order":0,"spans":1,DELAY,"time":"locked"},\
+"pmus":[{"pmu":8,"blocks":BLOCKS}]},\
+{"source":9,"address":"NINE","call":"pause","pause":N,"frames":0,"events":0,"ignored":[],"last":null,"quality":NONE,"pmus":[{"pmu":9,"blocks":null}]},\
+{"source":300,"address":"FULL","call":"calling","pause":null,"frames":0,"events":0,"ignored":[],"last":null,"quality":NONE,\
+"pmus":[{"pmu":300,"blocks":null}]},\
+{"source":65534,"address":null,"call":"rests","pause":null,"frames":0,"events":0,"ignored":[],"last":null,"quality":null,\
+"pmus":[{"pmu":65534,"blocks":null}]}],\
 "subscribers":[\
 {"subscriber":1,"port":PORT,"address":"CLIENT","waiting":null,"made":9,"dropped":3,"lost":0,"late":6,"twice":3,"handed":528,"gaps":2,\
 "queue_frames":0,"queue_bytes":0,"seconds":SECONDS},\
@@ -68,6 +101,11 @@ STATE = """\
 "queue_frames":0,"queue_bytes":0,"seconds":SECONDS}],\
 "streams":[{"subscriber":1,"stream":101,"on":true,"effective":1,"members":1},{"subscriber":1,"stream":102,"on":true,"effective":2,"members":3},\
 {"subscriber":1,"stream":103,"on":true,"effective":1,"members":1},{"subscriber":65535,"stream":7,"on":false,"effective":0,"members":1}]}"""
+
+# What is said of a source of which no data frame came, and of a PMU; the stations' names are masked.
+NONE = """{"rate":0,"minute":null,"hour":null,"expected":0,"received":0,"repeated":0,"out_of_order":0,"spans":0,"delay":null,"time":null}"""
+GOOD = """{"station":"NAME","stat":0,"sync":1,"pmu_error":0,"test_or_absent":0,"do_not_use":0,"out_of_sync":0,"by_arrival":0,"triggered":0,\
+"config_change":0,"modified":0,"freq":60000,"dfreq":0}"""
 
 
 def metrics_text():
@@ -77,6 +115,10 @@ def metrics_text():
         lines += [f"# HELP pdcgw_{name} {text}", f"# TYPE pdcgw_{name} {kind}"]
         for key, value in values.items():
             labels = key if isinstance(key, str) else f'source="{key}"'
+            if kind == "histogram":
+                lines += [f'pdcgw_{name}_bucket{{{labels},le="{bound}"}} {value if bound == DELAYS[-1] else 0}' for bound in DELAYS]
+                lines += [f'pdcgw_{name}_bucket{{{labels},le="+Inf"}} {value}', f"pdcgw_{name}_count{{{labels}}} {value}"]
+                continue
             lines.append(f"pdcgw_{name}{{{labels}}} {value}")
     name = "pdcgw_frame_age_seconds"
     lines += [f"# HELP {name} This machine's clock minus the timestamp of a data frame, when it is sent.", f"# TYPE {name} histogram"]
@@ -137,7 +179,8 @@ def known_state(bench, page):
 
 def masked(text):
     """A text without what changes by the second."""
-    for pattern, put in ((r'("last":|"waiting":|"pause":|last |waiting |pause )\d+', r"\1N"), (r'("seconds":){[^}]*}', r"\1SECONDS"),
+    for pattern, put in ((r'("delay":){[^}]*}', "DELAY"), (r'("station":)"PMU [78]"', r'\1"NAME"'), (r"delay \d+ \d+ \d+ ms", "delay N N N ms"),
+                         (r'("last":|"waiting":|"pause":|last |waiting |pause )\d+', r"\1N"), (r'("seconds":){[^}]*}', r"\1SECONDS"),
                          (r'(source_pause_seconds{source="9"}|since_event_seconds{[^}]*}|waiting_seconds{' + TWO + r"}) \d+", r"\1 N"),
                          (r"(pdcgw_frame_age_seconds_sum) \S+", r"\1 SUM")):
         text = re.sub(pattern, put, text)
@@ -155,7 +198,7 @@ def test_all_that_is_shown(bench):
     same(masked(shown).splitlines(), metrics_text().splitlines())
     total = float(re.search(r"_sum (\S+)\n", shown)[1])
     expect(18 <= total <= 30, f"the sum of six ages of 3 seconds and a little more is {total}")
-    wanted = STATE
+    wanted = STATE.replace("NONE", NONE).replace("BLOCKS", GOOD)
     for name, value in values.items():
         wanted = wanted.replace(name.upper(), str(value))
     shown = http(page, "/state")[1]

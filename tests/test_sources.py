@@ -200,7 +200,7 @@ def test_frames_that_are_ignored_are_counted_by_reason(bench):
     pair.second_is_served(2)
     line = gateway.status()["source 9"]
     expect(" up frames 6 events 3 ignored BadCheck=2 WrongId=1 last " in line, f"six frames came, of which three count: {line}")
-    expect(" up frames 1 events 1 ignored - last " in gateway.status()["source 7"], "source 7 sent its configuration alone")
+    expect(" connected frames 1 events 1 ignored - last " in gateway.status()["source 7"], "source 7 sent its configuration alone")
     gateway.logs(r"WARN source 9: frames are ignored: 5 BadCheck \(2 frames\)")
     gateway.logs(r"WARN source 9: frames are ignored: 17 WrongId( \(1 frames\))?")
     same(gateway.logged("source 7: frames.*"), 0)
@@ -288,7 +288,7 @@ def test_names_are_looked_up(bench):
         source.come()
         gateway.line(f"source {source.idcode}: announced")
     name = named.address.replace("127.0.0.1", "localhost")
-    expect(gateway.status()["source 9"].startswith(f"source 9 {name} up "), "`status` has the name")
+    expect(gateway.status()["source 9"].startswith(f"source 9 {name} connected "), "`status` has the name")
     pair.start()
     pair.nine = named
     pair.second_is_served()

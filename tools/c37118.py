@@ -14,12 +14,12 @@ def frame(kind, idcode, soc, frac, body):
     return head + body + struct.pack(">H", binascii.crc_hqx(head + body, 0xFFFF))
 
 
-def configuration(source, pmus, rate, phasors=1, soc=None, count=0, frac=0):
-    """CFG-2: `count` is the CFGCNT of each PMU."""
+def configuration(source, pmus, rate, phasors=1, soc=None, count=0, frac=0, station=b"PMU %-12d"):
+    """CFG-2: `count` is the CFGCNT of each PMU, `station` its STN by its number."""
     body = struct.pack(">IH", BASE, len(pmus))
     for pmu in pmus:
         names = b"".join(b"PH%-14d" % at for at in range(phasors))
-        body += b"PMU %-12d" % pmu + struct.pack(">HHHHH", pmu, 0, phasors, 0, 0) + names + bytes(4 * phasors) + struct.pack(">HH", 0, count)
+        body += station % pmu + struct.pack(">HHHHH", pmu, 0, phasors, 0, 0) + names + bytes(4 * phasors) + struct.pack(">HH", 0, count)
     return frame(CONFIG_2, source, int(time.time()) if soc is None else soc, frac, body + struct.pack(">h", rate))
 
 

@@ -4,15 +4,13 @@ use crate::{Outcome, help};
 use clap::{Arg, ArgAction, ArgMatches, Command};
 use pg_demo::DemoOptions;
 use pg_demo_core::Verdict;
+use pg_run::Runtime;
 use pg_tools::{
     BadOption, SimulateArgs, Style, WatchArgs, number, read_settings, read_watch_options,
 };
 use std::alloc::{AllocError, Global};
-use std::io::StdinLock;
-use std::net::{Net, TcpListener, TcpStream};
+use std::net::Net;
 use std::rt::{Clock, Files};
-use std::sync::Wait;
-use std::thread::Threads;
 
 /// What `--plain` of `watch` and `demo` does.
 const PLAIN: &str = "Writes a line a second, where standard output is a terminal too";
@@ -201,19 +199,11 @@ pub fn demo_words<'a>(alloc: Global) -> Result<Command<'a>, AllocError> {
 }
 
 /// Does the work of `demo`.
-pub fn demo<R>(rt: &R, words: &ArgMatches<'_>, is_terminal: bool) -> Outcome
-where
-    R: Files
-        + Input<Reader = StdinLock<'static>>
-        + Print
-        + Eprint
-        + Clock
-        + Net<Listener = TcpListener, Stream = TcpStream>
-        + Threads
-        + Wait
-        + Sync
-        + Alloc<A = Global>,
-{
+pub fn demo<R: Files + Runtime + Alloc<A = Global>>(
+    rt: &R,
+    words: &ArgMatches<'_>,
+    is_terminal: bool,
+) -> Outcome {
     let seconds = match words.get_str("seconds") {
         None => None,
         Some(word) => match number(word, 1, 86_400) {

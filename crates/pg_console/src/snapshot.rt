@@ -5,11 +5,13 @@ ghost use Rattle.std.specs.Prelude.{◌≡◌, IfSome};
 use crate::service_handle::ServiceHandle;
 use pg_audit::{PmuStats, Stats};
 use pg_gateway::{Event, Gate, Reply};
+use pg_quality::PmuSummary;
 use pg_service::{LinkState, MeteredGate, PortReport, REASONS, Reports, SourceReport};
 use pg_status::{
-    Call, Histogram, Ignored, Presence, Queue, Snapshot, SourceState, StreamState, SubscriberState,
+    Call, Histogram, Ignored, PmuState, Presence, Queue, Snapshot, SourceState, StreamState,
+    SubscriberState,
 };
-use pg_wire::{PmuId, Refusal, SubId};
+use pg_wire::{PmuId, PmuKey, Refusal, SubId};
 use std::alloc::{AllocError, Global};
 use std::rt::Clock;
 use std::sync::Wait;
@@ -30,20 +32,22 @@ pub(crate) fn seen_by<R: Wait + Clock, G: Gate>(
         subscribers: Vec::new(alloc),
         streams: Vec::new(alloc),
     };
-    let (sources, subs) = registered_at(rt, alloc, service)?;
+    let (pmus, subs) = registered_at(rt, alloc, service)?;
     let Reports {
         sources: reported,
         ports,
         ages,
         ..
     } = reports;
-    for source in sources {
-        if !reported.iter().any(|it| it.source == source) {
-            snapshot.sources.push(uncalled(alloc, source))?;
+    for key in &pmus {
+        let source = key.source;
+        let is_known = snapshot.sources.iter().any(|it| it.source == source);
+        if !is_known && !reported.iter().any(|it| it.source == source) {
+            snapshot.sources.push(uncalled(alloc, source, &pmus)?)?;
         }
     }
     for report in reported {
-        snapshot.sources.push(source_state(alloc, report)?)?;
+        snapshot.sources.push(source_state(alloc, report, &pmus)?)?;
     }
     snapshot.sources.sort_unstable_by_key(|it| it.source.get());
     for sub in subs {
@@ -60,29 +64,44 @@ fn port_of(ports: &[PortReport], sub: SubId) -> Option<&PortReport>
     ports.iter().find(|it| it.sub == sub)
 }
 
-/// The sources of registered PMUs, each once, and the subscribers in the order of their numbers.
+/// The registered PMUs and the subscribers, in the order of their numbers.
 fn registered_at<R: Wait>(
     rt: &R,
     alloc: Global,
     service: &ServiceHandle<'_>,
-) -> Result<(Vec<PmuId>, Vec<SubId>), AllocError> {
-    let mut sources = Vec::new(alloc);
+) -> Result<(Vec<PmuKey>, Vec<SubId>), AllocError> {
+    let mut pmus = Vec::new(alloc);
     let mut subs = Vec::new(alloc);
     let directory = service.directory.lock(rt);
-    for key in directory.pmus() {
-        if !sources.contains(&key.source) {
-            sources.push(key.source)?;
-        }
-    }
+    pmus.extend_from_slice(directory.pmus())?;
     subs.extend_from_slice(directory.subscribers())?;
     drop(directory);
+    pmus.sort_unstable_by_key(|it| it.pmu.get());
     subs.sort_unstable_by_key(|it| it.get());
-    Ok((sources, subs))
+    Ok((pmus, subs))
+}
+
+/// The registered PMUs of a source, with what is reported of their blocks.
+fn pmus_of(
+    alloc: Global,
+    source: PmuId,
+    pmus: &[PmuKey],
+    reported: &[PmuSummary],
+) -> Result<Vec<PmuState>, AllocError> {
+    let mut found = Vec::new(alloc);
+    for key in pmus {
+        if key.source == source {
+            let pmu = key.pmu;
+            let blocks = reported.iter().find(|it| it.id == pmu.get()).copied();
+            found.push(PmuState { pmu, blocks })?;
+        }
+    }
+    Ok(found)
 }
 
 /// A source that is called by nobody.
-fn uncalled(alloc: Global, source: PmuId) -> SourceState {
-    SourceState {
+fn uncalled(alloc: Global, source: PmuId, pmus: &[PmuKey]) -> Result<SourceState, AllocError> {
+    Ok(SourceState {
         source,
         address: None,
         call: Call::Rests,
@@ -90,11 +109,17 @@ fn uncalled(alloc: Global, source: PmuId) -> SourceState {
         events: 0,
         ignored: Vec::new(alloc),
         last: None,
-    }
+        quality: None,
+        pmus: pmus_of(alloc, source, pmus, &[])?,
+    })
 }
 
 /// A source, as its worker reports it.
-fn source_state(alloc: Global, report: SourceReport) -> Result<SourceState, AllocError> {
+fn source_state(
+    alloc: Global,
+    report: SourceReport,
+    registered: &[PmuKey],
+) -> Result<SourceState, AllocError> {
     let SourceReport {
         source,
         address,
@@ -102,6 +127,8 @@ fn source_state(alloc: Global, report: SourceReport) -> Result<SourceState, Allo
         counts,
         far,
         last,
+        quality,
+        pmus,
     } = report;
     let ignored = ignored_in(alloc, &counts, far)?;
     let mut frames = counts.taken;
@@ -121,6 +148,8 @@ fn source_state(alloc: Global, report: SourceReport) -> Result<SourceState, Allo
             Some(last) => Some(last.as_secs()),
             None => None,
         },
+        quality: Some(quality),
+        pmus: pmus_of(alloc, source, registered, pmus.as_slice())?,
     })
 }
 
@@ -146,6 +175,7 @@ fn ignored_in(alloc: Global, counts: &PmuStats, far: u64) -> Result<Vec<Ignored>
 fn call_of(reach: LinkState) -> Call {
     match reach {
         LinkState::Up => Call::Up,
+        LinkState::Connected => Call::Connected,
         LinkState::Calling => Call::Calling,
         LinkState::Pause(left) => Call::Pause(u32::try_from(whole_seconds(left)).unwrap_or(
             u32::MAX,

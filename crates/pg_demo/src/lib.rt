@@ -5,7 +5,6 @@
 mod fault;
 mod keyboard;
 mod run_demo;
-mod runtime;
 mod setup;
 mod simulators;
 mod sockets;

@@ -3,28 +3,22 @@
 ghost use Rattle.std.specs.Prelude.{◌≡◌};
 
 use crate::fault::Fault;
-use crate::runtime::Runtime;
 use crate::setup::edits;
 use crate::sockets::Sockets;
 use crate::state::DemoState;
 use crate::workers::own_workers;
 use pg_console::{
-    AdminListeners, Mailboxes, NoServiceCommands, Pollers, ServiceBuilder, ServicePlan, SetUp,
-    SharedState, WorkerCounts, set_up,
+    AdminListeners, Mailboxes, NoServiceCommands, Pollers, Runtime, ServiceBuilder, ServicePlan,
+    SetUp, SharedState, WorkerCounts, set_up,
 };
 use pg_demo_core::{ExpectedStreams, Verdict};
 use pg_service::Directory;
 use pg_shared::{Named, Seat, Shared};
 use pg_tools::Style;
 use std::alloc::Global;
-use std::io::StdinLock;
 use std::marker::Brand;
 use std::mem;
-use std::net::{Net, TcpListener, TcpStream};
-use std::rt::Clock;
-use std::sync::Wait;
 use std::sync::atomic::AtomicBool;
-use std::thread::Threads;
 use std::time::{Duration, Instant};
 
 /// The gateway's workers that have a mailbox. None reports addresses, since no source is connected to by a name.
@@ -52,18 +46,10 @@ pub struct DemoOptions {
 /// # Errors
 ///
 /// That of the gateway, of a source or of a subscriber which ends it before.
-pub fn demo<R>(rt: &R, options: DemoOptions) -> Result<Verdict, Fault>
-where
-    R: Input<Reader = StdinLock<'static>>
-        + Print
-        + Eprint
-        + Clock
-        + Net<Listener = TcpListener, Stream = TcpStream>
-        + Threads
-        + Wait
-        + Sync
-        + Alloc<A = Global>,
-{
+pub fn demo<R: Runtime + Alloc<A = Global>>(
+    rt: &R,
+    options: DemoOptions,
+) -> Result<Verdict, Fault> {
     let alloc = rt.alloc();
     let SetUp {
         shared,

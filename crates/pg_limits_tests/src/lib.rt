@@ -3,12 +3,4 @@
 #![tactic(auto)]
 
 #[cfg(test)]
-mod asserts;
-#[cfg(test)]
-mod layouts;
-#[cfg(test)]
-mod limits;
-#[cfg(test)]
-mod plans;
-#[cfg(test)]
-mod times;
+mod tests;

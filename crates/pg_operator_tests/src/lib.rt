@@ -3,12 +3,4 @@
 #![tactic(auto)]
 
 #[cfg(test)]
-mod asserts;
-#[cfg(test)]
-mod lines;
-#[cfg(test)]
-mod reloads;
-#[cfg(test)]
-mod setups;
-#[cfg(test)]
-mod told;
+mod tests;

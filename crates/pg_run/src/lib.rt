@@ -12,7 +12,6 @@ mod reload_worker;
 mod reloading;
 mod run_context;
 mod running;
-mod runtime;
 mod served;
 mod serving;
 mod steering;
@@ -20,5 +19,5 @@ mod stoppable_stdin;
 mod workers;
 
 pub use failure::Failure;
+pub use pg_console::Runtime;
 pub use running::{Start, run};
-pub use runtime::Runtime;

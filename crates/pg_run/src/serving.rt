@@ -7,8 +7,9 @@ use crate::failure::refusal_of;
 use crate::make_workers::own_workers;
 use crate::operator::StandardIo;
 use crate::run_context::RunContext;
-use crate::runtime::Runtime;
-use pg_console::{Mailboxes, Pollers, ServiceBuilder, ServicePlan, SharedState, WorkerCounts};
+use pg_console::{
+    Mailboxes, Pollers, Runtime, ServiceBuilder, ServicePlan, SharedState, WorkerCounts,
+};
 use pg_log::{Detail, Entry, Journal, LogEvent, Subject};
 use pg_shared::{Named, Seat, Shared};
 use pg_subscribers::Port;

@@ -4,8 +4,7 @@ ghost use Rattle.pg_run.specs.Kinds.{Gives};
 
 use crate::operator::Operator;
 use crate::reload_worker::ReloadWorker;
-use crate::runtime::Runtime;
-use pg_console::HoldsSeat;
+use pg_console::{HoldsSeat, Runtime};
 use pg_service::Logger;
 use pg_shared::{Named, Seat, Work};
 

@@ -5,6 +5,7 @@ use crate::mail::{Mailbox, PortOrder, SourceOrder};
 use pg_audit::PmuStats;
 use pg_limits::{Clocks, LayoutChanges};
 use pg_log::{Journal, LogEvent};
+use pg_quality::{FrameSummary, PmuSummary};
 use pg_status::Histogram;
 use pg_wire::{PmuId, SubId};
 use std::alloc::Global;
@@ -22,8 +23,10 @@ const PAUSE_MS: u64 = 1;
 /// How the connection to a source stands.
 #[derive(Clone, Copy, Debug)]
 pub enum LinkState {
-    /// It is connected.
+    /// It is connected, and sent a data frame that counts.
     Up,
+    /// It is connected, and sent no data frame that counts.
+    Connected,
     /// A connection is being made, or its name looked up.
     Calling,
     /// It is called again after so long.
@@ -47,6 +50,10 @@ pub struct SourceReport {
     pub far: u64,
     /// How long its last event is past, if there was one.
     pub last: Option<Duration>,
+    /// How good its data frames are.
+    pub quality: FrameSummary,
+    /// How good the blocks are of the PMUs of its last configuration, in its order.
+    pub pmus: Vec<PmuSummary>,
 }
 
 /// A subscriber's port, as its worker reports it.

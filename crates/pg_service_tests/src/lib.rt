@@ -3,24 +3,4 @@
 #![tactic(auto)]
 
 #[cfg(test)]
-mod asserts;
-#[cfg(test)]
-mod endpoints;
-#[cfg(test)]
-mod errors;
-#[cfg(test)]
-mod frames;
-#[cfg(test)]
-mod lines;
-#[cfg(test)]
-mod logging;
-#[cfg(test)]
-mod registering;
-#[cfg(test)]
-mod reloads;
-#[cfg(test)]
-mod sources;
-#[cfg(test)]
-mod stamping;
-#[cfg(test)]
-mod waking;
+mod tests;

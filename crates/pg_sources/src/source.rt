@@ -11,6 +11,7 @@ ghost use Rattle.pg_sources.specs.Connections.{Turned, check, hearing, questione
 ghost use Rattle.pg_limits.specs.Plans.{asked, begun, called, due_by, ended, made, received, renewed, rested, sought};
 ghost use Rattle.pg_service.specs.Posts.{passes};
 
+use crate::quality_gate::QualityGate;
 use pg_gateway::Gate;
 use pg_ingest::{End, Link, run_link};
 use pg_limits::{Action, Budget, CallPlan};
@@ -170,15 +171,15 @@ impl SourceConnection {
         &mut self,
         reader: &mut Budget<R>,
         writer: &mut W,
-        gate: &mut MeteredGate<G>,
+        gate: &mut QualityGate<MeteredGate<G>>,
         now: Instant,
         clock: u64,
         reference: u64,
     ) -> (Turn, GateStats)
         // It posts what its bytes say and nothing else, but for the measurements that its guards do not take.
         ensures turned { Turned (instant_nanos now) reader.new.left result.0 result.1 self.old self.new
-            (wires (R.remaining reader.old.reader) (W.contents writer.old) (G.posts gate.old.gate) (passes (check self.old clock reference) (G.takes gate.old.gate)))
-            (wires (R.remaining reader.new.reader) (W.contents writer.new) (G.posts gate.new.gate) (passes gate.new.check (G.takes gate.new.gate))) }
+            (wires (R.remaining reader.old.reader) (W.contents writer.old) (G.posts gate.old.gate.gate) (passes (check self.old clock reference) (G.takes gate.old.gate.gate)))
+            (wires (R.remaining reader.new.reader) (W.contents writer.new) (G.posts gate.new.gate.gate) (passes gate.new.gate.check (G.takes gate.new.gate.gate))) }
     {
         let check = ClockCheck {
             guards: self.guards,
@@ -186,7 +187,7 @@ impl SourceConnection {
             reference,
         };
         let end = run_guarded(&mut self.link, check, reader, writer, gate);
-        let seen = gate.take_stats();
+        let seen = gate.gate.take_stats();
         self.hear(&seen, now);
         (self.settle(end, reader.is_used_up(), now), seen)
     }
@@ -225,12 +226,12 @@ fn run_guarded<R: Read, W: Write, G: Gate>(
     check: ClockCheck,
     reader: &mut Budget<R>,
     writer: &mut W,
-    gate: &mut MeteredGate<G>,
+    gate: &mut QualityGate<MeteredGate<G>>,
 ) -> End
     ensures call { IsCall result 10000 link.old link.new
-        (wires (R.remaining reader.old.reader) (W.contents writer.old) (G.posts gate.old.gate) (passes check (G.takes gate.old.gate)))
-        (wires (R.remaining reader.new.reader) (W.contents writer.new) (G.posts gate.new.gate) (passes gate.new.check (G.takes gate.new.gate))) }
+        (wires (R.remaining reader.old.reader) (W.contents writer.old) (G.posts gate.old.gate.gate) (passes check (G.takes gate.old.gate.gate)))
+        (wires (R.remaining reader.new.reader) (W.contents writer.new) (G.posts gate.new.gate.gate) (passes gate.new.gate.check (G.takes gate.new.gate.gate))) }
 {
-    gate.guard(check);
+    gate.gate.guard(check);
     run_link(link, reader, writer, gate, TURNS)
 }

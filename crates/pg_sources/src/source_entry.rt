@@ -1,5 +1,6 @@
 //! A source, with the connection to it.
 
+use crate::quality_gate::QualityGate;
 use crate::source::{SourceConnection, Turn};
 use mio::net::TcpStream;
 use mio::{Interest, Poll, Token};
@@ -8,6 +9,7 @@ use pg_config::SourceConfig;
 use pg_gateway::Gate;
 use pg_limits::{Budget, Phase, Portion, StopAfterShortRead};
 use pg_log::{ConfigChange, Detail, Entry, Journal, LogEvent, MOST_PMUS, Subject};
+use pg_quality::{PmuQuality, PmuSummary, SourceQuality};
 use pg_service::{
     Address, GateStats, LinkState, Lookup, MeteredGate, REASONS, SourceReport, WorkerHandles, ended,
 };
@@ -38,6 +40,8 @@ pub(crate) struct SourceEntry {
     pub(crate) is_ending: bool,
     // Whether it has announced a configuration since it was called, and the last one that it announced.
     has_announced: bool,
+    // Whether it has sent a data frame that counts since it was called.
+    has_measured: bool,
     config: Option<Arc<SourceConfig>>,
     // The bytes of its data frames, as of the last one; the shortest there is before one came.
     size: usize,
@@ -66,6 +70,7 @@ impl SourceEntry {
             is_ready: false,
             is_ending: false,
             has_announced: false,
+            has_measured: false,
             config: None,
             size: SHORTEST,
             reported: PmuStats::new(),
@@ -96,15 +101,22 @@ impl SourceEntry {
         Entry::new(event, Subject::Source(self.connection.source()), detail)
     }
 
-    /// How it stands.
-    pub(crate) fn report(&self, alloc: Global, now: Instant) -> Result<SourceReport, AllocError> {
+    /// How it stands, with these measures of its data, in this second of this machine's clock.
+    pub(crate) fn report(
+        &self,
+        alloc: Global,
+        now: Instant,
+        quality: &SourceQuality,
+        second: u64,
+    ) -> Result<SourceReport, AllocError> {
         let address = match &self.address {
             Some(Address::Known(address)) => Some(format!(in alloc; "{address}")?),
             Some(Address::Name(name)) => Some(String::from_str(alloc, name.as_str())?),
             None => None,
         };
         let reach = match self.connection.plan().phase() {
-            Phase::Up => LinkState::Up,
+            Phase::Up if self.has_measured => LinkState::Up,
+            Phase::Up => LinkState::Connected,
             Phase::Calling => LinkState::Calling,
             Phase::Resting => match self.connection.plan().left(now) {
                 Some(left) => LinkState::Pause(left),
@@ -122,6 +134,8 @@ impl SourceEntry {
             counts: *self.connection.link().stats(),
             far: self.far,
             last,
+            quality: quality.summary(second),
+            pmus: summaries_of(alloc, &quality.pmus)?,
         })
     }
 
@@ -130,6 +144,7 @@ impl SourceEntry {
         if seen.events > seen.far {
             self.measured_at = Some(now);
         }
+        self.has_measured |= seen.measured > seen.far;
         self.far = self.far.saturating_add(seen.far);
         let was_off = self.off.is_some();
         if seen.measured > 0 {
@@ -214,7 +229,7 @@ impl SourceEntry {
     /// Serves its connection, if it stands, by one read, in which no more than so many data frames end.
     pub(crate) fn serve<G: Gate>(
         &mut self,
-        gate: &mut MeteredGate<G>,
+        gate: &mut QualityGate<MeteredGate<G>>,
         events: u32,
         now: Instant,
         clock: u64,
@@ -324,6 +339,7 @@ impl SourceEntry {
     ) -> Entry {
         let both = Interest::READABLE | Interest::WRITABLE;
         self.has_announced = false;
+        self.has_measured = false;
         self.newest = None;
         self.called = Some(address);
         let mut stream = match TcpStream::connect(rt, address) {
@@ -386,6 +402,15 @@ impl SourceEntry {
         self.stream = None;
         self.connection.renew(now);
     }
+}
+
+/// How good the blocks of these PMUs are.
+fn summaries_of(alloc: Global, pmus: &[PmuQuality]) -> Result<Vec<PmuSummary>, AllocError> {
+    let mut summaries = Vec::with_capacity(alloc, pmus.len())?;
+    for pmu in pmus {
+        summaries.push(pmu.summary())?;
+    }
+    Ok(summaries)
 }
 
 /// DATA_RATE of a configuration.

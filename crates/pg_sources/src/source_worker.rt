@@ -3,7 +3,9 @@
 ghost use Rattle.std.specs.Prelude.{◌≡◌, IfSome, Some, option_map, slice_get};
 
 use crate::counted_announcements::CountedAnnouncements;
+use crate::measures::Measures;
 use crate::pace::Pace;
+use crate::quality_gate::QualityGate;
 use crate::source::{SourceConnection, Turn};
 use crate::source_entry::SourceEntry;
 use pg_limits::{Action, Clocks, Phase, reference};
@@ -41,7 +43,7 @@ fn place_of(sources: &[SourceEntry], id: PmuId) -> Option<usize>
 pub struct SourceWorker<'a, R: Wait + Net + Clock, N: Named> {
     rt: &'a R,
     alloc: Global,
-    gate: MeteredGate<CountedAnnouncements<'a, SharedGate<'a, R, N>>>,
+    gate: QualityGate<MeteredGate<CountedAnnouncements<'a, SharedGate<'a, R, N>>>>,
     waiting: Poller,
     number: usize,
     mailbox: &'a Mailbox<SourceOrder>,
@@ -73,7 +75,7 @@ impl<'a, R: Wait + Net + Clock, N: Named> Model for SourceWorker<'a, R, N> {
     ghost Value = { Known Event Reply };
 
     // It is seen as the seat of its gate.
-    ghost view = { λ w. w.gate.gate.gate };
+    ghost view = { λ w. w.gate.gate.gate.gate };
 }
 
 impl<'a, R: Wait + Net + Clock, N: Named> SourceWorker<'a, R, N> {
@@ -94,7 +96,7 @@ impl<'a, R: Wait + Net + Clock, N: Named> SourceWorker<'a, R, N> {
         SourceWorker {
             rt,
             alloc,
-            gate: MeteredGate::new(gate),
+            gate: QualityGate::new(MeteredGate::new(gate), Measures::new(alloc)),
             waiting,
             number,
             mailbox,
@@ -141,6 +143,9 @@ impl<'a, R: Wait + Net + Clock, N: Named> SourceWorker<'a, R, N> {
             old.dial_again(connection, address, dial);
             return Ok(());
         }
+        // Each source has its measures at its own place.
+        self.sources.try_reserve(1)?;
+        self.gate.measures.add_source()?;
         self.sources
             .push(SourceEntry::new(connection, address, dial))?;
         Ok(())
@@ -152,7 +157,7 @@ impl<'a, R: Wait + Net + Clock, N: Named> SourceWorker<'a, R, N> {
         ensures seat { result ≡ self.entry }
     {
         let SourceWorker { gate, .. } = self;
-        gate.into_inner().into_inner()
+        gate.into_inner().into_inner().into_inner()
     }
 
     /// Counts this event.
@@ -283,11 +288,13 @@ impl<'a, R: Wait + Net + Clock, N: Named> SourceWorker<'a, R, N> {
     /// Reports how its sources stand. One that it calls no longer may be another worker's by now, and is left out.
     fn report(&self, asking: u64) {
         let mut reports = Vec::new(self.alloc);
-        for source in &self.sources {
-            if source.address.is_none() {
+        let second = self.clock / 1_000;
+        for (place, source) in self.sources.iter().enumerate() {
+            let (true, Some(quality)) = (source.address.is_some(), self.gate.measures.of(place))
+            else {
                 continue;
-            }
-            let is_reported = match source.report(self.alloc, self.queue.now) {
+            };
+            let is_reported = match source.report(self.alloc, self.queue.now, quality, second) {
                 Ok(report) => reports.push(report).is_ok(),
                 Err(_) => false,
             };
@@ -436,6 +443,9 @@ impl<'a, R: Wait + Net + Clock, N: Named> SourceWorker<'a, R, N> {
             if let Some(entry) = source.finish_call(self.queue.now) {
                 self.handles.journal.log(self.rt, entry);
             }
+            if let Phase::Up = source.connection.plan().phase() {
+                self.gate.measures.connect(place);
+            }
             self.queue.due = Some(self.queue.now);
         }
         for _ in 0..READS {
@@ -445,6 +455,7 @@ impl<'a, R: Wait + Net + Clock, N: Named> SourceWorker<'a, R, N> {
             }
             // A turn may take long: the clock is read again before each read, so that no measurement is ahead of an old time.
             let clock = clock_ms(self.rt).unwrap_or(self.clock);
+            self.gate.measures.serve(place, clock);
             let Some((turn, seen)) = source.serve(
                 &mut self.gate,
                 events,
@@ -458,7 +469,10 @@ impl<'a, R: Wait + Net + Clock, N: Named> SourceWorker<'a, R, N> {
                 self.pace.spend(seen.makers, &self.handles);
             }
             let is_other = source.note_seen(&seen, clock, self.queue.now);
-            source.log_seen(self.rt, &mut self.gate, self.handles.journal, &seen);
+            source.log_seen(self.rt, &mut self.gate.gate, self.handles.journal, &seen);
+            if self.gate.measures.take_shortage() {
+                self.handles.journal.note(LogEvent::MailFault);
+            }
             if let Turn::Ended(end) = turn {
                 let entry = source.entry(LogEvent::SourceEnded, ended(end));
                 self.queue.due = Some(self.queue.now);

@@ -3,3 +3,4 @@ pub mod Ages
 pub mod Seconds
 pub mod Requests
 pub mod Lines
+pub mod Stations

@@ -1,6 +1,7 @@
 //! State and history as JSON, for the page.
 
 use crate::history::{History, Past};
+use crate::quality_json::{put_pmus, put_quality};
 use crate::snapshot::{
     Call, Ignored, Presence, Snapshot, SourceState, StreamState, SubscriberState,
 };
@@ -8,7 +9,7 @@ use std::alloc::{AllocError, Global};
 
 /// A snapshot and what is remembered of its subscribers, as one JSON text: an object with `name`, and the lists
 /// `sources`, `subscribers` and `streams`. The members are named as the fields of the states; what is not there is `null`. `call` is one of
-/// `up`, `calling`, `pause` and `rests`, and `seconds` holds the lists `handed` and `dropped`, of the frames in each of the last 300
+/// `up`, `connected`, `calling`, `pause` and `rests`, and `seconds` holds the lists `handed` and `dropped`, of the frames in each of the last 300
 /// seconds, the oldest first.
 ///
 /// # Errors
@@ -39,12 +40,12 @@ fn put_state(
 }
 
 /// What stands before an element of a list: a comma, but before the first.
-fn comma(place: usize) -> &'static str {
+pub(crate) fn comma(place: usize) -> &'static str {
     if place == 0 { "" } else { "," }
 }
 
 /// Puts numbers, each behind what names it. What is not there is `null`.
-fn put_numbers(
+pub(crate) fn put_numbers(
     alloc: Global,
     json: &mut String,
     numbers: &[(&str, Option<u64>)],
@@ -60,7 +61,12 @@ fn put_numbers(
 }
 
 /// Puts a text, behind what names it.
-fn put_text(alloc: Global, json: &mut String, name: &str, text: &str) -> Result<(), AllocError> {
+pub(crate) fn put_text(
+    alloc: Global,
+    json: &mut String,
+    name: &str,
+    text: &str,
+) -> Result<(), AllocError> {
     json.push_str(name)?;
     match serde_json::to_string(alloc, &text) {
         Ok(text) => json.push_str(&text),
@@ -93,6 +99,7 @@ fn put_sources(
 fn put_source(alloc: Global, json: &mut String, source: &SourceState) -> Result<(), AllocError> {
     let (call, pause) = match source.call {
         Call::Up => (",\"call\":\"up\"", None),
+        Call::Connected => (",\"call\":\"connected\"", None),
         Call::Calling => (",\"call\":\"calling\"", None),
         Call::Pause(seconds) => (",\"call\":\"pause\"", Some(u64::from(seconds))),
         Call::Rests => (",\"call\":\"rests\"", None),
@@ -109,6 +116,8 @@ fn put_source(alloc: Global, json: &mut String, source: &SourceState) -> Result<
     put_numbers(alloc, json, &numbers)?;
     put_ignored(alloc, json, source.ignored.as_slice())?;
     put_numbers(alloc, json, &[(",\"last\":", source.last)])?;
+    put_quality(alloc, json, source.quality.as_ref())?;
+    put_pmus(alloc, json, source.pmus.as_slice())?;
     json.push_str("}")
 }
 

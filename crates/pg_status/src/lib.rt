@@ -13,8 +13,12 @@ mod lines;
 mod metrics;
 mod page;
 mod places;
+mod pmu_text;
+mod quality_json;
+mod quality_metrics;
 mod request;
 mod snapshot;
+mod station;
 mod status;
 mod write_buffer;
 
@@ -31,6 +35,7 @@ pub use page::page_text;
 pub use places::place_for;
 pub use request::{HEAD_BYTES, HttpError, Request, Shown, read_request};
 pub use snapshot::{
-    Call, Ignored, Presence, Queue, Snapshot, SourceState, StreamState, SubscriberState,
+    Call, Ignored, PmuState, Presence, Queue, Snapshot, SourceState, StreamState, SubscriberState,
 };
+pub use station::shown_name;
 pub use status::print_status;

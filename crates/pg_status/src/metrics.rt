@@ -1,7 +1,9 @@
 //! Metrics in Prometheus' text format, version 0.0.4.
 
 use crate::histogram::{BOUNDS, Histogram};
+use crate::quality_metrics::print_quality;
 use crate::snapshot::{Call, Presence, Snapshot, SourceState, StreamState, SubscriberState};
+use crate::station::print_escaped;
 use std::io;
 use std::io::Write;
 
@@ -43,7 +45,7 @@ impl SourceFigure {
 
     fn of(self, source: &SourceState) -> u64 {
         match self {
-            SourceFigure::Up => u64::from(source.call == Call::Up),
+            SourceFigure::Up => u64::from(matches!(source.call, Call::Up | Call::Connected)),
             SourceFigure::Pause => match source.call {
                 Call::Pause(seconds) => u64::from(seconds),
                 _ => 0,
@@ -190,6 +192,7 @@ pub fn print_metrics<W: Write>(
 ) -> io::Result<()> {
     print_name(out, snapshot.name.as_str())?;
     print_sources(out, snapshot.sources.as_slice())?;
+    print_quality(out, snapshot.sources.as_slice())?;
     print_subscribers(out, snapshot.subscribers.as_slice())?;
     print_streams(out, snapshot.streams.as_slice())?;
     print_ages(out, ages)
@@ -199,17 +202,17 @@ pub fn print_metrics<W: Write>(
 fn print_name<W: Write>(out: &mut W, name: &str) -> io::Result<()> {
     print_head(out, "pdcgw_info", "gauge", "The gateway's name.")?;
     out.write_all(b"pdcgw_info{name=\"")?;
-    for byte in name.as_bytes() {
-        if matches!(*byte, b'"' | b'\\') {
-            out.write_all(b"\\")?;
-        }
-        out.write_all(&[*byte])?;
-    }
+    print_escaped(out, name.as_bytes())?;
     out.write_all(b"\"} 1\n")
 }
 
 /// Writes what stands above the samples of a metric.
-fn print_head<W: Write>(out: &mut W, name: &str, kind: &str, help: &str) -> io::Result<()> {
+pub(crate) fn print_head<W: Write>(
+    out: &mut W,
+    name: &str,
+    kind: &str,
+    help: &str,
+) -> io::Result<()> {
     writeln!(out, "# HELP {name} {help}")?;
     writeln!(out, "# TYPE {name} {kind}")
 }

@@ -130,6 +130,7 @@ svg { display: block; width: 100%; overflow: visible; }
 </div>
 </section>
 <section><h2>Sources</h2><table id="sources"></table></section>
+<section><h2>PMUs<small>worst first</small></h2><table id="pmus"></table></section>
 <section><h2>Subscribers<small>marked: frames were dropped in the last five minutes</small></h2><table id="subscribers"></table></section>
 <section><h2>Streams<small>marked: frames of the subscriber were dropped in the last five minutes</small></h2><table id="streams"></table></section>
 </main>
@@ -249,6 +250,7 @@ const dash = value => value === null ? '–' : String(value);
 function callOf(source) {
   switch (source.call) {
     case 'up': return ['up', 'word good'];
+    case 'connected': return ['connected, no data', 'word warn'];
     case 'calling': return ['calling', 'word warn'];
     case 'pause': return ['pause, ' + span(source.pause), 'word bad'];
     default: return ['not connected', 'word off'];
@@ -266,6 +268,42 @@ function showSources(sources) {
       [ignored.map(one => one.reason + ' ' + whole.format(one.count)).join(', ') || '–', ignored.length ? 'wide warn' : 'wide'],
     ]];
   }), 'No source is registered.');
+}
+
+// The state of a PMU: how bad it is, a word, and its class.
+function stateOf(quality, blocks) {
+  if (!quality || !blocks) return [5, 'not announced', 'word warn'];
+  if (!quality.delay) return [6, 'silent', 'word bad'];
+  const error = blocks.stat >> 14;
+  if (error === 1 || error === 3) return [4, 'PMU error', 'word bad'];
+  if (!blocks.sync) return [4, 'out of sync', 'word bad'];
+  if (error === 2) return [3, 'test or absent', 'word warn'];
+  if (quality.time !== 'locked') return [3, 'clock ' + quality.time, 'word warn'];
+  if (quality.minute !== null && quality.minute < 950) return [2, 'incomplete', 'word warn'];
+  if (quality.delay.greatest < -1000 || quality.delay.least > 1000) return [2, 'wrong time', 'word warn'];
+  if (blocks.stat & 0x0800) return [1, 'trigger', 'word warn'];
+  return [0, 'good', 'word good'];
+}
+
+const tenths = value => value === null ? '–' : (value / 10).toFixed(1) + ' %';
+
+function showPmus(sources) {
+  const heads = [['PMU', 'lead'], ['State'], ['Station', 'full'], ['Rate', 'num'], ['Last minute', 'num'], ['Last hour', 'num'],
+    ['Delay, median', 'num'], ['99 %', 'num'], ['Time'], ['STAT', 'num'], ['Frequency', 'num full']];
+  const all = sources.flatMap(source => source.pmus.map(pmu => [source, pmu, stateOf(source.quality, pmu.blocks)]));
+  all.sort((a, b) => b[2][0] - a[2][0] || a[0].source - b[0].source || a[1].pmu - b[1].pmu);
+  fill('pmus', heads, all.map(([source, pmu, [weight, word, kind]]) => {
+    const { quality, blocks } = source.quality && pmu.blocks ? { quality: source.quality, blocks: pmu.blocks } : {};
+    const delay = quality && quality.delay;
+    return [weight > 3, [
+      [source.source + '/' + pmu.pmu], [word, kind], [blocks ? blocks.station : '–'],
+      [quality ? (quality.rate < 0 ? '1/' + -quality.rate + ' s' : quality.rate + '/s') : '–'],
+      [quality ? tenths(quality.minute) : '–'], [quality ? tenths(quality.hour) : '–'],
+      [delay ? delay.median + ' ms' : '–'], [delay ? delay.most + ' ms' : '–'],
+      [quality ? quality.time : '–'], [blocks ? blocks.stat.toString(16).padStart(4, '0') : '–'],
+      [blocks && blocks.freq !== null ? (blocks.freq / 1000).toFixed(3) + ' Hz' : '–'],
+    ]];
+  }), 'No PMU is registered.');
 }
 
 function showSubscribers(subscribers) {
@@ -316,6 +354,7 @@ function show(state) {
   write(byId('frames-top'), whole.format(most), '');
   write(byId('drops-top'), whole.format(worst), '');
   showSources(sources);
+  showPmus(sources);
   showSubscribers(subscribers);
   showStreams(streams, subscribers);
 }

@@ -1,12 +1,15 @@
 //! What the service shows of itself.
 
+use pg_quality::{FrameSummary, PmuSummary};
 use pg_wire::{PmuId, Refusal, StreamId, SubId};
 
 /// How the connection to a source stands.
 #[derive(Clone, Copy, Debug, PartialEq, Eq)]
 pub enum Call {
-    /// It is connected.
+    /// It is connected, and sent a data frame that counts.
     Up,
+    /// It is connected, and sent no data frame that counts.
+    Connected,
     /// A connection is being made.
     Calling,
     /// It is called again in so many seconds.
@@ -24,8 +27,17 @@ pub struct Ignored {
     pub count: u64,
 }
 
+/// A registered PMU.
+#[derive(Clone, Copy)]
+pub struct PmuState {
+    /// Its number at its source.
+    pub pmu: PmuId,
+    /// How good its blocks are, if its source's last configuration has it.
+    pub blocks: Option<PmuSummary>,
+}
+
 /// A source.
-#[derive(Debug, Drop)]
+#[derive(Drop)]
 pub struct SourceState {
     /// The source.
     pub source: PmuId,
@@ -41,6 +53,10 @@ pub struct SourceState {
     pub ignored: Vec<Ignored>,
     /// Whole seconds since its last event, if there was one.
     pub last: Option<u64>,
+    /// How good its data frames are, if a worker reports it.
+    pub quality: Option<FrameSummary>,
+    /// Its registered PMUs, in the order of their numbers.
+    pub pmus: Vec<PmuState>,
 }
 
 /// Whether a subscriber is connected.
@@ -106,7 +122,7 @@ pub struct StreamState {
 }
 
 /// What the service shows of itself at one moment: each list in the order in which it is shown.
-#[derive(Debug, Drop)]
+#[derive(Drop)]
 pub struct Snapshot {
     /// The gateway's name.
     pub name: String,

@@ -1,16 +1,18 @@
 //! The lines of `status`.
 
+use crate::pmu_text::print_pmu;
 use crate::snapshot::{
     Call, Ignored, Presence, Snapshot, SourceState, StreamState, SubscriberState,
 };
 use std::io;
 use std::io::Write;
 
-/// Writes a line for each source, subscriber and stream. `-` stands for what is not there: an address, a port, an event
-/// to count from, a reason, the seconds of a pause that does not end by itself.
+/// Writes a line for each source, with one for each of its registered PMUs behind it, and for each subscriber and stream. `-` stands for what is not
+/// there: an address, a port, an event to count from, a reason, the seconds of a pause that does not end by itself.
 ///
 /// ```text
 /// source 7 10.0.0.1:4712 up frames 120 events 118 ignored BadCheck=2 last 0
+/// pmu 7/1 "STATION A" 30/s got 99.8% delay 12 35 80 ms sync locked stat 0000 60.003 Hz
 /// subscriber 1 4800 connected 10.0.0.9:50312 made 90 dropped 0 lost 0 late 1 twice 0 handed 9360 queue 2 208
 /// stream 1 101 on members 2/3
 /// ```
@@ -21,6 +23,9 @@ use std::io::Write;
 pub fn print_status<W: Write>(out: &mut W, snapshot: &Snapshot) -> io::Result<()> {
     for source in &snapshot.sources {
         print_source(out, source)?;
+        for pmu in &source.pmus {
+            print_pmu(out, source, pmu)?;
+        }
     }
     for subscriber in &snapshot.subscribers {
         print_subscriber(out, subscriber)?;
@@ -40,6 +45,7 @@ fn print_source<W: Write>(out: &mut W, source: &SourceState) -> io::Result<()> {
     }
     match source.call {
         Call::Up => write!(out, " up")?,
+        Call::Connected => write!(out, " connected")?,
         Call::Calling => write!(out, " calling")?,
         Call::Pause(seconds) => write!(out, " pause {seconds}")?,
         Call::Rests => write!(out, " pause -")?,

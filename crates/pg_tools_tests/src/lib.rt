@@ -4,26 +4,4 @@
 #![tactic(auto)]
 
 #[cfg(test)]
-mod ages;
-#[cfg(test)]
-mod asserts;
-#[cfg(test)]
-mod conversations;
-#[cfg(test)]
-mod dialogues;
-#[cfg(test)]
-mod ends;
-#[cfg(test)]
-mod expected_frames;
-#[cfg(test)]
-mod expected_streams;
-#[cfg(test)]
-mod passing;
-#[cfg(test)]
-mod phases;
-#[cfg(test)]
-mod signals;
-#[cfg(test)]
-mod state;
-#[cfg(test)]
-mod wires;
+mod tests;

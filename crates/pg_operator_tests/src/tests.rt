@@ -1,0 +1,7 @@
+//! The tests, by what they test.
+
+mod asserts;
+mod lines;
+mod reloads;
+mod setups;
+mod told;

@@ -1,0 +1,54 @@
+//! The measures of one PMU's data blocks.
+ghost use Rattle.std.specs.Prelude.{◌≡◌};
+ghost use Rattle.pg_quality.specs.Measures.{blocks_at, no_blocks, with_block};
+
+use crate::frequency::Frequency;
+use crate::stat::StatCounts;
+
+/// The head of a PMU's data block (C37.118.2, 6.3).
+#[derive(Clone, Copy)]
+pub struct Block {
+    /// STAT.
+    pub stat: u16,
+    /// FREQ: millihertz from the nominal frequency.
+    pub freq: i16,
+    /// DFREQ: hundredths of a hertz per second.
+    pub dfreq: i16,
+}
+
+/// The measures of one PMU's data blocks.
+#[derive(Clone, Copy)]
+pub struct BlockQuality {
+    /// STAT of its blocks.
+    pub stat: StatCounts,
+    /// Its frequency.
+    pub frequency: Frequency,
+}
+
+impl BlockQuality {
+    /// Of a PMU of which no block came.
+    pub fn new() -> BlockQuality
+        ensures { result ≡ no_blocks }
+    {
+        BlockQuality {
+            stat: StatCounts::new(),
+            frequency: Frequency::new(),
+        }
+    }
+
+    /// This machine's clock has come to a second since 1970-01-01 00:00 UTC: what was noted in the second before is filed.
+    pub fn come_to(&mut self, second: u64)
+        ensures { self.new ≡ blocks_at self.old second }
+    {
+        self.frequency.come_to(second);
+    }
+
+    /// A data block came, in the second to which the clock has come.
+    #[inline(always)]
+    pub fn note(&mut self, block: Block)
+        ensures { self.new ≡ with_block self.old block }
+    {
+        self.stat.note(block.stat);
+        self.frequency.note(block.freq, block.dfreq);
+    }
+}

@@ -1,0 +1,114 @@
+//! A PMU that a source announced, and the measures of its blocks.
+ghost use Rattle.std.specs.Prelude.{◌≡◌, ◌^◌, ◌<◌};
+ghost use Rattle.pg_quality.specs.Announcing.{block_in, pmu_at, pmu_noted, pmu_of, summary_of};
+
+use crate::block_quality::{Block, BlockQuality};
+use crate::stat::StatCounts;
+use pg_config::PmuConfig;
+
+/// How many bytes FREQ and DFREQ take (C37.118.2, 6.3).
+const FREQUENCIES: usize = 4;
+
+/// A PMU that a source announced, and the measures of its blocks.
+#[derive(Clone, Copy)]
+pub struct PmuQuality {
+    /// Its IDCODE at its source.
+    pub id: u16,
+    /// STN, as it was announced.
+    pub station: [u8; 16],
+    /// FNOM.
+    pub fnom: u16,
+    /// Where its block begins among the blocks of a data frame.
+    pub start: usize,
+    /// Where FREQ stands among them.
+    pub freq_at: usize,
+    /// The measures of its blocks.
+    pub blocks: BlockQuality,
+}
+
+/// How good the blocks of a PMU are, for those that ask.
+#[derive(Clone, Copy)]
+pub struct PmuSummary {
+    /// Its IDCODE at its source.
+    pub id: u16,
+    /// STN, as it was announced.
+    pub station: [u8; 16],
+    /// FNOM.
+    pub fnom: u16,
+    /// STAT of its blocks.
+    pub stat: StatCounts,
+    /// FREQ of its last block: millihertz from the nominal frequency.
+    pub freq: i16,
+    /// DFREQ of its last block: hundredths of a hertz per second.
+    pub dfreq: i16,
+}
+
+impl PmuQuality {
+    /// The PMU with this configuration, whose block begins at this place among the blocks of a data frame.
+    #[tactic(auto, unfolding(crate::specs::Announcing::pmu_of))]
+    pub(crate) fn new(part: &PmuConfig, start: usize, blocks: BlockQuality) -> PmuQuality
+        requires { start < 2 ^ 16 }
+        ensures { result ≡ pmu_of part.now start blocks }
+    {
+        let len = part.config_len();
+        let mut station = [0; 16];
+        station.copy_from_slice(&part.block[..16]);
+        PmuQuality {
+            id: part.id(),
+            station,
+            fnom: u16::from_be_bytes([part.block[len - 4], part.block[len - 3]]),
+            start,
+            freq_at: start + 2 + 4 * usize::from(part.phasors),
+            blocks,
+        }
+    }
+
+    /// This machine's clock has come to a second since 1970-01-01 00:00 UTC.
+    #[tactic(auto, unfolding(crate::specs::Announcing::pmu_at))]
+    pub(crate) fn come_to(&mut self, second: u64)
+        ensures { self.new ≡ pmu_at second self.old }
+    {
+        self.blocks.come_to(second);
+    }
+
+    /// A data frame with these blocks came. One that is too short for a block of the PMU has none.
+    #[tactic(auto, unfolding(crate::specs::Announcing::pmu_noted))]
+    #[inline(always)]
+    pub(crate) fn note(&mut self, body: &[u8])
+        ensures { self.new ≡ pmu_noted body.now self.old }
+    {
+        if let Some(block) = block_in(body, self.start, self.freq_at) {
+            self.blocks.note(block);
+        }
+    }
+
+    /// How good its blocks are.
+    pub fn summary(&self) -> PmuSummary
+        ensures { result ≡ summary_of self.now }
+    {
+        PmuSummary {
+            id: self.id,
+            station: self.station,
+            fnom: self.fnom,
+            stat: self.blocks.stat,
+            freq: self.blocks.frequency.freq,
+            dfreq: self.blocks.frequency.dfreq,
+        }
+    }
+}
+
+/// The head of a block that begins at this place among these blocks, and has FREQ at another.
+#[inline(always)]
+fn block_in(body: &[u8], start: usize, freq_at: usize) -> Option<Block>
+    ensures { result ≡ block_in body.now start freq_at }
+{
+    let is_whole = start < freq_at && freq_at < body.len() && body.len() - freq_at >= FREQUENCIES;
+    if !is_whole {
+        return None;
+    }
+    Some(Block {
+        stat: u16::from_be_bytes([body[start], body[start + 1]]),
+        freq: i16::from_be_bytes([body[freq_at], body[freq_at + 1]]),
+        dfreq: i16::from_be_bytes([body[freq_at + 2], body[freq_at + 3]]),
+    })
+}

@@ -1,0 +1,267 @@
+//! Spans: runs of instants with no jump between them.
+ghost use Rattle.std.specs.Prelude.{◌≡◌, false, IsTrue};
+ghost use Rattle.std.specs.Ordering.{int_eq};
+ghost use Rattle.pg_quality.specs.Counting.{more};
+ghost use Rattle.pg_quality.specs.Placing.{begun_at, counted, jump_of, moved, no_span, no_spans, place_after, place_before, place_of, span_with, taken};
+
+/// An instant that is further than so many seconds from the last one, either way, jumps: it begins a new span. Where DATA_RATE is in seconds a frame,
+/// it does so if it is further than so many frames.
+pub const JUMP_SECONDS: u64 = 60;
+
+/// Of how many instants it is known whether they came.
+const KNOWN: u64 = 64;
+
+/// How the instant of a frame stands to those that came before it.
+#[derive(Clone, Copy, Debug, PartialEq, Eq)]
+pub enum Place {
+    /// It begins a span: the first of a connection, one of another DATA_RATE, or one whose stamp jumps.
+    First,
+    /// It is so many instants after the last one: 1 where none is missing.
+    After(u64),
+    /// It is before the last one, and had not come.
+    Before,
+    /// It had come.
+    Repeated,
+    /// It is before the last one by 64 instants or more, so that it is not known whether it had come, or before the first one of the span.
+    Forgotten,
+    /// DATA_RATE is 0: there are no instants.
+    Unnumbered,
+}
+
+/// A span: its DATA_RATE, its last instant, and which of the last 64 came.
+#[derive(Clone, Copy)]
+pub struct Span {
+    /// DATA_RATE: frames a second where positive, seconds a frame where negative.
+    pub rate: i16,
+    /// How many instants further is no jump.
+    pub jump: u64,
+    /// The number of its first instant.
+    pub first: u64,
+    /// The number of its last instant.
+    pub last: u64,
+    /// Bit k is set where the instant k before the last one came; 0 before the first frame.
+    pub came: u64,
+}
+
+impl Span {
+    /// Before the first frame of a connection.
+    pub fn none() -> Span
+        ensures { result ≡ no_span }
+    {
+        Span {
+            rate: 0,
+            jump: 0,
+            first: 0,
+            last: 0,
+            came: 0,
+        }
+    }
+
+    /// A frame came, and begins a span.
+    fn begin(rate: i16, instant: u64) -> Span
+        ensures { result ≡ begun_at rate instant }
+    {
+        Span {
+            rate,
+            jump: jump_of(rate),
+            first: instant,
+            last: instant,
+            came: 1,
+        }
+    }
+
+    /// How an instant of this DATA_RATE stands to those of the span.
+    #[inline(always)]
+    pub fn place(&self, rate: i16, instant: u64) -> Place
+        ensures { result ≡ place_of self.now rate instant }
+    {
+        if !is_same(rate, self.rate) {
+            Place::First
+        } else if instant > self.last {
+            self.place_after(instant - self.last)
+        } else if self.came == 0 {
+            Place::First
+        } else if is_same(rate, 0) {
+            Place::Unnumbered
+        } else {
+            self.place_before(self.last - instant)
+        }
+    }
+
+    /// Whether an instant is the one behind the last.
+    #[inline(always)]
+    fn has_next(&self, rate: i16, instant: u64) -> bool
+        ensures { IsTrue result → place_of self.now rate instant ≡ Place.After 1 }
+    {
+        is_same(rate, self.rate)
+            && instant > self.last
+            && instant - self.last == 1
+            && self.jump != 0
+    }
+
+    /// How an instant stands that is so many after the last one.
+    #[inline(always)]
+    fn place_after(&self, steps: u64) -> Place
+        ensures { result ≡ place_after self.now steps }
+    {
+        if steps > self.jump {
+            Place::First
+        } else {
+            Place::After(steps)
+        }
+    }
+
+    /// How an instant stands that is so many before the last one.
+    fn place_before(&self, steps: u64) -> Place
+        ensures { result ≡ place_before self.now steps }
+    {
+        if steps > self.jump {
+            Place::First
+        } else if steps >= KNOWN || steps > self.last.saturating_sub(self.first) {
+            Place::Forgotten
+        } else if (self.came >> steps) % 2 == 1 {
+            Place::Repeated
+        } else {
+            Place::Before
+        }
+    }
+
+    /// The span once an instant has come, which stands so to those before it.
+    #[inline(always)]
+    fn with(self, rate: i16, instant: u64, place: Place) -> Span
+        ensures { result ≡ span_with self rate instant place }
+    {
+        match place {
+            Place::First => Span::begin(rate, instant),
+            Place::After(steps) => Span {
+                last: instant,
+                came: moved(self.came, steps) | 1,
+                ..self
+            },
+            Place::Before => Span {
+                came: self.came | moved(1, self.last.saturating_sub(instant)),
+                ..self
+            },
+            Place::Repeated => self,
+            Place::Forgotten => self,
+            Place::Unnumbered => self,
+        }
+    }
+}
+
+/// Whether two signed numbers are the same.
+#[inline(always)]
+pub(crate) fn is_same(one: i16, other: i16) -> bool
+    ensures { result ≡ int_eq one other }
+{
+    one == other
+}
+
+/// How many instants further is no jump yet.
+fn jump_of(rate: i16) -> u64
+    ensures { result ≡ jump_of rate }
+{
+    JUMP_SECONDS * u64::from(rate.max(1).unsigned_abs())
+}
+
+/// Bits moved up by so many places.
+#[inline(always)]
+fn moved(bits: u64, places: u64) -> u64
+    ensures { result ≡ moved bits places }
+{
+    if places < KNOWN { bits << places } else { 0 }
+}
+
+/// The span of a source, and what was counted of all its spans. Each number stays at 2^64 - 1 once it is there.
+#[derive(Clone, Copy)]
+pub struct Spans {
+    /// The span of the last frame.
+    pub span: Span,
+    /// How many spans began.
+    pub begun: u64,
+    /// Frames of an instant that had come.
+    pub repeated: u64,
+    /// Frames of an instant before the last one that had not come, or of which that is not known.
+    pub out_of_order: u64,
+}
+
+impl Spans {
+    /// Before the first frame.
+    pub fn new() -> Spans
+        ensures { result ≡ no_spans }
+    {
+        Spans {
+            span: Span::none(),
+            begun: 0,
+            repeated: 0,
+            out_of_order: 0,
+        }
+    }
+
+    /// A connection begins: the next frame begins a span.
+    pub fn connect(&mut self)
+        ensures { self.new ≡ record self.old { span = no_span } }
+    {
+        self.span = Span::none();
+    }
+
+    /// Takes an instant where it is the one behind the last, as it mostly is. The answer is whether it is.
+    #[inline(always)]
+    pub fn take_next(&mut self, rate: i16, instant: u64) -> bool
+        ensures next { IsTrue result → (place_of self.old.span rate instant ≡ Place.After 1) × (self.new ≡ taken self.old rate instant) }
+        ensures same { result ≡ false → self.new ≡ self.old }
+    {
+        if !self.span.has_next(rate, instant) {
+            return false;
+        }
+        self.span.last = instant;
+        self.span.came = moved(self.span.came, 1) | 1;
+        true
+    }
+
+    /// A frame of this instant came. The answer is how it stands to those before it.
+    #[inline(always)]
+    pub fn take(&mut self, rate: i16, instant: u64) -> Place
+        ensures place { result ≡ place_of self.old.span rate instant }
+        ensures spans { self.new ≡ taken self.old rate instant }
+    {
+        let place = self.span.place(rate, instant);
+        let span = self.span.with(rate, instant, place);
+        *self = Spans {
+            span,
+            ..self.counted(place)
+        };
+        place
+    }
+
+    /// The counts with a frame that stands so to those before it.
+    #[inline(always)]
+    fn counted(&self, place: Place) -> Spans
+        ensures { result ≡ counted self.now place }
+    {
+        match place {
+            Place::First => Spans {
+                begun: self.begun.saturating_add(1),
+                ..*self
+            },
+            Place::Repeated => Spans {
+                repeated: self.repeated.saturating_add(1),
+                ..*self
+            },
+            Place::Before => self.with_disorder(),
+            Place::Forgotten => self.with_disorder(),
+            Place::After(_) => *self,
+            Place::Unnumbered => *self,
+        }
+    }
+
+    /// The counts with a frame that came out of order.
+    fn with_disorder(&self) -> Spans
+        ensures { result ≡ record self.now { out_of_order = more self.now.out_of_order 1 } }
+    {
+        Spans {
+            out_of_order: self.out_of_order.saturating_add(1),
+            ..*self
+        }
+    }
+}

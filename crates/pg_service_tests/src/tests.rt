@@ -1,0 +1,13 @@
+//! The tests, by what they test.
+
+mod asserts;
+mod endpoints;
+mod errors;
+mod frames;
+mod lines;
+mod logging;
+mod registering;
+mod reloads;
+mod sources;
+mod stamping;
+mod waking;

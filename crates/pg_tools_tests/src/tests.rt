@@ -1,0 +1,14 @@
+//! The tests, by what they test.
+
+mod ages;
+mod asserts;
+mod conversations;
+mod dialogues;
+mod ends;
+mod expected_frames;
+mod expected_streams;
+mod passing;
+mod phases;
+mod signals;
+mod state;
+mod wires;
