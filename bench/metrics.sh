@@ -147,6 +147,8 @@ def expected_by(name):
         words = line.split()
         if words[0] == "source":
             of_source(want, words)
+        elif words[0] == "pmu":
+            of_pmu(want, line)
         elif words[0] == "subscriber":
             of_subscriber(want, words)
         elif words[0] == "stream":
@@ -172,6 +174,7 @@ def of_source(want, words):
     labels = f'{{source="{words[1]}"}}'
     state = words[3]
     want[f"pdcgw_source_up{labels}"] = float(state == "up")
+    want[f"pdcgw_source_connected{labels}"] = float(state in ("up", "connected"))
     pauses = state == "pause" and words[4] != "-"
     want[f"pdcgw_source_pause_seconds{labels}"] = float(words[4]) if pauses else 0.0
     rest = words[words.index("frames"):]
@@ -183,6 +186,19 @@ def of_source(want, words):
             want[f'pdcgw_source_ignored_total{{source="{words[1]}",reason="{reason}"}}'] = float(count)
     if rest[-1] != "-":
         want[f"pdcgw_source_since_event_seconds{labels}"] = float(rest[-1])
+
+
+def of_pmu(want, line):
+    """What the line of a PMU says: that it is announced, its sync and its frequency; and of its source the completeness."""
+    source, pmu = re.match(r"pmu (\d+)/(\d+) ", line).groups()
+    want[f'pdcgw_pmu_announced{{source="{source}",pmu="{pmu}"}}'] = float(not line.endswith(" not announced"))
+    found = re.search(r' (".*") \S+ got (\S+)% .* (sync|nosync) \S+ stat \S+ (\S+) Hz$', line)
+    if found:
+        station, got, sync, frequency = found.groups()
+        labels = f'{{source="{source}",pmu="{pmu}",station={station}}}'
+        want[f"pdcgw_pmu_in_sync{labels}"] = float(sync == "sync")
+        want[f"pdcgw_pmu_frequency_hertz{labels}"] = float(frequency)
+        want[f'pdcgw_source_completeness_ratio{{source="{source}"}}'] = float(got) / 100
 
 
 def of_subscriber(want, words):
@@ -217,7 +233,10 @@ def ages_of(name, samples):
 # These tell seconds, which pass between two looks.
 TIMES = re.compile("pdcgw_source_(pause|since_event)_seconds|pdcgw_subscriber_waiting_seconds|pdcgw_source_up")
 # These go up and down while frames flow.
-LEVELS = re.compile("pdcgw_subscriber_queue_")
+LEVELS = re.compile("pdcgw_subscriber_queue_|pdcgw_source_completeness_ratio|pdcgw_pmu_frequency_hertz")
+# These stand in /state, and not in status.
+BESIDE = re.compile("pdcgw_info|pdcgw_source_(data_frames|expected_|received_|repeated_|disordered_|spans_|unlocked_|time_quality|leap_|delay_)"
+                    "|pdcgw_pmu_(stat_blocks_total|rocof_)")
 
 
 def compare(phase):
@@ -227,6 +246,8 @@ def compare(phase):
     for key in sorted(set(before) | set(after) | set(samples)):
         looked += 1
         value = samples.get(key)
+        if BESIDE.match(key):
+            continue
         if value is None:
             # What was not ignored for a reason before has no sample yet.
             if key in before or phase == "still":

@@ -16,9 +16,9 @@ GOOD = {name: 0 for name in FLAGS}
 class Measured:
     """A gateway whose source 7 has PMUs 7 and 8, and source 9 PMU 9; both announced."""
 
-    def __init__(self, bench, station=b"PMU %-12d", **keys):
+    def __init__(self, bench, station=b"PMU %-12d", pmus=(7, 8)):
         self.page = bench.port()
-        self.seven, self.nine = bench.source(7, pmus=[7, 8], **keys), bench.source(9, host="127.0.0.2", **keys)
+        self.seven, self.nine = bench.source(7, pmus=pmus), bench.source(9, host="127.0.0.2")
         self.station = station
         text = f'status = "127.0.0.1:{self.page}"\n' + pmu(7, connect=self.seven.address) + pmu(8, source=7) + pmu(9, connect=self.nine.address) + subscriber(1)
         self.gateway = bench.gateway(text)
@@ -140,12 +140,45 @@ def test_states_of_sources_and_pmus(bench):
     expect(f" {seven.address} connected frames 1 events 1 " in status["source 7"], status["source 7"])
     same([status[it] for it in ("pmu 7/7", "pmu 7/8", "pmu 300/300")],
          ['pmu 7/7 "PMU 7" 30/s silent', "pmu 7/8 - - not announced", "pmu 300/300 - - not announced"])
+    until(lambda: metrics(page)['pdcgw_source_connected{source="7"}'] == "1", "source 7 connected")
+    same(metrics(page)['pdcgw_source_up{source="7"}'], "0")
     send(seven, [first_slot(5)])
+    until(lambda: metrics(page)['pdcgw_source_up{source="7"}'] == "1", "source 7 up in the metrics")
     until(lambda: " up frames 2 events 2 " in gateway.status()["source 7"], "source 7 up")
     expect(gateway.status()["pmu 7/7"].startswith('pmu 7/7 "PMU 7" 30/s got 100.0% delay '), "the line of PMU 7")
     same(metrics(page)['pdcgw_pmu_announced{source="7",pmu="8"}'], "0")
     seven.link.close()
     until(lambda: " up " not in gateway.status()["source 7"], "source 7 down")
+
+
+def test_changes_are_logged(bench):
+    """A PMU that is out of sync or reports a data error, and a source whose frames are missing, are logged as they change: once, and once more as they
+    are well again. PMU 8 of the same source is not named, as nothing changed of it; nor is PMU 6, which is not registered."""
+    measured = Measured(bench, pmus=[7, 8, 6])
+    gateway, slot = measured.gateway, first_slot(30)
+    for stats in ((0x2000, 0, 0x2000), (0xC000, 0, 0)):
+        for _ in range(2):
+            send(measured.seven, range(slot, slot + 5), stats)
+            slot += 5
+            time.sleep(1.1)
+    send(measured.seven, range(slot, slot + 1), (0, 0, 0))
+    time.sleep(1.1)
+    # Of 600 frames 60 are missing, and then of 7,200 again 60.
+    slot += 1
+    send(measured.seven, [it for it in range(slot, slot + 600) if it % 10], (0, 0, 0))
+    time.sleep(1.1)
+    send(measured.seven, [slot + 600], (0, 0, 0))
+    time.sleep(1.1)
+    send(measured.seven, range(slot + 601, slot + 7800), (0, 0, 0))
+    time.sleep(1.1)
+    send(measured.seven, range(slot + 7800, slot + 7801), (0, 0, 0))
+    for text in (r"WARN source 7: out of sync with UTC \(STAT bit 13\): PMU 7", "INFO source 7: in sync with UTC again: PMU 7",
+                 r"WARN source 7: data error \(STAT bits 15, 14\): PMU 7", "INFO source 7: no data error any more: PMU 7",
+                 r"WARN source 7: data frames are missing: 9[01]\.\d% came in the last minute",
+                 r"INFO source 7: data frames come again: 99\.\d% came in the last minute"):
+        gateway.logs(text)
+    same(gateway.logged("source 7: .*: PMU [68]"), 0)
+    same(gateway.logged("source 9: (.*: PMU|data frames) .*"), 0)
 
 
 def test_names_of_stations(bench):

@@ -311,6 +311,8 @@ class Taken(Reloads):
         self.begin()
         self.port, self.holder = bench.port(), socket.socket()
         bench.made.append(self.holder)
+        # (connections of an earlier test that had this port do not hold it back)
+        self.holder.setsockopt(socket.SOL_SOCKET, socket.SO_REUSEADDR, 1)
         self.holder.bind(("", self.port))
         self.holder.listen()
         self.tables["third"] = subscriber(3, self.port, ring=16, grants=[9]) + stream(300, [9])

@@ -32,7 +32,8 @@ DELAYS = ("-1.024", "-0.128", "-0.016", "0.000", "0.016", "0.032", "0.064", "0.1
 # Name, type and text of each metric, and its value by its labels.
 METRICS = [
     ("info", "gauge", "The gateway's name.", {r'name="North \"7\" \\ PDC"': 1}),
-    ("source_up", "gauge", "1 if the source is connected, else 0.", {7: 1, 8: 1, 9: 0, 300: 0, 65534: 0}),
+    ("source_up", "gauge", "1 if the source is connected and sent data that count, else 0.", {7: 1, 8: 1, 9: 0, 300: 0, 65534: 0}),
+    ("source_connected", "gauge", "1 if the source is connected, else 0.", {7: 1, 8: 1, 9: 0, 300: 0, 65534: 0}),
     ("source_pause_seconds", "gauge", "Seconds until the next attempt to connect to the source, 0 if none is due.", {7: 0, 8: 0, 9: "N", 300: 0, 65534: 0}),
     ("source_frames_total", "counter", "Frames received from the source.", {7: 10, 8: 2, 9: 0, 300: 0, 65534: 0}),
     ("source_events_total", "counter", "Configurations and data frames taken from the source.", {7: 7, 8: 2, 9: 0, 300: 0, 65534: 0}),

@@ -126,13 +126,25 @@ pub enum LogEvent {
     NoDelayFault = 53,
     /// A port is open, and its socket can't be waited for.
     NotServed = 54,
+    /// A PMU is out of sync with UTC.
+    OutOfSync = 55,
+    /// A PMU is in sync again.
+    InSync = 56,
+    /// A PMU reports a data error.
+    DataError = 57,
+    /// A PMU reports no data error any more.
+    DataGood = 58,
+    /// Too many data frames of a source are missing in the last minute.
+    Incomplete = 59,
+    /// No longer are too many missing.
+    Complete = 60,
 }
 
 /// The PMUs of a configuration at most.
 pub const MOST_PMUS: usize = 16;
 
 /// How many kinds of notices there are.
-const KINDS: usize = 55;
+const KINDS: usize = 61;
 
 impl LogEvent {
     /// The kinds that are counted without an entry; the log has their counts.
@@ -184,6 +196,9 @@ impl LogEvent {
             | LogEvent::ClientRefused
             | LogEvent::IdlePageClosed
             | LogEvent::PageBusy
+            | LogEvent::OutOfSync
+            | LogEvent::DataError
+            | LogEvent::Incomplete
             | LogEvent::Warned => Level::Warn,
             LogEvent::Called
             | LogEvent::Made
@@ -201,6 +216,9 @@ impl LogEvent {
             | LogEvent::Opened
             | LogEvent::Edited
             | LogEvent::ConfigSent
+            | LogEvent::InSync
+            | LogEvent::DataGood
+            | LogEvent::Complete
             | LogEvent::Quit
             | LogEvent::Reloaded => Level::Info,
         }
@@ -243,6 +261,10 @@ pub enum Detail {
     Config(i16, [u16; MOST_PMUS]),
     /// Of this stream.
     Stream(u16),
+    /// Of this PMU of the source.
+    Pmu(u16),
+    /// So many tenths of a per cent came.
+    Came(u16),
     /// Of this stream, which is named first.
     OfStream(u16),
     /// What was asked for, and done.
@@ -311,12 +333,13 @@ impl Detail {
         }
     }
 
-    /// Whether both are addresses, or both are times.
+    /// Whether both are addresses, or both are times, or both how many frames came.
     fn is_of_kind(&self, other: &Detail) -> bool {
         matches!(
             (self, other),
             (Detail::At(_), Detail::At(_))
                 | (Detail::Off(_), Detail::Off(_))
+                | (Detail::Came(_), Detail::Came(_))
                 | (Detail::Between(..), Detail::Between(..))
         )
     }

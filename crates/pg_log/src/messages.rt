@@ -118,6 +118,12 @@ fn said(event: LogEvent) -> &'static str {
             "control socket: a client was refused (34 Busy): 8 are connected",
         LogEvent::IdlePageClosed => "page: an idle connection was closed to accept another",
         LogEvent::PageBusy => "page: a connection was answered 503: 16 are open",
+        LogEvent::OutOfSync => "out of sync with UTC (STAT bit 13): PMU",
+        LogEvent::InSync => "in sync with UTC again: PMU",
+        LogEvent::DataError => "data error (STAT bits 15, 14): PMU",
+        LogEvent::DataGood => "no data error any more: PMU",
+        LogEvent::Incomplete => "data frames are missing:",
+        LogEvent::Complete => "data frames come again:",
     }
 }
 
@@ -129,6 +135,7 @@ fn after(event: LogEvent) -> &'static str {
         LogEvent::SourceEnded => "; connecting again",
         LogEvent::NotAccepted => "; retrying in 1 s",
         LogEvent::NotBound => "; retrying every 30 s",
+        LogEvent::Incomplete | LogEvent::Complete => " came in the last minute",
         LogEvent::NoTable => "; a subscriber's host that lost power is noticed late",
         _ => "",
     }
@@ -166,7 +173,8 @@ fn write_detail<W: fmt::Write>(
             write_errno(*number, f)
         }
         Detail::Config(rate, pmus) => write_config(*rate, pmus, f),
-        Detail::Stream(stream) => write!(f, " {stream}"),
+        Detail::Stream(number) | Detail::Pmu(number) => write!(f, " {number}"),
+        Detail::Came(tenths) => write!(f, " {}.{}%", tenths / 10, tenths % 10),
         Detail::Off(millis) => write_off(*millis, f),
         Detail::Differs(change) => write!(f, " {change}"),
         Detail::Between(refused, standing) => {

@@ -6,6 +6,7 @@ pub mod Tallies
 pub mod Delaying
 pub mod Stats
 pub mod Frequencies
+pub mod Watching
 pub mod Measures
 pub mod Summing
 pub mod Announcing

@@ -5,6 +5,7 @@ use Rattle.pg_quality.specs.Tallies.{nothing, nothing_came, rolled as with_rows,
 use Rattle.pg_quality.specs.Delaying.{no_delays, noted as with_delay, rolled as with_histogram}
 use Rattle.pg_quality.specs.Stats.{no_quality, no_stat, with_quality, with_stat}
 use Rattle.pg_quality.specs.Frequencies.{at_second as with_band, no_frequency, noted as with_frequency}
+use Rattle.pg_quality.specs.Watching.{nothing_seen}
 use Rattle.pg_quality.specs.declared.arrival.Arrival.{Arrival}
 use Rattle.pg_quality.specs.declared.block_quality.Block.{Block}
 use Rattle.pg_quality.specs.declared.block_quality.BlockQuality.{BlockQuality}
@@ -46,7 +47,7 @@ with_frame q a = record (with_instant q a.rate a.instant) {
 -- ---- blocks
 
 abbrev pub no_blocks : BlockQuality
-no_blocks = record { stat = no_stat; frequency = no_frequency }
+no_blocks = record { stat = no_stat; frequency = no_frequency; watch = nothing_seen }
 
 -- the machine's clock has come to this second
 abbrev pub blocks_at : BlockQuality → ℕ → BlockQuality

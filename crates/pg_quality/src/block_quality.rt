@@ -1,9 +1,11 @@
 //! The measures of one PMU's data blocks.
 ghost use Rattle.std.specs.Prelude.{◌≡◌};
 ghost use Rattle.pg_quality.specs.Measures.{blocks_at, no_blocks, with_block};
+ghost use Rattle.pg_quality.specs.Watching.{changes_of, looked};
 
 use crate::frequency::Frequency;
 use crate::stat::StatCounts;
+use crate::watch::{PmuChanges, PmuWatch};
 
 /// The head of a PMU's data block (C37.118.2, 6.3).
 #[derive(Clone, Copy)]
@@ -23,6 +25,8 @@ pub struct BlockQuality {
     pub stat: StatCounts,
     /// Its frequency.
     pub frequency: Frequency,
+    /// What was seen of it at the last look.
+    pub watch: PmuWatch,
 }
 
 impl BlockQuality {
@@ -33,6 +37,7 @@ impl BlockQuality {
         BlockQuality {
             stat: StatCounts::new(),
             frequency: Frequency::new(),
+            watch: PmuWatch::new(),
         }
     }
 
@@ -41,6 +46,14 @@ impl BlockQuality {
         ensures { self.new ≡ blocks_at self.old second }
     {
         self.frequency.come_to(second);
+    }
+
+    /// Takes a look at its STAT, and returns what changed since the last one.
+    pub fn look(&mut self) -> PmuChanges
+        ensures watch { self.new ≡ record self.old { watch = looked self.old.watch self.old.stat } }
+        ensures changes { result ≡ changes_of self.old.watch self.old.stat }
+    {
+        self.watch.look(&self.stat)
     }
 
     /// A data block came, in the second to which the clock has come.

@@ -18,6 +18,7 @@ mod summary;
 #[cfg(test)]
 mod tests;
 mod time_quality;
+mod watch;
 
 pub use arrival::{Arrival, FrameTime};
 pub use block_quality::{Block, BlockQuality};
@@ -31,3 +32,4 @@ pub use span::{JUMP_SECONDS, Place, Span, Spans};
 pub use stat::StatCounts;
 pub use summary::{BOUND_COUNT, BOUNDS, DelaySummary, FrameSummary};
 pub use time_quality::TimeQuality;
+pub use watch::{PmuChanges, PmuWatch, is_short_after};

@@ -1,9 +1,11 @@
 //! A PMU that a source announced, and the measures of its blocks.
 ghost use Rattle.std.specs.Prelude.{◌≡◌, ◌^◌, ◌<◌};
+ghost use Rattle.pg_quality.specs.Watching.{changes_of, looked};
 ghost use Rattle.pg_quality.specs.Announcing.{block_in, pmu_at, pmu_noted, pmu_of, summary_of};
 
 use crate::block_quality::{Block, BlockQuality};
 use crate::stat::StatCounts;
+use crate::watch::PmuChanges;
 use pg_config::PmuConfig;
 
 /// How many bytes FREQ and DFREQ take (C37.118.2, 6.3).
@@ -80,6 +82,14 @@ impl PmuQuality {
         if let Some(block) = block_in(body, self.start, self.freq_at) {
             self.blocks.note(block);
         }
+    }
+
+    /// Takes a look at its STAT, and returns what changed since the last one.
+    pub fn look(&mut self) -> PmuChanges
+        ensures changes { result ≡ changes_of self.old.blocks.watch self.old.blocks.stat }
+        ensures watch { self.new ≡ record self.old { blocks = record self.old.blocks { watch = looked self.old.blocks.watch self.old.blocks.stat } } }
+    {
+        self.blocks.look()
     }
 
     /// How good its blocks are.

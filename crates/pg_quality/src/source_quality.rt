@@ -5,6 +5,8 @@ ghost use Rattle.pg_data.specs.Measurements.{resolution};
 ghost use Rattle.pg_quality.specs.Instants.{arrival_of};
 ghost use Rattle.pg_quality.specs.Measures.{at_connect, at_second, no_frames, with_frame};
 ghost use Rattle.pg_quality.specs.Summing.{frame_summary};
+ghost use Rattle.pg_quality.specs.Tallies.{last_minute};
+ghost use Rattle.pg_quality.specs.Watching.{change_of, is_short_after};
 ghost use Rattle.pg_quality.specs.Announcing.{blocks_known, pmu_at, pmu_noted, pmus_from, rate_of, time_of};
 
 use crate::arrival::{Arrival, FrameTime};
@@ -12,6 +14,7 @@ use crate::block_quality::BlockQuality;
 use crate::frame_quality::FrameQuality;
 use crate::pmu_quality::PmuQuality;
 use crate::summary::FrameSummary;
+use crate::watch::{change_of, is_short_after};
 use pg_config::{PmuConfig, SourceConfig};
 use pg_data::DataFrame;
 use std::alloc::{AllocError, Global};
@@ -26,6 +29,8 @@ pub struct SourceQuality {
     pub base: u32,
     /// DATA_RATE, as it was announced.
     pub rate: i16,
+    /// Whether too many of its frames were missing at the last look.
+    pub is_short: bool,
     /// The PMUs of its last configuration, in its order.
     pub pmus: Vec<PmuQuality>,
 }
@@ -40,6 +45,7 @@ impl SourceQuality {
             frames: FrameQuality::new(),
             base: 1,
             rate: 0,
+            is_short: false,
             pmus: Vec::new(alloc),
         }
     }
@@ -61,7 +67,7 @@ impl SourceQuality {
         ensures memory { IfErr result (λ _. self.new.pmus.items ≡ []) }
         ensures base { self.new.base ≡ resolution config.now }
         ensures rate { self.new.rate ≡ rate_of config.now }
-        ensures same { self.new.frames ≡ self.old.frames }
+        ensures same { (self.new.frames ≡ self.old.frames) × (self.new.is_short ≡ self.old.is_short) }
     {
         let found = pmus_of(alloc, &config.parts, &self.pmus);
         self.base = config.parts[0].base;
@@ -82,7 +88,7 @@ impl SourceQuality {
     pub fn come_to(&mut self, second: u64)
         ensures frames { self.new.frames ≡ at_second self.old.frames second }
         ensures pmus { self.new.pmus.items ≡ map (pmu_at second) self.old.pmus.items }
-        ensures same { (self.new.base ≡ self.old.base) × (self.new.rate ≡ self.old.rate) }
+        ensures same { (self.new.base ≡ self.old.base) × (self.new.rate ≡ self.old.rate) × (self.new.is_short ≡ self.old.is_short) }
     {
         self.frames.come_to(second);
         each_comes_to(&mut self.pmus, second);
@@ -94,7 +100,7 @@ impl SourceQuality {
     pub fn note(&mut self, frame: &DataFrame, clock: u64)
         ensures frames { self.new.frames ≡ with_frame self.old.frames (arrival_of (time_of frame.now self.old.base self.old.rate) clock) }
         ensures pmus { self.new.pmus.items ≡ map (pmu_noted frame.now.body) self.old.pmus.items }
-        ensures same { (self.new.base ≡ self.old.base) × (self.new.rate ≡ self.old.rate) }
+        ensures same { (self.new.base ≡ self.old.base) × (self.new.rate ≡ self.old.rate) × (self.new.is_short ≡ self.old.is_short) }
     {
         let time = FrameTime {
             soc: frame.soc,
@@ -105,6 +111,18 @@ impl SourceQuality {
         };
         self.frames.note(&Arrival::new(time, clock));
         note_each(&mut self.pmus, &frame.body);
+    }
+
+    /// Judges its last minute by this second of this machine's clock. Where that changed since the last look, the answer is whether too many of its frames
+    /// are missing.
+    pub fn judge(&mut self, second: u64) -> Option<bool>
+        ensures change { result ≡ change_of self.old.is_short (is_short_after self.old.is_short (last_minute self.old.frames.completeness second) self.old.rate) }
+        ensures short { self.new ≡ record self.old { is_short = is_short_after self.old.is_short (last_minute self.old.frames.completeness second) self.old.rate } }
+    {
+        let minute = self.frames.completeness.last_minute(second);
+        let was_short = self.is_short;
+        self.is_short = is_short_after(was_short, minute, self.rate);
+        change_of(was_short, self.is_short)
     }
 
     /// How good its data frames are in this second of this machine's clock.

@@ -88,7 +88,7 @@ impl StatCounts {
 
 /// Whether a bit is set.
 #[inline(always)]
-fn is_set(stat: u16, bit: u16) -> bool
+pub(crate) fn is_set(stat: u16, bit: u16) -> bool
     requires { bit < 16 }
     ensures { result ≡ is_set stat bit }
 {

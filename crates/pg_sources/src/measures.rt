@@ -4,7 +4,7 @@ ghost use Rattle.std.specs.Prelude.{◌≡◌, ◌+◌, vec_len, IfOk, IfErr};
 
 use pg_config::SourceConfig;
 use pg_data::DataFrame;
-use pg_quality::SourceQuality;
+use pg_quality::{PmuChanges, SourceQuality};
 use std::alloc::{AllocError, Global};
 use std::marker::Model;
 
@@ -16,7 +16,8 @@ pub struct Measures {
     // The place of the source that is served, and this machine's clock as it is served.
     place: usize,
     clock: u64,
-    // Whether there was no memory for an announcement.
+    // Whether another second began for it, and whether there was no memory for an announcement.
+    has_begun: bool,
     is_short: bool,
 }
 
@@ -39,6 +40,7 @@ impl Measures {
             sources: Vec::new(alloc),
             place: 0,
             clock: 0,
+            has_begun: false,
             is_short: false,
         }
     }
@@ -76,9 +78,41 @@ impl Measures {
     {
         self.place = place;
         self.clock = clock;
+        let second = clock / 1_000;
         if let Some(source) = self.sources.get_mut(place) {
-            source.come_to(clock / 1_000);
+            self.has_begun |= source.frames.completeness.second != second;
+            source.come_to(second);
         }
+    }
+
+    /// Whether another second began for a source since this was asked last.
+    pub fn take_second(&mut self) -> bool
+        ensures { self.new ≡ self.old }
+    {
+        let has_begun = self.has_begun;
+        self.has_begun = false;
+        has_begun
+    }
+
+    /// Where it changed whether too many data frames of the source that is served are missing in the last minute: whether they are, and how many tenths of
+    /// a per cent came.
+    pub fn judge(&mut self) -> Option<(bool, u16)>
+        ensures { self.new ≡ self.old }
+    {
+        let second = self.clock / 1_000;
+        let source = self.sources.get_mut(self.place)?;
+        let is_short = source.judge(second)?;
+        let came = source.frames.completeness.last_minute(second);
+        Some((is_short, came.completeness()?))
+    }
+
+    /// What changed of this PMU of the source that is served, in the order of its configuration: its IDCODE and the changes; `None` behind the last.
+    pub fn look(&mut self, pmu: usize) -> Option<(u16, PmuChanges)>
+        ensures { self.new ≡ self.old }
+    {
+        let source = self.sources.get_mut(self.place)?;
+        let pmu = source.pmus.get_mut(pmu)?;
+        Some((pmu.id, pmu.look()))
     }
 
     /// Whether there was no memory for an announcement since this was asked last.

@@ -8,14 +8,16 @@ use crate::pace::Pace;
 use crate::quality_gate::QualityGate;
 use crate::source::{SourceConnection, Turn};
 use crate::source_entry::SourceEntry;
+use pg_gateway::{Event, Gate, Reply};
 use pg_limits::{Action, Clocks, Phase, reference};
-use pg_log::{Detail, Entry, LogEvent, Subject};
+use pg_log::{Detail, Entry, LogEvent, MOST_PMUS, Subject};
+use pg_quality::PmuChanges;
 use pg_service::{
     Dial, Mailbox, MeteredGate, Poller, READS, ReadyQueue, SourceOrder, WorkerHandles, ended,
     sooner,
 };
 use pg_shared::{Named, SharedGate, Work};
-use pg_wire::{PmuId, Refusal};
+use pg_wire::{PmuId, PmuKey, Refusal};
 use std::alloc::Global;
 use std::marker::Model;
 use std::net::{Net, SocketAddr};
@@ -430,7 +432,65 @@ impl<'a, R: Wait + Net + Clock, N: Named> SourceWorker<'a, R, N> {
     /// Serves the source at this place, whose socket is ready or whose reads were used up, and wakes those that hand out the frames made.
     fn serve(&mut self, place: usize) {
         self.read_in(place);
+        if self.gate.measures.take_second() {
+            self.log_quality(place);
+        }
         self.pace.wake(&self.handles);
+    }
+
+    /// Logs what changed of the data of the source at this place, which was served, from the second before.
+    fn log_quality(&mut self, place: usize) {
+        let Some(source) = self.sources.get(place) else {
+            return;
+        };
+        let id = source.connection.source();
+        if let Some((is_short, came)) = self.gate.measures.judge() {
+            let event = if is_short {
+                LogEvent::Incomplete
+            } else {
+                LogEvent::Complete
+            };
+            let entry = Entry::new(event, Subject::Source(id), Detail::Came(came));
+            self.handles.journal.log(self.rt, entry);
+        }
+        for at in 0..MOST_PMUS {
+            let Some((pmu, changes)) = self.gate.measures.look(at) else {
+                break;
+            };
+            self.log_changes(id, pmu, changes);
+        }
+    }
+
+    /// Logs what changed of the blocks of a PMU, if it is registered.
+    fn log_changes(&mut self, source: PmuId, pmu: u16, changes: PmuChanges) {
+        let sync = match changes.is_out_of_sync {
+            Some(true) => Some(LogEvent::OutOfSync),
+            Some(false) => Some(LogEvent::InSync),
+            None => None,
+        };
+        let error = match changes.has_error {
+            Some(true) => Some(LogEvent::DataError),
+            Some(false) => Some(LogEvent::DataGood),
+            None => None,
+        };
+        for event in [sync, error] {
+            let Some(event) = event else {
+                continue;
+            };
+            if self.is_registered(source, pmu) {
+                let entry = Entry::new(event, Subject::Source(source), Detail::Pmu(pmu));
+                self.handles.journal.log(self.rt, entry);
+            }
+        }
+    }
+
+    /// Whether a PMU is registered at the gateway.
+    fn is_registered(&mut self, source: PmuId, pmu: u16) -> bool {
+        let Some(pmu) = PmuId::new(pmu) else {
+            return false;
+        };
+        let asked = Event::PmuStats(PmuKey { source, pmu });
+        matches!(self.gate.gate.post(asked), Reply::PmuStats(_))
     }
 
     /// Reads of the source at this place, and posts what came.

@@ -11,6 +11,7 @@ use std::io::Write;
 #[derive(Clone, Copy)]
 enum SourceFigure {
     Up,
+    Connected,
     Pause,
     Frames,
     Events,
@@ -20,6 +21,7 @@ impl SourceFigure {
     fn name(self) -> &'static str {
         match self {
             SourceFigure::Up => "pdcgw_source_up",
+            SourceFigure::Connected => "pdcgw_source_connected",
             SourceFigure::Pause => "pdcgw_source_pause_seconds",
             SourceFigure::Frames => "pdcgw_source_frames_total",
             SourceFigure::Events => "pdcgw_source_events_total",
@@ -28,14 +30,15 @@ impl SourceFigure {
 
     fn kind(self) -> &'static str {
         match self {
-            SourceFigure::Up | SourceFigure::Pause => "gauge",
+            SourceFigure::Up | SourceFigure::Connected | SourceFigure::Pause => "gauge",
             SourceFigure::Frames | SourceFigure::Events => "counter",
         }
     }
 
     fn help(self) -> &'static str {
         match self {
-            SourceFigure::Up => "1 if the source is connected, else 0.",
+            SourceFigure::Up => "1 if the source is connected and sent data that count, else 0.",
+            SourceFigure::Connected => "1 if the source is connected, else 0.",
             SourceFigure::Pause =>
                 "Seconds until the next attempt to connect to the source, 0 if none is due.",
             SourceFigure::Frames => "Frames received from the source.",
@@ -45,7 +48,8 @@ impl SourceFigure {
 
     fn of(self, source: &SourceState) -> u64 {
         match self {
-            SourceFigure::Up => u64::from(matches!(source.call, Call::Up | Call::Connected)),
+            SourceFigure::Up => u64::from(source.call == Call::Up),
+            SourceFigure::Connected => u64::from(matches!(source.call, Call::Up | Call::Connected)),
             SourceFigure::Pause => match source.call {
                 Call::Pause(seconds) => u64::from(seconds),
                 _ => 0,
@@ -221,6 +225,7 @@ pub(crate) fn print_head<W: Write>(
 fn print_sources<W: Write>(out: &mut W, sources: &[SourceState]) -> io::Result<()> {
     for figure in [
         SourceFigure::Up,
+        SourceFigure::Connected,
         SourceFigure::Pause,
         SourceFigure::Frames,
         SourceFigure::Events,

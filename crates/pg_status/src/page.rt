@@ -60,6 +60,9 @@ td.wide { white-space: normal; }
 .word.off::before { background: none; border: 2px solid currentColor; }
 tr.marked td { background: var(--bad-ground); }
 tr.marked td:first-child { box-shadow: inset 4px 0 var(--bad); padding-left: .8rem; }
+#attention { margin: 0; padding: 0; list-style: none; display: grid; grid-template-columns: repeat(auto-fill, minmax(min(30rem, 100%), 1fr)); gap: .1rem 2rem; }
+#attention li { padding: .35rem 0; border-top: 1px solid var(--rule); }
+#attention small { color: var(--muted); font-size: .875rem; margin-left: .5rem; }
 svg { display: block; width: 100%; overflow: visible; }
 .frames { fill: var(--data); fill-opacity: .5; }
 .drops { fill: var(--bad); }
@@ -112,6 +115,7 @@ svg { display: block; width: 100%; overflow: visible; }
 <header><h1 id="name">pdcgw</h1><p>pdcgw, phasor data concentrator gateway</p><output id="clock">connecting</output></header>
 <main id="main">
 <p class="lost" id="lost" role="alert" hidden></p>
+<section><h2>What needs attention<small id="attention-count"></small></h2><ul id="attention"></ul></section>
 <div class="tiles">
 <div><b id="sources-up">-</b><span>sources up</span></div>
 <div><b id="subscribers-in">-</b><span>subscribers connected</span></div>
@@ -138,6 +142,7 @@ svg { display: block; width: 100%; overflow: visible; }
 'use strict';
 const SECONDS = 300;
 const byId = id => document.getElementById(id);
+const tenths = value => value === null ? '–' : (value / 10).toFixed(1) + ' %';
 const whole = new Intl.NumberFormat('en-US');
 const sum = list => list.reduce((a, b) => a + b, 0);
 
@@ -270,22 +275,82 @@ function showSources(sources) {
   }), 'No source is registered.');
 }
 
-// The state of a PMU: how bad it is, a word, and its class.
-function stateOf(quality, blocks) {
-  if (!quality || !blocks) return [5, 'not announced', 'word warn'];
-  if (!quality.delay) return [6, 'silent', 'word bad'];
-  const error = blocks.stat >> 14;
-  if (error === 1 || error === 3) return [4, 'PMU error', 'word bad'];
-  if (!blocks.sync) return [4, 'out of sync', 'word bad'];
-  if (error === 2) return [3, 'test or absent', 'word warn'];
-  if (quality.time !== 'locked') return [3, 'clock ' + quality.time, 'word warn'];
-  if (quality.minute !== null && quality.minute < 950) return [2, 'incomplete', 'word warn'];
-  if (quality.delay.greatest < -1000 || quality.delay.least > 1000) return [2, 'wrong time', 'word warn'];
-  if (blocks.stat & 0x0800) return [1, 'trigger', 'word warn'];
-  return [0, 'good', 'word good'];
+// All that is wrong with a PMU, the worst first: how bad it is, a word, its class, and what to do.
+function wrongs(quality, blocks) {
+  if (!quality || !blocks) return [[5, 'not announced', 'word warn', 'its source\u2019s configuration does not have it; is its id right?']];
+  if (!quality.delay) return [[6, 'silent', 'word bad', 'announced, and no data for a minute']];
+  const [error, { median, most }, all] = [blocks.stat >> 14, quality.delay, []];
+  const tell = (is, weight, word, kind, hint) => { if (is) all.push([weight, word, kind, hint]); };
+  tell(error === 1 || error === 3, 6, 'PMU error', 'word bad', 'it says that its values are not to be used');
+  tell(!blocks.sync, 6, 'out of sync', 'word bad', 'it has no UTC time source; see its clock');
+  tell(median < -20, 5, 'ahead ' + -median + ' ms', 'word warn', 'its clock or this machine\u2019s is wrong');
+  tell(quality.time !== 'locked', 4, 'clock ' + quality.time, 'word warn', 'its clock is not locked');
+  tell(quality.minute !== null && quality.minute < 950, 4, 'got ' + tenths(quality.minute), 'word warn', 'frames are missing: its network, or its load');
+  tell(error === 2, 3, 'test or absent', 'word warn', 'test mode, or a PDC filled it in');
+  tell(median > 100, 3, 'late ' + median + ' ms', 'word warn', '99 % within ' + most + ' ms; a stream\u2019s wait has to be longer');
+  tell(blocks.stat & 0x0800, 2, 'trigger', 'word warn', 'it detected a disturbance');
+  return all;
 }
 
-const tenths = value => value === null ? '–' : (value / 10).toFixed(1) + ' %';
+const stateOf = (quality, blocks) => wrongs(quality, blocks)[0] || [0, 'good', 'word good', ''];
+
+// What was counted a minute ago, or when the page was opened.
+const counted = new Map();
+
+function growth(key, value) {
+  const past = counted.get(key) || [];
+  past.push(value);
+  if (past.length > 60) past.shift();
+  counted.set(key, past);
+  return value - past[0];
+}
+
+// All that is wrong: how bad it is, its class, what it is of, what is wrong, and what to do.
+function troubles({ sources, subscribers, streams }) {
+  const all = [];
+  const tell = (weight, kind, of, what, hint) => all.push([weight, kind, of, what, hint]);
+  for (const source of sources) {
+    const of = 'Source ' + source.source;
+    const grown = source.ignored.map(one => [one.reason, growth(of + one.reason, one.count)]).filter(([, count]) => count > 0);
+    if (grown.length) tell(4, 'word warn', of, grown.map(([reason, count]) => count + ' frames ignored, ' + reason).join('; '), 'in the last minute; see the log');
+    if (source.call === 'rests') continue;
+    if (source.call === 'calling' || source.call === 'pause') { tell(9, 'word bad', of, 'not connected', 'address, network, firewall, or it is off: see the log'); continue; }
+    if (source.call === 'connected') { tell(8, 'word bad', of, 'connected, and sends no data that count', 'its IDCODE, or its clock: see the log'); continue; }
+    for (const pmu of source.pmus) {
+      const found = wrongs(source.quality, pmu.blocks);
+      if (!found.length) continue;
+      const [weight, , kind, hint] = found[0];
+      tell(weight, kind, 'PMU ' + source.source + '/' + pmu.pmu + (pmu.blocks ? ' ' + pmu.blocks.station : ''), found.map(one => one[1]).join(', '), hint);
+    }
+  }
+  for (const one of subscribers) {
+    const [of, dropped] = ['Subscriber ' + one.subscriber, sum(one.seconds.dropped)];
+    if (dropped) tell(7, 'word bad', of, whole.format(dropped) + ' frames dropped in five minutes', 'it or its network is too slow, or its ring is too small');
+    const late = growth(of, one.late);
+    if (late) tell(3, 'word warn', of, late + ' blocks came too late in the last minute', 'a stream\u2019s wait has to be longer, or a clock is wrong');
+    if (one.waiting !== null && one.port !== null) tell(2, 'word warn', of, 'not connected for ' + span(one.waiting), 'its host, its network, or a WARN in the log');
+  }
+  for (const one of streams) {
+    const of = 'Stream ' + one.stream + ' of subscriber ' + one.subscriber;
+    if (one.effective < one.members) tell(4, 'word warn', of, one.effective + ' of ' + one.members + ' members', 'a member is not granted or not announced');
+  }
+  return all.sort((a, b) => b[0] - a[0]);
+}
+
+function showTroubles(all) {
+  const list = byId('attention');
+  while (list.children.length > Math.max(all.length, 1)) list.lastChild.remove();
+  const rows = all.length ? all : [[0, 'word good', 'Nothing', '', 'all sources, PMUs and subscribers are well']];
+  rows.forEach(([, kind, of, what, hint], i) => {
+    const item = list.children[i] || list.appendChild(document.createElement('li'));
+    if (item.children.length !== 3) item.replaceChildren(document.createElement('span'), document.createElement('b'), document.createElement('small'));
+    const [dot, words, after] = item.children;
+    write(dot, of, kind);
+    write(words, what ? ' ' + what : '', '');
+    write(after, hint, '');
+  });
+  write(byId('attention-count'), all.length ? String(all.length) : '', '');
+}
 
 function showPmus(sources) {
   const heads = [['PMU', 'lead'], ['State'], ['Station', 'full'], ['Rate', 'num'], ['Last minute', 'num'], ['Last hour', 'num'],
@@ -295,7 +360,7 @@ function showPmus(sources) {
   fill('pmus', heads, all.map(([source, pmu, [weight, word, kind]]) => {
     const { quality, blocks } = source.quality && pmu.blocks ? { quality: source.quality, blocks: pmu.blocks } : {};
     const delay = quality && quality.delay;
-    return [weight > 3, [
+    return [weight > 5, [
       [source.source + '/' + pmu.pmu], [word, kind], [blocks ? blocks.station : '–'],
       [quality ? (quality.rate < 0 ? '1/' + -quality.rate + ' s' : quality.rate + '/s') : '–'],
       [quality ? tenths(quality.minute) : '–'], [quality ? tenths(quality.hour) : '–'],
@@ -335,7 +400,9 @@ function showStreams(streams, subscribers) {
 
 function show(state) {
   const { name, sources, subscribers, streams } = state;
-  document.title = name + ' - pdcgw';
+  const all = troubles(state);
+  document.title = (all.length ? '(' + all.length + ') ' : '') + name + ' - pdcgw';
+  showTroubles(all);
   write(byId('name'), name, '');
   const share = (some, all) => some + ' / ' + all;
   const called = sources.filter(one => one.call !== 'rests');
