@@ -556,6 +556,29 @@ class Lines:
             self.lines.append(line.decode(errors="replace").rstrip("\n"))
 
 
+class Simulated:
+    """`pdcgw simulate` with these options, of source 7 unless they say otherwise."""
+
+    def __init__(self, bench, *words):
+        self.port = bench.port()
+        self.address = f"127.0.0.1:{self.port}"
+        self.process = subprocess.Popen([bench.program, "simulate", "--listen", self.address, *words], stdin=subprocess.DEVNULL, stdout=subprocess.PIPE)
+        bench.made.append(self)
+        self.out = Lines(self.process.stdout)
+        until(lambda: self.out.lines, "the first line of `simulate`")
+
+    def close(self):
+        self.process.kill()
+        self.process.wait()
+
+    def said(self, line):
+        """How often it printed this line, whichever client that names at its beginning."""
+        return [re.sub(r"^[\d.]+:\d+: ", "", it) for it in list(self.out.lines)].count(line)
+
+    def says(self, line, times=1):
+        until(lambda: self.said(line) >= times, f"{times} x {line!r} of {self.out.lines[-5:]}")
+
+
 class Gateway:
     """The program with a setup."""
 

@@ -1,11 +1,12 @@
 """How good data are: each fault of a source or of a PMU moves its own measure and no other, in `status`, the metrics and the state as JSON."""
 import json
+import math
 import re
 import struct
-import subprocess
 import time
 
-from peers import (DATA, RATE, Lines, block, configuration, expect, frame, http, metrics, pmu, same, stamp, subscriber, until)
+from peers import (CONFIG_2, DATA, RATE, SEND_CONFIG_2, Simulated, block, configuration, expect, frame, http, metrics, pmu, same, slot_of, stamp,
+                   stream, subscriber, takes, until)
 
 # The flags of STAT that are counted, each with a STAT that has it alone (IEEE C37.118.2-2011, table 7).
 FLAGS = {"pmu_error": 0x4000, "test_or_absent": 0x8000, "do_not_use": 0xC000, "out_of_sync": 0x2000, "by_arrival": 0x1000, "triggered": 0x0800,
@@ -197,12 +198,8 @@ def test_faults_of_simulated_sources(bench):
     faults = (["late=150"], ["clock=1000"], ["drop=50"], ["wrong-check=50"], ["no-config"], [])
     page, text = bench.port(), ""
     for number, fault in enumerate(faults, 11):
-        address = f"127.0.0.1:{bench.port()}"
         words = [word for it in fault for word in ("--fault", it)]
-        process = subprocess.Popen([bench.program, "simulate", "--listen", address, "--source", str(number), *words], stdin=subprocess.DEVNULL,
-                                   stdout=subprocess.PIPE)
-        bench.made.append(Ended(process))
-        text += pmu(number, connect=address)
+        text += pmu(number, connect=Simulated(bench, "--source", str(number), *words).address)
     gateway = bench.gateway(f'status = "127.0.0.1:{page}"\n' + text + subscriber(1))
     time.sleep(10)
     lines = {it: gateway.status()[f"pmu {it}/{it}"] for it in range(11, 17)}
@@ -217,13 +214,90 @@ def test_faults_of_simulated_sources(bench):
     expect(all(got[it] == 100 for it in (11, 12, 16)), f"all frames of the others: {got}")
 
 
-class Ended:
-    """A process that ends with its test."""
+# Simulated sources by their IDCODE: the options of each, and how its measures differ from those of one without a fault. That it loses its clock is found by
+# three measures, as the standard says it in three places.
+FAULTY = {
+    21: ("--fault stat=C000", {"flags": ["do_not_use"], "stat": 0xC000}),
+    22: ("--fault stat=0803", {"flags": ["triggered"], "stat": 0x0803}),
+    23: ("--fault quality=15", {"time": 5, "leap": 1}),
+    24: ("--fault unlock=0", {"flags": ["out_of_sync"], "time": 6, "stat": 0x2110}),
+    25: ("--fault backlog=2", {"is_held": True}),
+    26: ("--fault reconfigure=4", {"flags": ["config_change"], "is_announced_anew": True}),
+    27: ("--rate 60", {"rate": 60, "is_unfit": True}),
+    28: ("--fault unasked --fault no-config", {}),
+    29: ("--clients 2", {}),
+}
+NO_FAULT = {"flags": [], "stat": 0, "time": 0, "leap": 0, "minute": 1000, "is_held": False, "is_announced_anew": False, "rate": 30, "is_unfit": False}
 
-    def __init__(self, process):
-        self.process = process
-        self.out = Lines(process.stdout)
 
-    def close(self):
-        self.process.kill()
-        self.process.wait()
+def measures(gateway, page, source):
+    """The measures of the one PMU of a simulated source, by the metrics, the state as JSON and `stats` of the one subscriber that has it."""
+    shown = metrics(page)
+    state = next(it for it in json.loads(http(page, "/state")[1])["sources"] if it["source"] == source)
+    quality, blocks = state["quality"], state["pmus"][0]["blocks"]
+    labels = f'source="{source}",pmu="{source}",station="SIMULATED {source}"'
+    counted = gateway.counters(f"stats {source}")
+    same([name for name in FLAGS if blocks[name]], [name for name in FLAGS if shown[f'pdcgw_pmu_stat_blocks_total{{{labels},flag="{name}"}}'] != "0"])
+    return {"flags": [name for name in FLAGS if blocks[name]],
+            # (bit 10 comes and goes)
+            "stat": blocks["stat"] & ~0x0400,
+            "time": int(shown[f'pdcgw_source_time_quality{{source="{source}"}}']),
+            "leap": int(shown[f'pdcgw_source_leap_second_pending{{source="{source}"}}']),
+            "minute": quality["minute"],
+            "is_held": quality["delay"]["greatest"] > 1_500,
+            "is_announced_anew": gateway.logged(f"source {source}: its configuration changed: .*") > 1,
+            "rate": quality["rate"],
+            "is_unfit": counted["late"] + counted["twice"] > 0}
+
+
+@takes(14)
+def test_each_fault_moves_its_own_measure(bench):
+    """Each of nine simulated sources has a fault of its own, or a rate that is not the stream's, or serves two. Each moves its own measures and no other, each
+    stream has its member throughout, and those of the sources with the rate of the stream have a frame for each slot."""
+    page, text, ports = bench.port(), "", {}
+    sources = {number: Simulated(bench, "--source", str(number), *words.split()) for number, (words, _) in FAULTY.items()}
+    for number, source in sources.items():
+        ports[number] = bench.port()
+        text += pmu(number, connect=source.address)
+        text += subscriber(number, ports[number], ring=1024, grants=[number], change="keep") + stream(100, [number])
+    gateway = bench.gateway(f'status = "127.0.0.1:{page}"\n' + text).serves(*ports)
+    beside = bench.subscriber(sources[29].port)
+    beside.start(29)
+    clients = {}
+    for number, port in ports.items():
+        gateway.line(f"source {number}: announced")
+        clients[number] = bench.subscriber(port)
+        clients[number].start(100)
+    time.sleep(11)
+    for number, (words, own) in FAULTY.items():
+        same(measures(gateway, page, number), {**NO_FAULT, **own}, f"{words}:")
+    status = gateway.status()
+    same({number: status[f"stream {number} 100"].split()[-1] for number in FAULTY}, dict.fromkeys(FAULTY, "1/1"))
+    for number, wanted in ((21, " sync locked stat c000 "), (22, " sync locked stat 0803 "), (23, " sync within-10us stat 0000 "),
+                           (24, " nosync within-100us stat 2110 "), (27, " 60/s got 100.0% "), (28, " sync locked stat 0000 ")):
+        expect(wanted in status[f"pmu {number}/{number}"], f"{wanted} in {status[f'pmu {number}/{number}']}")
+    came = {number: [it.data() for _ in range(200)] for number, it in clients.items() if number != 27}
+    for number, frames in came.items():
+        slots = [slot_of(it, RATE) for it in frames]
+        same(slots, list(range(slots[0], slots[0] + 200)), f"slots of source {number}")
+    # In every other four seconds PHUNIT of source 26 is twice as large, and the parts of its phasors half as large: 288.68 kV, and at most 4.5 kV more or less.
+    sizes = [math.hypot(*struct.unpack(">hh", it[16:20])) * doubled_at(it) for it in came[26]]
+    expect(28_400 < min(sizes) and max(sizes) < 29_330, f"magnitudes of {min(sizes)} to {max(sizes)} counts of 10 V")
+    until(lambda: phunit_of(clients[26]) == 1_000_000 * (1 + int(time.time()) // 4 % 2), "PHUNIT that is in force now")
+    frames = [beside.data() for _ in range(200)]
+    same({(len(it), it[4:6]) for it in frames}, {(38, b"\0\35")})
+    gateway.quit()
+
+
+def doubled_at(got):
+    """By how much the units of source 26 are larger at the time of a frame."""
+    return 1 + int.from_bytes(got[6:10], "big") // 4 % 2
+
+
+def phunit_of(client):
+    """PHUNIT of the first phasor, of the CFG-2 that it is sent now."""
+    client.command(100, SEND_CONFIG_2)
+    while True:
+        got = client.frame()
+        if got[1] >> 4 == CONFIG_2:
+            return int.from_bytes(got[366:370], "big")

@@ -1,6 +1,7 @@
 """`pdcgw simulate` and `pdcgw watch`: what they obey, send, check and print, against each other, a gateway and peers that do wrong."""
 import random
 import re
+import signal
 import socket
 import struct
 import subprocess
@@ -9,29 +10,10 @@ import time
 
 from c37118 import (BASE, COMMAND, CONFIG_1, CONFIG_2, DATA, HEADER, SEND_CONFIG_1, SEND_CONFIG_2, SEND_HEADER, START, STOP, command, configuration, frame,
                     frames_in)
-from peers import (PATIENCE, RATE, Lines, PassedBy, Subscriber, expect, pmu, read_all, same, slot_of, stream, subscriber, takes, until,
+from peers import (PATIENCE, RATE, PassedBy, Simulated, Subscriber, expect, pmu, read_all, same, slot_of, stream, subscriber, takes, until,
                    with_wrong_check)
 
 COUNTED = re.compile(r"(\d+) frames, (\d+) missing, (\d+) fillers, (\d+) troubles \((\d+) CHK, (\d+) order, (\d+) misfit\)")
-
-
-class Simulated:
-    """`pdcgw simulate` with these options, of source 7 unless they say otherwise."""
-
-    def __init__(self, bench, *words):
-        self.port = bench.port()
-        self.address = f"127.0.0.1:{self.port}"
-        self.process = subprocess.Popen([bench.program, "simulate", "--listen", self.address, *words], stdin=subprocess.DEVNULL, stdout=subprocess.PIPE)
-        bench.made.append(self)
-        self.out = Lines(self.process.stdout)
-        until(lambda: self.out.lines, "the first line of `simulate`")
-
-    def close(self):
-        self.process.kill()
-        self.process.wait()
-
-    def says(self, line, times=1):
-        until(lambda: self.out.lines.count(line) >= times, f"{times} x {line!r} of {self.out.lines[-5:]}")
 
 
 def begin_watch(bench, address, idcode, *words):
@@ -77,9 +59,9 @@ def test_simulate_obeys_commands(bench):
         same(kind != HEADER or got[14:-2] == b"pdcgw simulate: 1 PMU, 30 frames a second", True, f"the header {got[14:-2]}")
         source.says(f"command {word}: {line}")
     client.command(8, START)
-    source.says("a frame of the peer is ignored: NoSuchStream")
+    source.says("a frame is ignored: NoSuchStream")
     client.command(7, 7)
-    source.says("a frame of the peer is ignored: UnknownCommand")
+    source.says("a frame is ignored: UnknownCommand")
     expect(client.is_quiet(0.1), "data came that were not asked for")
     begun = time.time()
     client.command(7, START)
@@ -101,7 +83,7 @@ def test_simulate_obeys_commands(bench):
     expect(0 <= slot_of(client.data(), RATE) - int(time.time() * RATE) + 2 <= 3, "data go on at this time's slot")
     client.send(b"GET / HTTP/1.1\r\n\r\n")
     expect(client.is_closed(2), "bytes that are no frames end the connection")
-    source.says("the bytes of the peer are no frames: BadFirst")
+    source.says("the bytes are no frames: BadFirst")
 
 
 def sent_to(source, what):
@@ -127,30 +109,107 @@ def test_simulate_obeys_nothing_that_is_no_command(bench):
     for at in range(100):
         noise = bytes(numbers.randrange(256) for _ in range(200))
         same(sent_to(source, (b"\xAA\x42\0\x12" if at % 2 else b"") + noise), b"", f"round {at}")
-    source.says("the connection is closed; 0 data frames so far", 388)
-    same([it for it in source.out.lines if it.startswith("command ")], [])
+    source.says("the connection is closed; 0 data frames were sent", 388)
+    same([it for it in source.out.lines if " command " in it], [])
     client = bench.subscriber(source.port)
     client.command(7, SEND_CONFIG_2)
     same(client.frame()[1] >> 4, CONFIG_2)
 
 
 def test_simulate_serves_at_once_behind_those_that_left(bench):
-    """500 clients connect and leave at once; the next one is answered within 2 seconds. So is one that connected while another was served, once that one
-    leaves, and one that sends 400 kB of commands."""
+    """500 clients connect and leave at once; the next one is served, and answered within 2 seconds. So is the one behind that, and what it asks behind 400 kB
+    of commands. 100 that connect all at once, while one is served, are disconnected within a second."""
     source = Simulated(bench)
     for _ in range(500):
         Subscriber(source.port).close()
     begun, client = time.monotonic(), bench.subscriber(source.port)
     client.command(7, SEND_HEADER)
     same(client.frame(2)[1] >> 4, HEADER)
+    client.close()
     second = bench.subscriber(source.port)
     second.command(7, SEND_HEADER)
-    expect(second.is_quiet(0.2), "two are served at a time")
-    client.close()
     same(second.frame(0.8)[1] >> 4, HEADER)
     second.send(command(7, STOP) * 22_000 + command(7, SEND_CONFIG_2))
     same(second.frame(2)[1] >> 4, CONFIG_2)
     expect(time.monotonic() - begun < 5, f"it took {time.monotonic() - begun:.1f} s")
+    source.process.send_signal(signal.SIGSTOP)
+    many = [bench.subscriber(source.port) for _ in range(100)]
+    source.process.send_signal(signal.SIGCONT)
+    begun = time.monotonic()
+    closed = sum(it.is_closed(max(0.01, begun + 0.8 - time.monotonic())) for it in many)
+    same(closed, 100, "clients that are disconnected")
+
+
+def test_clients_of_a_simulated_source(bench):
+    """With `--clients 2` two are served at once. Data are on or off for each by itself, and the frames of a slot are the same for both. A third is disconnected,
+    and named; once one of the two leaves, the next is served."""
+    source = Simulated(bench, "--clients", "2")
+    one, other = bench.subscriber(source.port), bench.subscriber(source.port)
+    one.command(7, START)
+    one.data()
+    other.command(7, SEND_HEADER)
+    same(other.frame()[1] >> 4, HEADER)
+    expect(other.is_quiet(0.2), "data are on for a client that did not start them")
+    third = bench.subscriber(source.port)
+    expect(third.is_closed(2), "a third client is served")
+    until(lambda: f"{third.name} is refused: 2 clients are connected, and --clients (1 to 8) allows no more" in source.out.lines, "the refused client")
+    other.command(7, START)
+    frames = {it[6:14]: it for it in (other.data() for _ in range(20))}
+    alike = [frames[it[6:14]] == it for it in (one.data() for _ in range(40)) if it[6:14] in frames]
+    expect(len(alike) >= 15 and all(alike), f"{sum(alike)} of {len(alike)} frames are the same for both")
+    one.command(7, STOP)
+    until(lambda: one.is_quiet(0.1) or one.buffer.clear() or one.frames.clear(), "the end of the data")
+    before = slot_of(other.data(), RATE)
+    same([slot_of(other.data(), RATE) for _ in range(10)], list(range(before + 1, before + 11)))
+    for name, line in ((one.name, "command 1: data is off"), (other.name, "command 2: data is on")):
+        until(lambda: f"{name}: {line}" in source.out.lines, f"{name}: {line}")
+    one.close()
+    until(lambda: any(it.startswith(f"{one.name}: the connection is closed; ") for it in source.out.lines), "the end of a client")
+    again = bench.subscriber(source.port)
+    again.command(7, SEND_CONFIG_2)
+    same(again.frame()[1] >> 4, CONFIG_2)
+
+
+@takes(5)
+def test_configurations_that_come_unasked(bench):
+    """With `unasked` CFG-2 comes as soon as a client has connected; with `reconfigure=2` again at each even second, another one each time: PHUNIT is doubled
+    or halved, and CFGCNT one more. Data frames behind it are as long as before, and STAT bit 10 is set in the second before. With `no-config` too."""
+    source = Simulated(bench, "--fault", "unasked", "--fault", "reconfigure=2", "--fault", "no-config")
+    client = bench.subscriber(source.port)
+    first = client.frame(1)
+    same(first[1] >> 4, CONFIG_2)
+    client.command(7, SEND_CONFIG_2)
+    client.command(7, START)
+    came, end = [first], time.monotonic() + 4.5
+    while time.monotonic() < end:
+        came.append(client.frame())
+    # PHUNIT stands behind the names of three phasors, an analog value and 16 inputs.
+    found = [(*struct.unpack(">I", it[366:370]), *struct.unpack(">H", it[388:390])) for it in came if it[1] >> 4 == CONFIG_2]
+    expect(3 <= len(found) <= 4, f"{found}")
+    same({phunit for phunit, _ in found}, {1_000_000, 2_000_000})
+    same([count for _, count in found], [(found[0][1] + at) % 65_536 for at in range(len(found))])
+    same([phunit for phunit, _ in found], [1_000_000 * (2 - count % 2) for _, count in found])
+    data = [it for it in came if it[1] >> 4 == DATA]
+    same({len(it) for it in data}, {38})
+    same({(int.from_bytes(it[6:10], "big") % 2, it[14:16]) for it in data}, {(0, b"\0\0"), (1, b"\4\0")})
+    slots = [slot_of(it, RATE) for it in data]
+    same(slots, list(range(slots[0], slots[0] + len(slots))))
+    # Each CFG-2 but the first is right before the first data frame of its second.
+    behind = [came[at + 1] for at, it in enumerate(came[:-1]) if at and it[1] >> 4 == CONFIG_2]
+    same([slot_of(it, RATE) % (2 * RATE) for it in behind], [0] * len(behind))
+    source.says("command 5 is not answered")
+
+
+@takes(6)
+def test_frames_that_are_held_back(bench):
+    """With `backlog=2` the frames of two seconds come at once, at each even second, and none is missing."""
+    came = data_for(Simulated(bench, "--fault", "backlog=2").port, 5)
+    slots = [slot_of(got, RATE) for got, _ in came]
+    same(slots, list(range(slots[0], slots[0] + len(slots))))
+    expect(len(slots) >= 2 * RATE, f"{len(slots)} frames")
+    # A frame of an even second itself is sent then.
+    ages = {(at - slot / RATE) - (-slot % (2 * RATE)) / RATE for slot, (_, at) in zip(slots, came)}
+    expect(all(0 <= it < 0.3 for it in ages), f"behind the even seconds: {min(ages):.3f} to {max(ages):.3f} s")
 
 
 def test_simulate_keeps_back_a_configuration(bench):
@@ -295,9 +354,9 @@ def test_simulate_reads_no_further_than_its_peer(bench):
     client.command(7, START)
     slots, configurations = [slot_of(client.data(), RATE)], 0
     client.send(command(7, SEND_CONFIG_2) * asked)
-    source.says("the peer does not read: frames are left out")
+    source.says("the client does not read: frames are left out")
     time.sleep(0.5)
-    obeyed = source.out.lines.count("command 5: CFG-2 is sent")
+    obeyed = source.said("command 5: CFG-2 is sent")
     expect(0 < obeyed < asked, f"{obeyed} of {asked} commands were obeyed, and no answer was read")
     while configurations < asked:
         got = client.frame()
@@ -307,7 +366,7 @@ def test_simulate_reads_no_further_than_its_peer(bench):
     same(slots, sorted(set(slots)), "slots of the data frames")
     expect(slots[-1] - slots[0] + 1 - len(slots) >= 10, f"no data frames were left out: {slots}")
     source.says("command 5: CFG-2 is sent", asked)
-    same(source.out.lines.count("the peer does not read: frames are left out"), 1)
+    same(source.said("the client does not read: frames are left out"), 1)
 
 
 def test_troubles_of_watch(bench):
@@ -538,7 +597,26 @@ fault clock=-500 yes
 fault clock=--5 no
 fault no-config yes
 fault no-config=1 no
-fault noise=3 no"""
+fault reconfigure=2 yes
+fault reconfigure=1 no
+fault unasked yes
+fault unasked=1 no
+fault stat=fFfF yes
+fault stat=10000 no
+fault stat=+1 no
+fault stat= no
+fault quality=FF yes
+fault quality=100 no
+fault quality=0x1 no
+fault unlock=0 yes
+fault unlock=3601 no
+fault backlog=60 yes
+fault backlog=0 no
+fault backlog=61 no
+fault noise=3 no
+clients 8 yes
+clients 0 no
+clients 9 no"""
 
 
 def said(bench, *words, out=subprocess.PIPE):

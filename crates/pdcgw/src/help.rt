@@ -140,17 +140,28 @@ within 60 seconds, or the gateway can't be reached: standard error says which; 2
 
 /// Of `simulate`.
 pub const SIMULATE: &str = "\
-Listens, and plays a source to one client after another, the next as soon as one ends: it obeys the commands 1 to 5 of C37.118.2
-and sends data frames at the timestamps of this machine's clock. The signals are those of a plausible grid, with the same
-numbers each time for the same second. It prints what happens, and goes on until it is ended.
+Listens, and plays a source to so many clients at once as --clients says; one more is disconnected. Each client starts and stops
+data for itself. It obeys the commands 1 to 5 of C37.118.2 and sends data frames at the timestamps of this machine's clock. The
+signals are those of a plausible grid, with the same numbers each time for the same second. It prints what happens, and goes on
+until it is ended.
 
-Faults:
+Faults, of which a source may have several:
   silence=SECONDS          after every ten seconds with data frames none for SECONDS: 1 to 3600
   drop=PERCENT             so many of a hundred data frames are left out
   late=MS                  each data frame is sent MS milliseconds late: 0 to 60000
+  backlog=SECONDS          data frames are held back for SECONDS, then sent all at once, again and again: 1 to 60
   wrong-check=PERCENT      so many of a hundred data frames have a wrong CHK
   clock=MS                 its clock is MS milliseconds ahead: -3600000 to 3600000
+  unlock=SECONDS           its clock loses its source of time SECONDS after the start: 0 to 3600. From then on STAT bit 13 is set,
+                           and time quality, STAT bits 8 to 6 and 5 to 4 grow as of a clock that is wrong by 1 us more each second
+  quality=HEX              the time quality of its data frames, the top byte of FRACSEC: 0 to FF
+  stat=HEX                 STAT of all its blocks: 0 to FFFF
   no-config                the commands 4 and 5 are not answered
+  unasked                  CFG-2 is sent unasked too: to each client that connects, and when the configuration changes
+  reconfigure=SECONDS      the configuration changes each SECONDS: 2 to 3600. The units of phasors and analog values are doubled,
+                           next time halved again, and the values fit. STAT bit 10 is set for a minute before, or for half of
+                           SECONDS if that is less
+Bits of STAT and of time quality that several faults set are all set.
 
 Exit status: 1 if the address can't be bound, 2 for unknown words.";
 

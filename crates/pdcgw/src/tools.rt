@@ -6,7 +6,7 @@ use pg_demo::DemoOptions;
 use pg_demo_core::Verdict;
 use pg_run::Runtime;
 use pg_tools::{
-    BadOption, SimulateArgs, Style, WatchArgs, number, read_settings, read_watch_options,
+    BadOption, SimulateArgs, Style, WatchArgs, number, read_simulate_options, read_watch_options,
 };
 use std::alloc::{AllocError, Global};
 use std::net::Net;
@@ -89,6 +89,13 @@ pub fn simulate_words<'a>(alloc: Global) -> Result<Command<'a>, AllocError> {
             "60",
             "The frequency of the grid, 50 or 60",
         ))?
+        .arg(option(
+            alloc,
+            "clients",
+            "N",
+            "1",
+            "How many clients it serves at once, 1 to 8",
+        ))?
         .arg(valued(
             alloc,
             "fault",
@@ -103,7 +110,7 @@ pub fn simulate<R>(rt: &R, words: &ArgMatches<'_>) -> Outcome
 where
     R: Net + Clock + Print + Alloc<A = Global>,
 {
-    let read = read_settings(&SimulateArgs {
+    let read = read_simulate_options(&SimulateArgs {
         listen: words.get_str("listen").unwrap_or(""),
         source: words.get_str("source").unwrap_or(""),
         pmus: words.get_str("pmus").unwrap_or(""),
@@ -113,9 +120,10 @@ where
         digitals: words.get_str("digitals").unwrap_or(""),
         nominal: words.get_str("nominal").unwrap_or(""),
         faults: words.get_strs("fault").unwrap_or(&[]),
+        clients: words.get_str("clients").unwrap_or(""),
     });
     match read {
-        Ok((address, settings)) => match pg_tools::simulate(rt, address, settings) {
+        Ok(options) => match pg_tools::simulate(rt, &options) {
             Ok(()) => Outcome::Done,
             Err(fault) => Outcome::Fallen(fault),
         },

@@ -61,7 +61,7 @@ impl<'a, R: Wait + Clock> Simulators<'a, R> {
     fn facts(&self) -> Facts {
         let [first, second] = &self.state.are_on;
         Facts {
-            are_connected: self.one.source().is_sending() && self.other.source().is_sending(),
+            are_connected: self.one.is_sending() && self.other.is_sending(),
             are_on: first.load(Ordering::SeqCst) && second.load(Ordering::SeqCst),
             is_drained: self.state.expected.lock(self.rt).waiting() == 0,
         }
@@ -71,7 +71,6 @@ impl<'a, R: Wait + Clock> Simulators<'a, R> {
     fn step(&mut self) -> Result<bool, Fault> {
         let wait = self
             .one
-            .source()
             .until_due(UnixTime::now(self.rt)?)
             .unwrap_or(LONGEST);
         thread::sleep(
@@ -80,8 +79,8 @@ impl<'a, R: Wait + Clock> Simulators<'a, R> {
         );
         let at = UnixTime::now(self.rt)?;
         self.events.clear();
-        self.one.serve_peer(at, &mut self.events)?;
-        self.other.serve_peer(at, &mut self.events)?;
+        self.one.serve_clients(at, &mut self.events)?;
+        self.other.serve_clients(at, &mut self.events)?;
         let facts = self.facts();
         let phase = self.phases.step(facts, at.micros / 1_000);
         if phase != Phase::Connecting {
@@ -113,13 +112,13 @@ impl<'a, R: Wait + Clock> Simulators<'a, R> {
             self.other.due(at, &mut other)?;
         }
         if is_compared {
-            let one_len = frame_len(&self.one.source().settings());
-            let other_len = frame_len(&self.other.source().settings());
+            let one_len = frame_len(&self.one.settings());
+            let other_len = frame_len(&self.other.settings());
             expected.expect(&one, one_len, &other, other_len)?;
         }
         drop(expected);
-        self.one.send(&one, &mut self.events)?;
-        self.other.send(&other, &mut self.events)?;
+        self.one.send(&mut self.events)?;
+        self.other.send(&mut self.events)?;
         Ok(())
     }
 }

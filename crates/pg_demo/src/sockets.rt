@@ -10,6 +10,7 @@ use pg_subscribers::Port;
 use pg_tools::Simulator;
 use std::alloc::{AllocError, Global};
 use std::net::{Ipv4Addr, Net, SocketAddr};
+use std::rt::Clock;
 
 /// The sockets of a demo: its simulated sources, the ports of its subscribers, and that of the page.
 #[derive(Drop)]
@@ -39,7 +40,7 @@ pub struct Addresses {
 
 impl Sockets {
     /// All of them, on free ports.
-    pub fn bind<R: Net>(rt: &R, alloc: Global) -> Result<Sockets, Fault> {
+    pub fn bind<R: Net + Clock>(rt: &R, alloc: Global) -> Result<Sockets, Fault> {
         let (one, other, dials) = both_sources(rt, alloc)?;
         let (ports, served) = both_ports(rt, alloc)?;
         let (page, shown) = listener(rt)?;
@@ -81,10 +82,10 @@ impl Addresses {
 }
 
 /// A simulated source, and how the gateway connects to it. `place` is its place in `SOURCES`.
-fn simulator<R: Net>(rt: &R, alloc: Global, place: u8) -> Result<(Simulator, Dial), Fault> {
+fn simulator<R: Net + Clock>(rt: &R, alloc: Global, place: u8) -> Result<(Simulator, Dial), Fault> {
     let settings = demo_settings(place)?;
     let free = SocketAddr::from((Ipv4Addr::LOCALHOST, 0));
-    let simulator = match Simulator::bind(rt, alloc, free, settings) {
+    let simulator = match Simulator::bind(rt, alloc, free, settings, 1) {
         Ok(simulator) => simulator,
         Err(error) => return Err(Fault::Tool(pg_tools::Fault::Bind(free, error))),
     };
@@ -98,7 +99,10 @@ fn simulator<R: Net>(rt: &R, alloc: Global, place: u8) -> Result<(Simulator, Dia
 }
 
 /// Both simulated sources, and how the gateway connects to them.
-fn both_sources<R: Net>(rt: &R, alloc: Global) -> Result<(Simulator, Simulator, Vec<Dial>), Fault> {
+fn both_sources<R: Net + Clock>(
+    rt: &R,
+    alloc: Global,
+) -> Result<(Simulator, Simulator, Vec<Dial>), Fault> {
     let (one, first) = simulator(rt, alloc, 0)?;
     let (other, second) = simulator(rt, alloc, 1)?;
     let mut dials = Vec::new(alloc);

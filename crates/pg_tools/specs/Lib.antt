@@ -1,3 +1,5 @@
 -- Definitions that the contracts of the tools cite.
+pub mod Faulting
+pub mod Holdover
 pub mod Playing
 pub mod Retrying

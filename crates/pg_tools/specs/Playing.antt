@@ -16,9 +16,9 @@ sending_after sending SendCfgTwo slot = sending
 sending_after sending SendCfgThree slot = sending
 sending_after sending Extended slot = sending
 
--- The first slot that is due behind the last one done with, at most a second of slots before the end.
+-- The first slot that is due behind the last one done with, where at most so many are due up to the end.
 abbrev pub least_slot : ℕ → ℕ → ℕ → ℕ
-least_slot last end rate = if nat_lt (last + 1) (end - (rate - 1)) then end - (rate - 1) else last + 1
+least_slot last end most = if nat_lt (last + 1) (end - (most - 1)) then end - (most - 1) else last + 1
 
 -- What is event switches data on and off just where it is a command 1 or 2.
 abbrev pub IsAfter : CommandEvent → Option ℕ → Option ℕ → Type 0

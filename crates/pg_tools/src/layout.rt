@@ -1,5 +1,7 @@
 //! The configuration of a simulated source: names, units and counts of its channels (C37.118.2, 6.4).
 
+ghost use Rattle.std.specs.Prelude.{◌≡◌, ◌+◌, ◌%◌, ◌≤◌};
+
 use crate::settings::{Nominal, Settings};
 use std::alloc::{AllocError, Global};
 
@@ -39,11 +41,29 @@ pub fn is_polar(place: u8) -> bool {
     place % 2 == 1
 }
 
-/// The configuration blocks of all PMUs.
-pub fn blocks_of(alloc: Global, settings: &Settings) -> Result<Vec<u8>, AllocError> {
+/// How many units of configuration 0 a unit of this configuration is, and a count stands for so many times as much: two where its number is odd.
+pub fn scale_of(configuration: u64) -> u8
+    ensures { result ≡ 1 + configuration % 2 }
+{
+    1 + (configuration % 2) as u8
+}
+
+/// CFGCNT of a configuration: 1 at first, and 0 behind 65,535.
+pub fn count_of(configuration: u64) -> u16
+    ensures { result ≡ (configuration + 1) % 65536 }
+{
+    ((configuration % 65_536 + 1) % 65_536) as u16
+}
+
+/// The blocks of all PMUs in the configuration of this number.
+pub fn blocks_of(
+    alloc: Global,
+    settings: &Settings,
+    configuration: u64,
+) -> Result<Vec<u8>, AllocError> {
     let mut out = Vec::new(alloc);
     for pmu in 0..settings.numbers.pmus {
-        add_block(alloc, &mut out, settings, pmu)?;
+        add_block(alloc, &mut out, settings, configuration, pmu)?;
     }
     Ok(out)
 }
@@ -53,6 +73,7 @@ fn add_block(
     alloc: Global,
     out: &mut Vec<u8>,
     settings: &Settings,
+    configuration: u64,
     pmu: u8,
 ) -> Result<(), AllocError> {
     let id = settings.numbers.first.saturating_add(u16::from(pmu));
@@ -64,7 +85,7 @@ fn add_block(
     add_word(out, u16::from(channels.analogs))?;
     add_word(out, u16::from(channels.digitals))?;
     add_names(alloc, out, settings)?;
-    add_units(out, settings)?;
+    add_units(out, settings, scale_of(configuration))?;
     add_word(
         out,
         match settings.nominal {
@@ -72,7 +93,7 @@ fn add_block(
             Nominal::Sixty => 0,
         },
     )?;
-    add_word(out, 1)
+    add_word(out, count_of(configuration))
 }
 
 /// Adds the names of a PMU's channels.
@@ -116,19 +137,21 @@ fn add_inputs(alloc: Global, out: &mut Vec<u8>, digital: u8) -> Result<(), Alloc
     Ok(())
 }
 
-/// Adds PHUNIT, ANUNIT and DIGUNIT of a PMU's channels.
-fn add_units(out: &mut Vec<u8>, settings: &Settings) -> Result<(), AllocError> {
+/// Adds PHUNIT and ANUNIT of a PMU's channels, so many times as large as at first, and DIGUNIT.
+fn add_units(out: &mut Vec<u8>, settings: &Settings, scale: u8) -> Result<(), AllocError>
+    requires { scale ≤ 2 }
+{
     for phasor in 0..settings.channels.phasors {
         let unit = match quantity_of(phasor) {
-            Quantity::Voltage => VOLT_UNIT,
+            Quantity::Voltage => u32::from(scale) * VOLT_UNIT,
             // The top byte 1 stands for a current.
-            Quantity::Current => 0x0100_0000 + AMPERE_UNIT,
+            Quantity::Current => 0x0100_0000 + u32::from(scale) * AMPERE_UNIT,
         };
         out.extend_from_slice(&unit.to_be_bytes())?;
     }
     for _ in 0..settings.channels.analogs {
-        // The top byte 1 stands for an effective value; a count is 1.
-        out.extend_from_slice(&[1, 0, 0, 1])?;
+        // The top byte 1 stands for an effective value; a count is 1 at first.
+        out.extend_from_slice(&[1, 0, 0, scale])?;
     }
     for _ in 0..settings.channels.digitals {
         add_word(out, 0)?;

@@ -4,6 +4,7 @@
 #![tactic(auto)]
 
 mod fault;
+mod holdover;
 mod layout;
 mod lines;
 mod measuring;
@@ -15,6 +16,7 @@ mod signal;
 mod simulate_source;
 mod simulator;
 mod source;
+mod source_faults;
 mod target;
 mod unix_time;
 mod watch_stream;
@@ -25,12 +27,13 @@ pub use fault::Fault;
 pub use measuring::add_measured;
 pub use retry::{RETRY_TIMEOUT, Retry};
 pub use settings::{
-    BadOption, Channels, Faults, Nominal, Numbers, Settings, SimulateArgs, address, number,
-    read_settings,
+    BadOption, Channels, Nominal, Numbers, Settings, SimulateArgs, SimulateOptions, address,
+    number, read_simulate_options,
 };
 pub use simulate_source::simulate;
 pub use simulator::{Simulator, SimulatorEvent};
 pub use source::{CommandEvent, Source, SourceCounts};
+pub use source_faults::Faults;
 pub use target::Target;
 pub use unix_time::{Rate, TIME_BASE, UnixTime};
 pub use watch_stream::{

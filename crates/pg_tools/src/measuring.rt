@@ -2,7 +2,7 @@
 
 ghost use Rattle.std.specs.Prelude.{◌≡◌, pos, negsuc, ◌≤ℤ◌};
 
-use crate::layout::{Quantity, add_word, is_polar, quantity_of};
+use crate::layout::{Quantity, add_word, is_polar, quantity_of, scale_of};
 use crate::settings::{Nominal, Settings};
 use crate::signal::{Grid, grid_at, part, turning};
 use crate::unix_time::UnixTime;
@@ -25,6 +25,16 @@ struct Phasor {
     turn: u32,
 }
 
+impl Phasor {
+    /// The same, in counts that stand for so many times as much.
+    fn in_unit(self, scale: i64) -> Phasor {
+        Phasor {
+            magnitude: part(self.magnitude, 1, scale),
+            turn: self.turn,
+        }
+    }
+}
+
 /// A value as a count of 16 bits, held at -32767 and 32767.
 fn count(value: i64) -> i16
     ensures least { negsuc 32766 ≤ℤ result }
@@ -39,19 +49,22 @@ fn add_count(out: &mut Vec<u8>, value: i64) -> Result<(), AllocError> {
     out.extend_from_slice(&count(value).to_be_bytes())
 }
 
-/// Adds the data block of PMU i at an instant: STAT 0, its phasors, the deviation of the frequency in millihertz and its change
-/// in hundredths of a hertz a second, its analog values and digital words.
+/// Adds the data block of PMU i at an instant: STAT, its phasors, the deviation of the frequency in millihertz and its change
+/// in hundredths of a hertz a second, its analog values and digital words. Phasors and analog values are in the units of this configuration.
 pub fn add_measured(
     out: &mut Vec<u8>,
     settings: &Settings,
     at: UnixTime,
     pmu: u8,
+    stat: u16,
+    configuration: u64,
 ) -> Result<(), AllocError> {
     let place = settings.place.wrapping_add(pmu);
     let grid = grid_at(at, place % 2 == 1);
-    add_word(out, 0)?;
+    let scale = i64::from(scale_of(configuration));
+    add_word(out, stat)?;
     for k in 0..settings.channels.phasors {
-        let phasor = phasor_at(at, &grid, settings.nominal, place, k);
+        let phasor = phasor_at(at, &grid, settings.nominal, place, k).in_unit(scale);
         if is_polar(place) {
             add_polar(out, phasor)?;
         } else {
@@ -61,7 +74,7 @@ pub fn add_measured(
     add_count(out, grid.deviation / 1_000)?;
     add_count(out, grid.change / 10_000)?;
     for k in 0..settings.channels.analogs {
-        add_count(out, analog_at(at, &grid, place, k))?;
+        add_count(out, part(analog_at(at, &grid, place, k), 1, scale))?;
     }
     for k in 0..settings.channels.digitals {
         add_word(out, digital_at(at, place, k))?;

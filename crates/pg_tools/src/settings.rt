@@ -1,39 +1,14 @@
 //! What is simulated, and the options that set it.
 
-ghost use Rattle.std.specs.Prelude.{◌≡◌, ◌+◌, ◌*◌, ◌≤◌, ◌<◌, IfSome};
+ghost use Rattle.std.specs.Prelude.{◌≡◌, ◌+◌, ◌*◌, ◌≤◌, ◌<◌, IfOk, IfSome};
 
+use crate::source_faults::Faults;
 use crate::unix_time::Rate;
 use std::net::{SocketAddr, SocketAddrV4};
 use thiserror::Error;
 
-/// What a source does wrong, each fault by itself; 0 where it does not.
-#[derive(Clone, Copy)]
-pub struct Faults {
-    /// After every ten seconds with data frames none are sent for so many seconds.
-    pub silence: u32,
-    /// So many of a hundred data frames are left out.
-    pub drop: u8,
-    /// Each data frame is sent so many milliseconds late.
-    pub late: u32,
-    /// So many of a hundred data frames have a wrong CHK.
-    pub wrong_check: u8,
-    /// Its clock is so many milliseconds ahead, or behind where that is negative.
-    pub clock: i32,
-    /// Commands 4 and 5 are not answered.
-    pub no_config: bool,
-}
-
-impl Faults {
-    /// No fault.
-    pub const NONE: Faults = Faults {
-        silence: 0,
-        drop: 0,
-        late: 0,
-        wrong_check: 0,
-        clock: 0,
-        no_config: false,
-    };
-}
+/// The most clients that are served at once.
+const MOST_CLIENTS: u8 = 8;
 
 /// The frequency of a grid.
 #[derive(Clone, Copy)]
@@ -145,6 +120,19 @@ pub struct SimulateArgs<'a> {
     pub nominal: &'a str,
     /// Each `--fault`.
     pub faults: &'a [&'a str],
+    /// `--clients`
+    pub clients: &'a str,
+}
+
+/// What `simulate` is asked for.
+#[derive(Clone, Copy)]
+pub struct SimulateOptions {
+    /// Where it listens.
+    pub listen: SocketAddr,
+    /// How many clients it serves at once: 1 to 8.
+    pub clients: u8,
+    /// What it plays.
+    pub settings: Settings,
 }
 
 /// A word that is none of an option's: which option it is, and what would be right.
@@ -174,7 +162,10 @@ pub fn number(word: &str, least: u32, most: u32) -> Option<u32>
 }
 
 /// A number of at most a byte, or what the option takes.
-fn small(word: &str, least: u8, most: u8, wrong: BadOption) -> Result<u8, BadOption> {
+fn small(word: &str, least: u8, most: u8, wrong: BadOption) -> Result<u8, BadOption>
+    ensures least { IfOk result (λ n. least ≤ n) }
+    ensures most { IfOk result (λ n. n ≤ most) }
+{
     match number(word, u32::from(least), u32::from(most)) {
         Some(value) => Ok(value as u8),
         None => Err(wrong),
@@ -192,12 +183,15 @@ pub fn address(word: &str, option: &'static str) -> Result<SocketAddr, BadOption
     }
 }
 
-/// What `simulate` is asked for: where it listens, and what it plays.
+/// What `simulate` is asked for, by the values of its options.
 ///
 /// # Errors
 ///
 /// The first option that can't be taken, with what it takes.
-pub fn read_settings(words: &SimulateArgs<'_>) -> Result<(SocketAddr, Settings), BadOption> {
+pub fn read_simulate_options(words: &SimulateArgs<'_>) -> Result<SimulateOptions, BadOption>
+    ensures some { IfOk result (λ options. 1 ≤ options.clients) }
+    ensures few { IfOk result (λ options. options.clients ≤ 8) }
+{
     let listen = address(words.listen, "--listen")?;
     let settings = Settings {
         numbers: read_numbers(words.source, words.pmus)?,
@@ -207,7 +201,15 @@ pub fn read_settings(words: &SimulateArgs<'_>) -> Result<(SocketAddr, Settings),
         place: 0,
         faults: read_faults(words.faults)?,
     };
-    Ok((listen, settings))
+    let wrong = BadOption {
+        option: "--clients",
+        takes: "a number of 1 to 8",
+    };
+    Ok(SimulateOptions {
+        listen,
+        clients: small(words.clients, 1, MOST_CLIENTS, wrong)?,
+        settings,
+    })
 }
 
 fn read_numbers(source: &str, pmus: &str) -> Result<Numbers, BadOption> {
@@ -297,48 +299,86 @@ fn read_nominal(word: &str) -> Result<Nominal, BadOption> {
 fn read_faults(words: &[&str]) -> Result<Faults, BadOption> {
     let mut faults = Faults::NONE;
     for word in words {
-        let Some(next) = with_fault(faults, word) else {
-            return Err(BadOption {
-                option: "--fault",
-                takes: "silence=SECONDS (1 to 3600), drop=PERCENT, late=MS (0 to 60000), wrong-check=PERCENT, clock=MS (-3600000 to 3600000) or no-config",
-            });
-        };
-        faults = next;
+        match with_fault(faults, word) {
+            Some(next) => faults = next,
+            None => {
+                return Err(BadOption {
+                    option: "--fault",
+                    takes: fault_takes(word),
+                });
+            }
+        }
     }
     Ok(faults)
 }
 
 /// These faults, and the one of this word.
 fn with_fault(faults: Faults, word: &str) -> Option<Faults> {
-    if word == "no-config" {
-        return Some(Faults {
+    match word {
+        "no-config" => Some(Faults {
             no_config: true,
             ..faults
-        });
+        }),
+        "unasked" => Some(Faults {
+            unasked: true,
+            ..faults
+        }),
+        _ => {
+            let (name, value) = word.split_once('=')?;
+            with_value(faults, name, value)
+        }
     }
-    let (name, value) = word.split_once('=')?;
+}
+
+/// These faults, and the one of this name with this value.
+fn with_value(mut faults: Faults, name: &str, value: &str) -> Option<Faults> {
     match name {
-        "silence" => Some(Faults {
-            silence: number(value, 1, 3_600)?,
-            ..faults
-        }),
-        "drop" => Some(Faults {
-            drop: number(value, 0, 100)? as u8,
-            ..faults
-        }),
-        "late" => Some(Faults {
-            late: number(value, 0, 60_000)?,
-            ..faults
-        }),
-        "wrong-check" => Some(Faults {
-            wrong_check: number(value, 0, 100)? as u8,
-            ..faults
-        }),
-        "clock" => Some(Faults {
-            clock: signed(value)?,
-            ..faults
-        }),
-        _ => None,
+        "silence" => faults.silence = number(value, 1, 3_600)?,
+        "drop" => faults.drop = number(value, 0, 100)? as u8,
+        "late" => faults.late = number(value, 0, 60_000)?,
+        "wrong-check" => faults.wrong_check = number(value, 0, 100)? as u8,
+        "clock" => faults.clock = signed(value)?,
+        "reconfigure" => faults.reconfigure = number(value, 2, 3_600)?,
+        "stat" => faults.stat = u16::from_str_radix(hexadecimal(value)?, 16).ok()?,
+        "quality" => faults.quality = u8::from_str_radix(hexadecimal(value)?, 16).ok()?,
+        "unlock" => faults.unlock = Some(number(value, 0, 3_600)?),
+        "backlog" => faults.backlog = number(value, 1, 60)?,
+        _ => return None,
+    }
+    Some(faults)
+}
+
+/// What the fault of this word takes; all faults where it is none.
+fn fault_takes(word: &str) -> &'static str {
+    let name = match word.split_once('=') {
+        Some((name, _)) => name,
+        None => word,
+    };
+    match name {
+        "silence" => "silence=SECONDS, 1 to 3600",
+        "drop" => "drop=PERCENT, 0 to 100",
+        "late" => "late=MS, 0 to 60000 milliseconds",
+        "wrong-check" => "wrong-check=PERCENT, 0 to 100",
+        "clock" => "clock=MS, -3600000 to 3600000 milliseconds",
+        "no-config" => "no-config without a value",
+        "reconfigure" => "reconfigure=SECONDS, 2 to 3600",
+        "unasked" => "unasked without a value",
+        "stat" => "stat=HEX, 0 to FFFF in hexadecimal, as stat=4000",
+        "quality" => "quality=HEX, 0 to FF in hexadecimal, as quality=0F",
+        "unlock" => "unlock=SECONDS, 0 to 3600",
+        "backlog" => "backlog=SECONDS, 1 to 60",
+        _ => {
+            "silence=SECONDS, drop=PERCENT, late=MS, wrong-check=PERCENT, clock=MS, no-config, reconfigure=SECONDS, unasked, stat=HEX, quality=HEX, unlock=SECONDS or backlog=SECONDS"
+        }
+    }
+}
+
+/// This word, where it has hexadecimal digits alone.
+fn hexadecimal(word: &str) -> Option<&str> {
+    if word.as_bytes().iter().all(|byte| byte.is_ascii_hexdigit()) {
+        Some(word)
+    } else {
+        None
     }
 }
 

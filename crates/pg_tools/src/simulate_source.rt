@@ -1,12 +1,12 @@
 //! `pdcgw simulate`: a source that is played until the program is ended.
 
 use crate::fault::Fault;
-use crate::settings::Settings;
+use crate::settings::SimulateOptions;
 use crate::simulator::{Simulator, SimulatorEvent};
 use crate::source::CommandEvent;
 use pg_command::Word;
 use std::alloc::Global;
-use std::net::{Net, SocketAddr};
+use std::net::Net;
 use std::rt::Clock;
 use std::time::Duration;
 use std::{fmt, io};
@@ -14,20 +14,20 @@ use std::{fmt, io};
 /// The longest wait for something to happen, in milliseconds.
 const LONGEST: u64 = 1_000;
 
-/// Plays a source at this address, and prints each event as a line. It goes on until the program is ended.
+/// Plays a source by these options, and prints each event as a line. It goes on until the program is ended.
 ///
 /// # Errors
 ///
 /// `Bind`, where the address can't be bound; `Output`, where standard output can't be written; `System`.
 pub fn simulate<R: Net + Clock + Print + Alloc<A = Global>>(
     rt: &R,
-    address: SocketAddr,
-    settings: Settings,
+    options: &SimulateOptions,
 ) -> Result<(), Fault> {
     let alloc = rt.alloc();
-    let mut simulator = match Simulator::bind(rt, alloc, address, settings) {
+    let (settings, clients) = (options.settings, options.clients);
+    let mut simulator = match Simulator::bind(rt, alloc, options.listen, settings, clients) {
         Ok(simulator) => simulator,
-        Err(error) => return Err(Fault::Bind(address, error)),
+        Err(error) => return Err(Fault::Bind(options.listen, error)),
     };
     report_start(rt, &simulator)?;
     let longest = Duration::from_millis(LONGEST);
@@ -36,7 +36,7 @@ pub fn simulate<R: Net + Clock + Print + Alloc<A = Global>>(
         events.clear();
         simulator.turn(rt, longest, &mut events)?;
         for what in events.iter() {
-            report_event(rt, what, &simulator)?;
+            report_event(rt, *what)?;
         }
     }
     Ok(())
@@ -45,7 +45,7 @@ pub fn simulate<R: Net + Clock + Print + Alloc<A = Global>>(
 /// Prints where a source listens, and what it is.
 fn report_start<R: Print>(rt: &R, simulator: &Simulator) -> Result<(), Fault> {
     let address = simulator.address()?;
-    let settings = simulator.source().settings();
+    let settings = simulator.settings();
     let first = settings.numbers.first;
     let pmus = settings.numbers.pmus;
     let rate = settings.rate.frames;
@@ -56,19 +56,22 @@ fn report_start<R: Print>(rt: &R, simulator: &Simulator) -> Result<(), Fault> {
 }
 
 /// Prints an event.
-fn report_event<R: Print>(
-    rt: &R,
-    what: &SimulatorEvent,
-    simulator: &Simulator,
-) -> Result<(), Fault> {
-    let sent = simulator.source().counts().sent;
+fn report_event<R: Print>(rt: &R, what: SimulatorEvent) -> Result<(), Fault> {
     output_result(match what {
         SimulatorEvent::Connected(peer) => println!(rt; "{peer} has connected"),
-        SimulatorEvent::Closed => println!(rt;
-            "the connection is closed; {sent} data frames so far"
+        SimulatorEvent::Refused(peer, clients) => {
+            let s = if clients == 1 { " is" } else { "s are" };
+            println!(rt;
+                "{peer} is refused: {clients} client{s} connected, and --clients (1 to 8) allows no more"
+            )
+        }
+        SimulatorEvent::Closed(peer, sent) => println!(rt;
+            "{peer}: the connection is closed; {sent} data frames were sent"
         ),
-        SimulatorEvent::Command(event) => println!(rt; "{}", EventText(*event)),
-        SimulatorEvent::Stalled => println!(rt; "the peer does not read: frames are left out"),
+        SimulatorEvent::Command(peer, event) => println!(rt; "{peer}: {}", EventText(event)),
+        SimulatorEvent::Stalled(peer) => println!(rt;
+            "{peer}: the client does not read: frames are left out"
+        ),
     })
 }
 
@@ -90,12 +93,12 @@ impl fmt::Display for EventText {
             }
             CommandEvent::Ignored(refusal) => {
                 let name = refusal.name();
-                write!(f, "a frame of the peer is ignored: {name}")
+                write!(f, "a frame is ignored: {name}")
             }
             CommandEvent::More => write!(f, "nothing"),
             CommandEvent::Broken(refusal) => {
                 let name = refusal.name();
-                write!(f, "the bytes of the peer are no frames: {name}")
+                write!(f, "the bytes are no frames: {name}")
             }
         }
     }

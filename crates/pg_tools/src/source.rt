@@ -6,7 +6,7 @@ ghost use Rattle.pg_tools.specs.Playing.{sending_after, least_slot, IsAfter};
 use crate::layout::blocks_of;
 use crate::measuring::add_measured;
 use crate::settings::Settings;
-use crate::unix_time::{Rate, TIME_BASE, UnixTime};
+use crate::unix_time::{TIME_BASE, UnixTime};
 use pg_command::{Word, read_command};
 use pg_config::{end_config, start_config, write_header};
 use pg_stream::stamp_of;
@@ -61,34 +61,43 @@ pub enum CommandEvent {
     Broken(Refusal),
 }
 
-/// A source that is simulated. It obeys commands 1 to 5 of whoever is connected, and has data frames on the slots of
+/// A source that is simulated, to one client. It obeys commands 1 to 5 of that client, and has data frames on the slots of
 /// its rate while data is on.
 #[derive(Drop)]
 pub struct Source {
     alloc: Global,
     settings: Settings,
+    /// When it began, by its own clock.
+    start: UnixTime,
+    /// The configuration blocks, and the number of the configuration that they are of.
     blocks: Vec<u8>,
+    configuration: u64,
     deframer: Deframer,
     /// The last slot that is done with, while data is on.
     pub sending: Option<u64>,
+    /// The number of the configuration that was sent unasked last.
+    announced: Option<u64>,
     counts: SourceCounts,
 }
 
 impl Source {
-    /// A source with these settings, whose data is off.
+    /// A source with these settings, whose data is off. It began at this time of this machine's clock, which may be before its client connected.
     ///
     /// # Errors
     ///
     /// `NoMemory`.
-    pub fn new(alloc: Global, settings: Settings) -> Result<Source, Refusal>
+    pub fn new(alloc: Global, settings: Settings, start: UnixTime) -> Result<Source, Refusal>
         ensures { IfOk result (λ source. source.sending ≡ None) }
     {
         Ok(Source {
             alloc,
             settings,
-            blocks: blocks_of(alloc, &settings)?,
+            start: start.shifted(settings.faults.clock),
+            blocks: blocks_of(alloc, &settings, 0)?,
+            configuration: 0,
             deframer: Deframer::new(alloc)?,
             sending: None,
+            announced: None,
             counts: SourceCounts::NONE,
         })
     }
@@ -98,24 +107,11 @@ impl Source {
         self.counts
     }
 
-    /// What it plays.
-    pub fn settings(&self) -> Settings {
-        self.settings
-    }
-
     /// Whether data is on.
     pub fn is_sending(&self) -> bool
         ensures { result ≡ is_some self.now.sending }
     {
         self.sending.is_some()
-    }
-
-    /// Begins anew, for the next connection: data is off, and the bytes of the last one are forgotten.
-    pub fn reset(&mut self)
-        ensures { self.new.sending ≡ None }
-    {
-        self.deframer.reset();
-        self.sending = None;
     }
 
     /// Takes the next bytes of the peer, and answers how many of them there was room for: `next` makes room.
@@ -175,8 +171,8 @@ impl Source {
                 add_header(self.alloc, &self.settings, at, out)?;
                 true
             }
-            Word::SendCfgOne => self.add_config(Kind::CfgOne, at, out)?,
-            Word::SendCfgTwo => self.add_config(Kind::CfgTwo, at, out)?,
+            Word::SendCfgOne => self.answer_config(Kind::CfgOne, at, out)?,
+            Word::SendCfgTwo => self.answer_config(Kind::CfgTwo, at, out)?,
             Word::SendCfgThree | Word::Extended => false,
         };
         self.sending = after_command(self.sending, word, at.slot(self.settings.rate));
@@ -194,19 +190,53 @@ impl Source {
     }
 
     /// Adds CFG-1 or CFG-2, and answers whether it does: the fault `no-config` keeps it back.
-    fn add_config(&self, kind: Kind, at: UnixTime, out: &mut Vec<u8>) -> Result<bool, Refusal>
+    fn answer_config(
+        &mut self,
+        kind: Kind,
+        at: UnixTime,
+        out: &mut Vec<u8>,
+    ) -> Result<bool, Refusal>
         requires { (kind ≡ Kind.CfgOne) ⊎ (kind ≡ Kind.CfgTwo) }
+        ensures { self.new.sending ≡ self.old.sending }
     {
         if self.settings.faults.no_config {
             return Ok(false);
         }
-        let frame = config_frame(self.alloc, &self.settings, &self.blocks, kind, at)?;
-        out.extend_from_slice(&frame)?;
+        self.add_config(kind, at, out)?;
         Ok(true)
     }
 
-    /// Adds the data frames that are due at an instant: those of the slots since the last call, of a second at most. A source
-    /// that was held up for longer leaves out what lies further back.
+    /// Adds CFG-1 or CFG-2 with the configuration that is in force at an instant of its clock.
+    fn add_config(&mut self, kind: Kind, at: UnixTime, out: &mut Vec<u8>) -> Result<(), Refusal>
+        requires { (kind ≡ Kind.CfgOne) ⊎ (kind ≡ Kind.CfgTwo) }
+        ensures { self.new.sending ≡ self.old.sending }
+    {
+        let configuration = self.settings.faults.configuration_at(at);
+        if configuration != self.configuration {
+            self.blocks = blocks_of(self.alloc, &self.settings, configuration)?;
+            self.configuration = configuration;
+        }
+        let frame = config_frame(self.alloc, &self.settings, &self.blocks, kind, at)?;
+        out.extend_from_slice(&frame)?;
+        Ok(())
+    }
+
+    /// Adds CFG-2 where the fault `unasked` sends it and the client has none of the configuration that is in force at an instant of its clock.
+    fn announce(&mut self, at: UnixTime, out: &mut Vec<u8>) -> Result<(), Refusal>
+        ensures { self.new.sending ≡ self.old.sending }
+    {
+        let configuration = Some(self.settings.faults.configuration_at(at));
+        if self.settings.faults.unasked && self.announced != configuration {
+            self.add_config(Kind::CfgTwo, at, out)?;
+            self.announced = configuration;
+        }
+        Ok(())
+    }
+
+    /// Adds the data frames that are due at an instant: those of the slots since the last call, of a second at most, or of a second more
+    /// than the fault `backlog` holds back. A source that was held up for longer leaves out what lies further back. With the fault `unasked`
+    /// CFG-2 stands before the first data frame, and before the first one of another configuration; while data is off it is added at the
+    /// first call in a configuration.
     ///
     /// # Errors
     ///
@@ -214,26 +244,35 @@ impl Source {
     pub fn due(&mut self, now: UnixTime, out: &mut Vec<u8>) -> Result<(), Refusal>
         ensures { self.old.sending ≡ None → self.new.sending ≡ None }
     {
-        let Some(last) = self.sending else {
-            return Ok(());
-        };
-        let rate = self.settings.rate;
-        let end = self.last_due(now);
-        let first = first_due(last, end, rate);
-        if first <= end {
-            self.sending = Some(end);
-            for slot in first..=end {
-                self.add_data(slot, out)?;
+        if let Some(last) = self.sending {
+            let end = self.last_due(now);
+            let first = first_due(last, end, self.most_due());
+            if first <= end {
+                self.sending = Some(end);
+                for slot in first..=end {
+                    self.add_data(slot, out)?;
+                }
             }
         }
-        Ok(())
+        self.announce(self.released(now), out)
     }
 
-    /// The last slot that is due at an instant: the fault `late` puts it off.
+    /// The instant of its clock up to which data frames are sent: the faults `late` and `backlog` put it off.
+    fn released(&self, now: UnixTime) -> UnixTime {
+        let faults = self.settings.faults;
+        faults.released_at(self.clock(now).earlier(faults.late))
+    }
+
+    /// The last slot that is due at an instant.
     fn last_due(&self, now: UnixTime) -> u64 {
-        self.clock(now)
-            .earlier(self.settings.faults.late)
-            .slot(self.settings.rate)
+        self.released(now).slot(self.settings.rate)
+    }
+
+    /// The most slots that are due at once.
+    fn most_due(&self) -> u64
+        ensures { 0 < result }
+    {
+        u64::from(self.settings.rate.frames) * (1 + u64::from(self.settings.faults.backlog))
     }
 
     /// Skips the data frames that are due at an instant: the peer does not take them.
@@ -246,20 +285,24 @@ impl Source {
         self.sending = Some(self.last_due(now).max(last));
     }
 
-    /// Adds the data frame of a slot, unless a fault leaves it out.
+    /// Adds the data frame of a slot, unless a fault leaves it out, behind CFG-2 where that is due.
     fn add_data(&mut self, slot: u64, out: &mut Vec<u8>) -> Result<(), Refusal>
         ensures { self.new.sending ≡ self.old.sending }
     {
         let rate = u64::from(self.settings.rate.frames);
         let faults = self.settings.faults;
-        if is_silent(slot / rate, faults.silence)
-            || slot / rate > u64::from(u32::MAX)
-            || happens(slot, 1, faults.drop)
-        {
+        if slot / rate > u64::from(u32::MAX) {
             self.counts.left_out = self.counts.left_out.saturating_add(1);
             return Ok(());
         }
-        let mut frame = data_frame(self.alloc, &self.settings, slot)?;
+        let (soc, frac) = stamp_of(self.settings.rate.frames, TIME_BASE, slot);
+        let at = UnixTime::new(soc, frac);
+        self.announce(at, out)?;
+        if is_silent(slot / rate, faults.silence) || happens(slot, 1, faults.drop) {
+            self.counts.left_out = self.counts.left_out.saturating_add(1);
+            return Ok(());
+        }
+        let mut frame = data_frame(self.alloc, &self.settings, self.start, at)?;
         if happens(slot, 2, faults.wrong_check) {
             if let Some(last) = frame.last_mut() {
                 *last = !*last;
@@ -271,18 +314,21 @@ impl Source {
         Ok(())
     }
 
-    /// How many microseconds there are until the next data frame is due, none while data is off: at most a second and the delay
-    /// of the fault `late`.
-    pub fn until_due(&self, now: UnixTime) -> Option<u64> {
+    /// How many microseconds there are until the next data frame is due, none while data is off: at most a second and what the faults
+    /// `late` and `backlog` hold back.
+    pub fn until_due(&self, now: UnixTime) -> Option<u64>
+        ensures { is_some result ≡ is_some self.now.sending }
+    {
         let last = self.sending?;
         let rate = u64::from(self.settings.rate.frames);
         let next = last.saturating_add(1);
         let start = (next / rate)
             .saturating_mul(1_000_000)
             .saturating_add((next % rate * 1_000_000).div_ceil(rate));
+        let sent = self.settings.faults.sent_at(UnixTime { micros: start });
         let late = u64::from(self.settings.faults.late) * 1_000;
         Some(
-            start
+            sent.micros
                 .saturating_add(late)
                 .saturating_sub(self.clock(now).micros),
         )
@@ -301,12 +347,13 @@ fn after_command(sending: Option<u64>, word: Word, slot: u64) -> Option<u64>
     }
 }
 
-/// The first slot that is due behind `last`, where `end` is the last one: a second of slots at most.
-fn first_due(last: u64, end: u64, rate: Rate) -> u64
-    ensures { last + 1 < 2 ^ 64 → result ≡ least_slot last end rate.frames }
+/// The first slot that is due behind `last`, where `end` is the last one and at most so many are due.
+fn first_due(last: u64, end: u64, most: u64) -> u64
+    requires { 0 < most }
+    ensures { last + 1 < 2 ^ 64 → result ≡ least_slot last end most }
 {
     let next = last.saturating_add(1);
-    let least = end.saturating_sub(u64::from(rate.frames) - 1);
+    let least = end.saturating_sub(most - 1);
     if next < least { least } else { next }
 }
 
@@ -372,24 +419,29 @@ fn config_frame(
     Ok(frame)
 }
 
-/// The data frame of a slot, with the values of the slot's instant and a locked clock.
-fn data_frame(alloc: Global, settings: &Settings, slot: u64) -> Result<Vec<u8>, Refusal>
-    requires { slot / settings.now.rate.frames < 2 ^ 32 }
-{
-    let (soc, frac) = stamp_of(settings.rate.frames, TIME_BASE, slot);
+/// The data frame of an instant, of a source that began at `start`, both by its own clock.
+fn data_frame(
+    alloc: Global,
+    settings: &Settings,
+    start: UnixTime,
+    at: UnixTime,
+) -> Result<Vec<u8>, Refusal> {
+    let faults = settings.faults;
     let blocks = u16::from(settings.numbers.pmus) * settings.channels.block_len();
     let head = Head {
         kind: Kind::Measured,
         version: 2,
         size: AROUND_BODY as u16 + blocks,
         id: settings.numbers.first,
-        soc,
-        quality: 0,
-        frac,
+        soc: at.soc(),
+        quality: faults.quality_at(start, at),
+        frac: at.fraction(),
     };
     let mut frame = start_frame(alloc, &head)?;
+    let stat = faults.stat_at(start, at);
+    let configuration = faults.configuration_at(at);
     for pmu in 0..settings.numbers.pmus {
-        add_measured(&mut frame, settings, UnixTime::new(soc, frac), pmu)?;
+        add_measured(&mut frame, settings, at, pmu, stat, configuration)?;
     }
     frame.reserve(2)?;
     end_frame(&mut frame);

@@ -7,6 +7,7 @@ mod dialogues;
 mod ends;
 mod expected_frames;
 mod expected_streams;
+mod faults;
 mod passing;
 mod phases;
 mod signals;

@@ -14,7 +14,8 @@ const SOC: u32 = 1_700_000_045;
 // The demo's source at this place, started, and its frames of so many microseconds.
 fn frames(rt: &impl Abort, alloc: Global, place: u8, micros: u32) -> Vec<u8> {
     let settings = demo_settings(place).expect(rt, "settings");
-    let mut source = Source::new(alloc, settings).expect(rt, "memory");
+    let start = UnixTime::new(SOC, 0);
+    let mut source = Source::new(alloc, settings, start).expect(rt, "memory");
     let number = PmuId::new(settings.numbers.first).expect(rt, "a number");
     let mut out = Vec::new(alloc);
     source.feed(&write_command(number, SOC, 2));

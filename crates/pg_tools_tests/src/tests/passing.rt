@@ -18,7 +18,8 @@ fn passed_frames(rt: HostRuntime) {
         late: 1_000,
         ..Faults::NONE
     };
-    let mut source = Source::new(alloc, settings(&rt, late)).expect(&rt, "memory");
+    let start = UnixTime::new(SOC, 0);
+    let mut source = Source::new(alloc, settings(&rt, late), start).expect(&rt, "memory");
     let mut out = Vec::new(alloc);
     source.feed(&write_command(PmuId::new(7).expect(&rt, "a number"), SOC, 2));
     let event = source

@@ -21,7 +21,8 @@ pub fn settings(rt: &impl Abort, faults: Faults) -> Settings {
 // digital word.
 fn block(rt: &impl Abort, alloc: Global, at: UnixTime, pmu: u8) -> Vec<u8> {
     let mut out = Vec::new(alloc);
-    add_measured(&mut out, &settings(rt, Faults::NONE), at, pmu).expect(rt, "memory");
+    let settings = settings(rt, Faults::NONE);
+    add_measured(&mut out, &settings, at, pmu, 0, 0).expect(rt, "memory");
     out
 }
 
