@@ -154,6 +154,8 @@ def expected_by(name):
         elif words[0] == "stream":
             labels = f'{{subscriber="{words[1]}",stream="{words[2]}"}}'
             effective, members = words[5].split("/")
+            for place, cause in (7, "complete"), (9, "wait"), (11, "window"), (13, "change"):
+                want[f'pdcgw_stream_frames_total{labels[:-1]},cause="{cause}"}}'] = float(words[place])
             want[f"pdcgw_stream_on{labels}"] = float(words[3] == "on")
             want[f"pdcgw_stream_effective_members{labels}"] = float(effective)
             want[f"pdcgw_stream_members{labels}"] = float(members)

@@ -529,14 +529,16 @@ def test_status_and_metrics_are_the_same(bench):
     # The page shows what was taken in the last second.
     time.sleep(1.1)
     status = gateway.answer("status")
-    same(len(status), 9)
+    same(len(status), 10)
     same([it.rpartition(" last ")[0] for it in (status[0], status[2])],
          [f"source 7 {pair.seven.address} up frames 4 events 4 ignored -", f"source 9 {pair.nine.address} up frames 4 events 4 ignored -"])
     # A CFG-2 of one PMU with a phasor has 74 bytes, a data frame 26. Stream 2001 is off.
     same([it.partition(" delay ")[0] for it in (status[1], status[3])], ['pmu 7/7 "PMU 7" 30/s got 100.0%', 'pmu 9/9 "PMU 9" 30/s got 100.0%'])
     same(status[4:], [f"subscriber 1 {pair.ports[0]} connected {first.name} made 3 dropped 0 lost 0 late 0 twice 0 handed 152 queue 0 0",
                       f"subscriber 20 {pair.ports[1]} connected {second.name} made 2 dropped 0 lost 0 late 1 twice 0 handed 126 queue 0 0",
-                      "stream 1 101 on members 1/1", "stream 20 2000 on members 1/1", "stream 20 2001 off members 1/1"])
+                      "stream 1 101 on members 1/1 complete 3 waited 0 pushed 0 changed 0",
+                      "stream 20 2000 on members 1/1 complete 2 waited 0 pushed 0 changed 0", "missing 9/9 0 late 1",
+                      "stream 20 2001 off members 1/1 complete 0 waited 0 pushed 0 changed 0"])
     same([it.partition(" last ")[0] for it in gateway.ctl("status")[1].splitlines()], [it.partition(" last ")[0] for it in status])
     shown = metrics(page)
     for name, value in (('pdcgw_source_up{source="7"}', 1), ('pdcgw_source_frames_total{source="7"}', 4),

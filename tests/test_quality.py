@@ -272,7 +272,7 @@ def test_each_fault_moves_its_own_measure(bench):
     for number, (words, own) in FAULTY.items():
         same(measures(gateway, page, number), {**NO_FAULT, **own}, f"{words}:")
     status = gateway.status()
-    same({number: status[f"stream {number} 100"].split()[-1] for number in FAULTY}, dict.fromkeys(FAULTY, "1/1"))
+    same({number: status[f"stream {number} 100"].split()[5] for number in FAULTY}, dict.fromkeys(FAULTY, "1/1"))
     for number, wanted in ((21, " sync locked stat c000 "), (22, " sync locked stat 0803 "), (23, " sync within-10us stat 0000 "),
                            (24, " nosync within-100us stat 2110 "), (27, " 60/s got 100.0% "), (28, " sync locked stat 0000 ")):
         expect(wanted in status[f"pmu {number}/{number}"], f"{wanted} in {status[f'pmu {number}/{number}']}")

@@ -19,12 +19,21 @@ source 65534 - pause - frames 0 events 0 ignored - last -
 pmu 65534/65534 - - not announced
 subscriber 1 {port} connected {client} made 9 dropped 3 lost 0 late 6 twice 3 handed 528 queue 0 0
 subscriber 65535 - waiting N made 0 dropped 0 lost 0 late 0 twice 0 handed 0 queue 0 0
-stream 1 101 on members 1/1
-stream 1 102 on members 2/3
-stream 1 103 on members 1/1
-stream 65535 7 off members 0/1
+stream 1 101 on members 1/1 complete 3 waited 0 pushed 0 changed 0
+missing 7/7 0 late 3
+stream 1 102 on members 2/3 complete 1 waited 2 pushed 0 changed 0
+missing 8/8 2 late 0
+absent 9/9 not announced
+stream 1 103 on members 1/1 complete 3 waited 0 pushed 0 changed 0
+missing 7/7 0 late 3
+stream 65535 7 off members 0/1 complete 0 waited 0 pushed 0 changed 0
+absent 9/9 not announced
 """
 ONE, TWO = 'subscriber="1"', 'subscriber="65535"'
+# Each stream's frames by why they left, and its members' fillers and late blocks. Slots of stream 102 leave by their wait where source 8 sent nothing.
+CAUSES = {f'{ONE},stream="101"': (3, 0), f'{ONE},stream="102"': (1, 2), f'{ONE},stream="103"': (3, 0), f'{TWO},stream="7"': (0, 0)}
+MEMBERS = {f'{ONE},stream="101",member="7/7"': (0, 3), f'{ONE},stream="102",member="7/7"': (0, 0), f'{ONE},stream="102",member="8/8"': (2, 0),
+           f'{ONE},stream="102",member="9/9"': (0, 0), f'{ONE},stream="103",member="7/7"': (0, 3), f'{TWO},stream="7",member="9/9"': (0, 0)}
 PMUS = ('source="7",pmu="7",station="PMU 7"', 'source="8",pmu="8",station="PMU 8"')
 FLAGS = ("pmu_error", "test_or_absent", "do_not_use", "out_of_sync", "by_arrival", "triggered", "config_change", "modified")
 # The bounds of delays in seconds, of which that of each frame is above all but one.
@@ -76,6 +85,15 @@ METRICS = [
      {f'{ONE},stream="101"': 1, f'{ONE},stream="102"': 2, f'{ONE},stream="103"': 1, f'{TWO},stream="7"': 0}),
     ("stream_members", "gauge", "Members of the stream.",
      {f'{ONE},stream="101"': 1, f'{ONE},stream="102"': 3, f'{ONE},stream="103"': 1, f'{TWO},stream="7"': 1}),
+    ("stream_frames_total", "counter",
+     "Data frames of the stream since it was defined, by why they left: complete, wait, window, or a change of its configuration.",
+     {f'{key},cause="{cause}"': count for key, counts in CAUSES.items() for cause, count in zip(("complete", "wait", "window", "change"), (*counts, 0, 0))}),
+    ("stream_absent_member", "gauge", "1 for each member that the frames of the stream do not carry: not registered, not granted or not announced.",
+     {f'{key},member="9/9",reason="not announced"': 1 for key in (f'{ONE},stream="102"', f'{TWO},stream="7"')}),
+    ("stream_member_missing_frames_total", "counter", "Data frames of the stream with a filler in place of the member's block.",
+     {key: missing for key, (missing, late) in MEMBERS.items()}),
+    ("stream_member_late_blocks_total", "counter", "Blocks of the member that came for a slot which had left.",
+     {key: late for key, (missing, late) in MEMBERS.items()}),
 ]
 # The bounds of the ages in seconds, and how many of the six frames are as old at most: each is more than 2 and less than 5 seconds old.
 AGES = [("0.005000", 0), ("0.010000", 0), ("0.020000", 0), ("0.050000", 0), ("0.100000", 0), ("0.200000", 0), ("0.500000", 0), ("1.000000", 0),
@@ -100,8 +118,16 @@ STATE = """\
 "queue_frames":0,"queue_bytes":0,"seconds":SECONDS},\
 {"subscriber":65535,"port":null,"address":null,"waiting":N,"made":0,"dropped":0,"lost":0,"late":0,"twice":0,"handed":0,"gaps":0,\
 "queue_frames":0,"queue_bytes":0,"seconds":SECONDS}],\
-"streams":[{"subscriber":1,"stream":101,"on":true,"effective":1,"members":1},{"subscriber":1,"stream":102,"on":true,"effective":2,"members":3},\
-{"subscriber":1,"stream":103,"on":true,"effective":1,"members":1},{"subscriber":65535,"stream":7,"on":false,"effective":0,"members":1}]}"""
+"streams":[\
+{"subscriber":1,"stream":101,"on":true,"effective":1,"members":1,"complete":3,"waited":0,"pushed":0,"changed":0,\
+"pmus":[{"source":7,"pmu":7,"missing":0,"late":3,"absent":null}]},\
+{"subscriber":1,"stream":102,"on":true,"effective":2,"members":3,"complete":1,"waited":2,"pushed":0,"changed":0,\
+"pmus":[{"source":7,"pmu":7,"missing":0,"late":0,"absent":null},{"source":8,"pmu":8,"missing":2,"late":0,"absent":null},\
+{"source":9,"pmu":9,"missing":0,"late":0,"absent":"not announced"}]},\
+{"subscriber":1,"stream":103,"on":true,"effective":1,"members":1,"complete":3,"waited":0,"pushed":0,"changed":0,\
+"pmus":[{"source":7,"pmu":7,"missing":0,"late":3,"absent":null}]},\
+{"subscriber":65535,"stream":7,"on":false,"effective":0,"members":1,"complete":0,"waited":0,"pushed":0,"changed":0,\
+"pmus":[{"source":9,"pmu":9,"missing":0,"late":0,"absent":"not announced"}]}]}"""
 
 # What is said of a source of which no data frame came, and of a PMU; the stations' names are masked.
 NONE = """{"rate":0,"minute":null,"hour":null,"expected":0,"received":0,"repeated":0,"out_of_order":0,"spans":0,"delay":null,"time":null}"""

@@ -15,11 +15,12 @@ def frame(kind, idcode, soc, frac, body):
 
 
 def configuration(source, pmus, rate, phasors=1, soc=None, count=0, frac=0, station=b"PMU %-12d"):
-    """CFG-2: `count` is the CFGCNT of each PMU, `station` its STN by its number."""
+    """CFG-2: `count` is the CFGCNT of each PMU, `station` its STN by its number: a format, or a function."""
     body = struct.pack(">IH", BASE, len(pmus))
     for pmu in pmus:
         names = b"".join(b"PH%-14d" % at for at in range(phasors))
-        body += station % pmu + struct.pack(">HHHHH", pmu, 0, phasors, 0, 0) + names + bytes(4 * phasors) + struct.pack(">HH", 0, count)
+        name = station(pmu) if callable(station) else station % pmu
+        body += name + struct.pack(">HHHHH", pmu, 0, phasors, 0, 0) + names + bytes(4 * phasors) + struct.pack(">HH", 0, count)
     return frame(CONFIG_2, source, int(time.time()) if soc is None else soc, frac, body + struct.pack(">h", rate))
 
 

@@ -92,7 +92,7 @@ def lines():
 
 
 def metrics():
-    listed = set(re.findall(r'"(pdcgw_\w+)"', source("pg_status", "metrics") + source("pg_status", "quality_metrics")))
+    listed = set(re.findall(r'"(pdcgw_\w+)"', source("pg_status", "metrics") + source("pg_status", "quality_metrics") + source("pg_status", "stream_metrics")))
     told = set()
     for cells in rows(section("docs/OPERATING.md", "## The page and the metrics")):
         start = ""

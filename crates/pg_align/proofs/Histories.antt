@@ -231,7 +231,7 @@ module _ {X : Type 0} where
 
   take_late : (h : StreamHistory X) (slot place : ℕ) (part : X) (u : Bool) → is_above h.last slot ≡ u → IsSound h → h.is_on ≡ true → place < length h.effective → Takes (seen_of h) h slot place part
   take_late h slot place part true up s on l = take_twice h slot place part _ refl s up on l
-  take_late h slot place part false up s on l = rw up (refl, record { sound = s; same = refl })
+  take_late h slot place part false up s on l = rw up (refl, record { sound = record { by_now = s.by_now; off = s.off }; same = refl })
 
   -- whatever history a stream shows, what it makes of an arrival is that history's
   pub Shows-arrival : (a : Aligned X) (h : StreamHistory X) (slot place : ℕ) (part : X) → Shows a h → IsTrue a.is_on → place < length a.effective → (answer_at a slot place ≡ answer_to h slot place) × Shows (with_arrival a slot place part) (take_arrival h slot place part)

@@ -5,6 +5,7 @@ use Rattle.pg_align.specs.Slots.{AreFree, AreRising, HavePlaces}
 use Rattle.pg_align.specs.Fields.{AlignIsKept, AreAbove, AreCounted, AreSpare, slot_of, slots_of}
 use Rattle.pg_align.proofs.Kept.{AreAbove-none, AreBeforeLent-push}
 use Rattle.pg_align.specs.declared.slot.Slot.{Slot}
+use Rattle.pg_align.specs.declared.counts.SlotCounts.{SlotCounts}
 use Rattle.pg_align.specs.declared.align.Align.TheInside.{Inside}
 
 -- the slot that was lent was taken back
@@ -38,8 +39,8 @@ kept_back a lent spare k t = record {
 }
 
 -- the least slot left, and is lent
-pub kept_least : (a : Inside) (lent : Bool) (slots before spare : Vec Slot) (least : Slot) → AlignIsKept a → TakenBack a lent before → a.slots.items ≡ least ∷ slots.items → slots_of a.slots.items ≡ slot_of least ∷ slots_of slots.items → length a.slots.items ≡ length slots.items + 1 → vec_capacity slots ≡ vec_capacity a.slots → spare.items ≡ before.items ++ least ∷ [] → length spare.items ≡ length before.items + 1 → vec_capacity spare ≡ vec_capacity before → AlignIsKept (record a { last = Some least.number; slots = slots; spare = spare; lent = true })
-kept_least a lent slots before spare least k t whole split len capacity pushed more room =
+pub kept_least : (a : Inside) (lent : Bool) (slots before spare : Vec Slot) (least : Slot) (counts : SlotCounts) → AlignIsKept a → TakenBack a lent before → a.slots.items ≡ least ∷ slots.items → slots_of a.slots.items ≡ slot_of least ∷ slots_of slots.items → length a.slots.items ≡ length slots.items + 1 → vec_capacity slots ≡ vec_capacity a.slots → spare.items ≡ before.items ++ least ∷ [] → length spare.items ≡ length before.items + 1 → vec_capacity spare ≡ vec_capacity before → AlignIsKept (record a { last = Some least.number; slots = slots; spare = spare; lent = true; counts = counts })
+kept_least a lent slots before spare least counts k t whole split len capacity pushed more room =
     let places = rw split at k.slots_places in
     let rising = rw split at k.rising in
     let counted = rw whole at k.counted in
@@ -62,8 +63,8 @@ kept_least a lent slots before spare least k t whole split len capacity pushed m
     }
 
 -- the slots of a stream that is on are others, as many with those that are free
-pub kept_arrival : (a : Inside) (lent : Bool) (slots before spare : Vec Slot) → AlignIsKept a → TakenBack a lent before → a.is_on ≡ true → length slots.items + length spare.items ≡ length a.slots.items + length before.items → vec_capacity slots ≡ vec_capacity a.slots → vec_capacity spare ≡ vec_capacity before → HavePlaces (length a.effective.items) (slots_of slots.items) → AreRising (slots_of slots.items) → AreAbove a.last (slots_of slots.items) → AreCounted a.effective.items slots.items → AreFree (length a.effective.items) (slots_of spare.items) → AlignIsKept (record a { slots = slots; spare = spare; lent = lent })
-kept_arrival a lent slots before spare k t on count slots_room spare_room places rising above counted free = record {
+pub kept_arrival : (a : Inside) (lent : Bool) (slots before spare : Vec Slot) (counts : SlotCounts) → AlignIsKept a → TakenBack a lent before → a.is_on ≡ true → length slots.items + length spare.items ≡ length a.slots.items + length before.items → vec_capacity slots ≡ vec_capacity a.slots → vec_capacity spare ≡ vec_capacity before → HavePlaces (length a.effective.items) (slots_of slots.items) → AreRising (slots_of slots.items) → AreAbove a.last (slots_of slots.items) → AreCounted a.effective.items slots.items → AreFree (length a.effective.items) (slots_of spare.items) → AlignIsKept (record a { slots = slots; spare = spare; lent = lent; counts = counts })
+kept_arrival a lent slots before spare counts k t on count slots_room spare_room places rising above counted free = record {
   some_window = k.some_window;
   small_window = k.small_window;
   small_wait = k.small_wait;

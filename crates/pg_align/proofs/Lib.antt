@@ -6,4 +6,5 @@ pub mod Arriving
 pub mod Numbers
 pub mod Histories
 pub mod Leaving
+pub mod Looking
 pub mod Rising

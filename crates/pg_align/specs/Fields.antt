@@ -48,6 +48,7 @@ aligned_of a =
       is_on = a.is_on;
       last = a.last;
       slots = slots_of a.slots.items;
+      counts = a.counts;
     }
 
 pub record AlignIsKept (a : Inside) : Type 0 where

@@ -1,5 +1,8 @@
 -- A stream by the list of all arrivals that it kept in this on-period. The part that an arrival brings may be anything.
 use Rattle.std.specs.Prelude.{◌≡◌, ℕ, zero, suc, ◌+◌, ◌-◌, IsTrue, Bool, true, false, ◌&&◌, ◌||◌, ◌==◌, not, is_some, nat_lt, nat_le, if◌then◌else◌, List, [], ◌∷◌, length, replicate, Option, Some, None, unwrap_or}
+use Rattle.pg_align.specs.Counts.{Past, left_for, came_late}
+use Rattle.pg_align.specs.declared.counts.Cause.{Cause}
+use Rattle.pg_align.specs.declared.counts.Cause.TheVariants.{Complete, Waited, Pushed, Changed}
 use Rattle.pg_align.specs.declared.answer.Arrived.{Arrived}
 use Rattle.pg_align.specs.declared.answer.Arrived.TheVariants.{Kept, Late, Twice}
 
@@ -11,7 +14,8 @@ pub record Arrival (X : Type 0) : Type 0 where
   pub tick : ℕ
 
 -- a stream: its window and wait, which members are effective (a Bool for each), whether it is on, the last slot that left
--- in this on-period, the arrivals kept in it, the newest first, and the ticks so far
+-- in this on-period, the arrivals kept in it, the newest first, the ticks so far, and all since it was defined that its counts look back on,
+-- the newest first
 pub record StreamHistory (X : Type 0) : Type 0 where
   pub window : ℕ
   pub wait : ℕ
@@ -20,6 +24,7 @@ pub record StreamHistory (X : Type 0) : Type 0 where
   pub last : Option ℕ
   pub arrivals : List (Arrival X)
   pub ticks : ℕ
+  pub past : List (Past X)
 
 -- a slot that left, and for each member what had come for it
 pub record Departed (X : Type 0) : Type 0 where
@@ -64,7 +69,7 @@ has_all (wanted ∷ effective) (part ∷ parts) = (is_some part || not wanted) &
 -- a stream that was just defined: it is off, and no member is effective
 abbrev pub opening : {X : Type 0} → ℕ → ℕ → ℕ → StreamHistory X
 opening window wait members =
-    record { window = window; wait = wait; effective = replicate members false; is_on = false; last = None; arrivals = []; ticks = 0 }
+    record { window = window; wait = wait; effective = replicate members false; is_on = false; last = None; arrivals = []; ticks = 0; past = [] }
 
 module _ {X : Type 0} where
   -- what came for a slot and a place
@@ -116,9 +121,13 @@ module _ {X : Type 0} where
   abbrev pub departed : StreamHistory X → ℕ → Departed X
   departed h slot = record { slot = slot; parts = parts_for h slot }
 
-  -- the slot has left
-  abbrev pub left : StreamHistory X → ℕ → StreamHistory X
-  left h slot = record h { last = Some slot }
+  -- why the slot is to leave
+  abbrev pub cause_of : StreamHistory X → ℕ → Cause
+  cause_of h slot = if is_complete h slot then Complete else (if is_due h slot then Waited else Pushed)
+
+  -- the slot has left, for this cause
+  abbrev pub left : StreamHistory X → Cause → ℕ → StreamHistory X
+  left h cause slot = record h { last = Some slot; past = left_for cause h.effective (parts_for h slot) ∷ h.past }
 
   -- An arrival is late where its slot is at or below the last one that left, else twice where one of its slot and place
   -- was kept, else it is kept.
@@ -131,10 +140,14 @@ module _ {X : Type 0} where
   keep_arrival h slot place part =
       record h { arrivals = record { slot = slot; place = place; part = part; tick = h.ticks } ∷ h.arrivals }
 
-  -- an arrival comes: it is kept, or changes nothing
+  -- an arrival was late
+  abbrev pub with_late : StreamHistory X → ℕ → StreamHistory X
+  with_late h place = record h { past = came_late place ∷ h.past }
+
+  -- An arrival comes: it is kept, or only looked back on as late, or, where it comes twice, changes nothing.
   abbrev pub take_arrival : StreamHistory X → ℕ → ℕ → X → StreamHistory X
   take_arrival h slot place part =
-      if not (is_above h.last slot) then h else (if is_some (arrived h.arrivals slot place) then h else keep_arrival h slot place part)
+      if not (is_above h.last slot) then with_late h place else (if is_some (arrived h.arrivals slot place) then h else keep_arrival h slot place part)
 
   -- one tick more
   abbrev pub ticked : StreamHistory X → StreamHistory X
@@ -163,7 +176,7 @@ module _ {X : Type 0} where
 
   abbrev pub leave_least : StreamHistory X → List ℕ → StreamHistory X
   leave_least h [] = h
-  leave_least h (slot ∷ slots) = if is_to_leave h (slot ∷ slots) then left h slot else h
+  leave_least h (slot ∷ slots) = if is_to_leave h (slot ∷ slots) then left h (cause_of h slot) slot else h
 
   -- it has left, if one was to leave
   abbrev pub leave_one : StreamHistory X → StreamHistory X
@@ -175,7 +188,7 @@ module _ {X : Type 0} where
   leave_in_turn h [] = record { frames = []; after = h }
   leave_in_turn h (slot ∷ slots) =
       if is_to_leave h (slot ∷ slots)
-      then with_first (departed h slot) (leave_in_turn (left h slot) slots)
+      then with_first (departed h slot) (leave_in_turn (left h (cause_of h slot) slot) slots)
       else record { frames = []; after = h }
 
   -- all that are to leave leave
@@ -192,7 +205,7 @@ module _ {X : Type 0} where
 
   abbrev pub flush_least : StreamHistory X → List ℕ → StreamHistory X
   flush_least h [] = h
-  flush_least h (slot ∷ slots) = left h slot
+  flush_least h (slot ∷ slots) = left h Changed slot
 
   -- it has left
   abbrev pub flush_one : StreamHistory X → StreamHistory X
@@ -201,7 +214,7 @@ module _ {X : Type 0} where
   -- these open slots all leave, rising
   abbrev pub flush_in_turn : StreamHistory X → List ℕ → Departures X (StreamHistory X)
   flush_in_turn h [] = record { frames = []; after = h }
-  flush_in_turn h (slot ∷ slots) = with_first (departed h slot) (flush_in_turn (left h slot) slots)
+  flush_in_turn h (slot ∷ slots) = with_first (departed h slot) (flush_in_turn (left h Changed slot) slots)
 
   -- all open slots leave, rising
   abbrev pub flush_all : StreamHistory X → Departures X (StreamHistory X)

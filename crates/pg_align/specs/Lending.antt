@@ -2,7 +2,7 @@
 use Rattle.std.specs.Prelude.{◌≡◌, ⊤}
 use Rattle.std.specs.Borrow.{follows_so, MutBor, Fml}
 use mathlib.Core.Option.{none}
-use Rattle.pg_align.specs.Slots.{after_leaving, without_least}
+use Rattle.pg_align.specs.Slots.{after_leaving, after_flush}
 use Rattle.pg_align.specs.declared.align.Align.{Align}
 use Rattle.pg_align.specs.contracts.align.Align.{the_row}
 
@@ -12,4 +12,4 @@ LendsLeaving a = follows_so the_row the_row a.ghost_name none (λ _ _. ⊤) (λ 
 
 -- once the borrow ends, the least slot has left if one was open
 abbrev pub LendsLeast : MutBor Align → Fml
-LendsLeast a = follows_so the_row the_row a.ghost_name none (λ _ _. ⊤) (λ last. last ≡ without_least a.now)
+LendsLeast a = follows_so the_row the_row a.ghost_name none (λ _ _. ⊤) (λ last. last ≡ after_flush a.now)

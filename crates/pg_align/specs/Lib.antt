@@ -6,4 +6,5 @@ pub mod Slots
 pub mod Shown
 pub mod Lending
 -- Only private contracts and proofs use this: what the fields mean, and what they keep.
+pub mod Counts
 pub mod Fields

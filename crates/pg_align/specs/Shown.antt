@@ -2,6 +2,7 @@
 use Rattle.std.specs.Prelude.{◌≡◌, ℕ, ◌-◌, ◌≤◌, false, List, [], ◌∷◌, map}
 use Rattle.pg_align.specs.Histories.{Arrival, StreamHistory, open_slots, parts_for, ticks_since}
 use Rattle.pg_align.specs.Slots.{OpenSlot, Aligned}
+use Rattle.pg_align.specs.Counts.{counts_of}
 
 module _ {X : Type 0} where
   abbrev pub slot_seen : StreamHistory X → ℕ → OpenSlot X
@@ -16,6 +17,7 @@ module _ {X : Type 0} where
         is_on = h.is_on;
         last = h.last;
         slots = map (slot_seen h) (open_slots h);
+        counts = counts_of h.past;
       }
 
   -- each arrival had come by this tick

@@ -1,6 +1,10 @@
 -- A stream's open slots as they stand, and what each call makes of them.
 use Rattle.std.specs.Prelude.{suc, ◌≡◌, ◌<◌, ℕ, ◌-◌, Bool, true, false, ◌||◌, ◌==◌, nat_lt, not, is_some, if◌then◌else◌, List, [], ◌∷◌, length, map, replicate, slice_get, slice_set, Option, Some, None, slice_index_or}
 use Rattle.pg_align.specs.Histories.{Departed, Departures, with_first, is_above, has_all}
+use Rattle.pg_align.specs.Counts.{counted_late, counted_left, no_counts, raised}
+use Rattle.pg_align.specs.declared.counts.Cause.{Cause}
+use Rattle.pg_align.specs.declared.counts.Cause.TheVariants.{Complete, Waited, Pushed, Changed}
+use Rattle.pg_align.specs.declared.counts.SlotCounts.{SlotCounts}
 use Rattle.pg_align.specs.declared.answer.Arrived.{Arrived}
 use Rattle.pg_align.specs.declared.answer.Arrived.TheVariants.{Kept, Late, Twice}
 
@@ -10,7 +14,8 @@ pub record OpenSlot (X : Type 0) : Type 0 where
   pub ticks_left : ℕ
   pub parts : List (Option X)
 
--- a stream: its window and wait, its effective members, whether it is on, the last slot that left, and its open slots, rising
+-- a stream: its window and wait, its effective members, whether it is on, the last slot that left, its open slots, rising, and the counts of those
+-- that left since it was defined
 pub record Aligned (X : Type 0) : Type 0 where
   pub window : ℕ
   pub wait : ℕ
@@ -18,11 +23,12 @@ pub record Aligned (X : Type 0) : Type 0 where
   pub is_on : Bool
   pub last : Option ℕ
   pub slots : List (OpenSlot X)
+  pub counts : SlotCounts
 
 -- a stream that was just defined
 abbrev pub none_open : {X : Type 0} → ℕ → ℕ → ℕ → Aligned X
 none_open window wait members =
-    record { window = window; wait = wait; effective = replicate members false; is_on = false; last = None; slots = [] }
+    record { window = window; wait = wait; effective = replicate members false; is_on = false; last = None; slots = []; counts = no_counts }
 
 module _ {X : Type 0} where
   -- the part of a slot at a place, if it is open and has one
@@ -64,9 +70,12 @@ module _ {X : Type 0} where
   abbrev pub with_kept : Aligned X → ℕ → ℕ → X → Aligned X
   with_kept a slot place part = record a { slots = with_part (opened a slot place part) place part a.slots }
 
+  abbrev pub with_late : Aligned X → ℕ → Aligned X
+  with_late a place = record a { counts = counted_late place a.counts }
+
   abbrev pub with_arrival : Aligned X → ℕ → ℕ → X → Aligned X
   with_arrival a slot place part =
-      if not (is_above a.last slot) then a else (if is_some (part_at a.slots slot place) then a else with_kept a slot place part)
+      if not (is_above a.last slot) then with_late a place else (if is_some (part_at a.slots slot place) then a else with_kept a slot place part)
 
   -- the stream is on; where it was off, no slot has left yet
   abbrev pub with_start : Aligned X → Aligned X
@@ -113,21 +122,36 @@ module _ {X : Type 0} where
   abbrev pub flushed_of : Aligned X → Option (Departed X)
   flushed_of a = least_of a.slots
 
+  -- why an open slot is to leave
+  abbrev pub cause_at : List Bool → OpenSlot X → Cause
+  cause_at effective slot = if has_all effective slot.parts then Complete else (if slot.ticks_left == 0 then Waited else Pushed)
+
+  -- of a stream that then has these open slots, one has left for this cause
+  abbrev pub with_left : Cause → Aligned X → OpenSlot X → List (OpenSlot X) → Aligned X
+  with_left cause a least slots =
+      record a { last = Some least.slot; slots = slots; counts = counted_left cause a.effective least.parts a.counts }
+
+  -- the least of these open slots has left by itself
   abbrev pub without_first : Aligned X → List (OpenSlot X) → Aligned X
   without_first a [] = a
-  without_first a (least ∷ slots) = record a { last = Some least.slot; slots = slots }
+  without_first a (least ∷ slots) = with_left (cause_at a.effective least) a least slots
 
-  -- the least open slot has left
-  abbrev pub without_least : Aligned X → Aligned X
-  without_least a = without_first a a.slots
+  -- it has left by a flush
+  abbrev pub flushed_first : Aligned X → List (OpenSlot X) → Aligned X
+  flushed_first a [] = a
+  flushed_first a (least ∷ slots) = with_left Changed a least slots
+
+  -- the least open slot has left by a flush
+  abbrev pub after_flush : Aligned X → Aligned X
+  after_flush a = flushed_first a a.slots
 
   -- it has left, if it was to leave
   abbrev pub after_leaving : Aligned X → Aligned X
-  after_leaving a = if is_leaving a then without_least a else a
+  after_leaving a = if is_leaving a then without_first a a.slots else a
 
-  -- a slot has left that was never open
+  -- a slot has left that was never open, with the parts of all effective members
   abbrev pub with_last : Aligned X → ℕ → Aligned X
-  with_last a slot = record a { last = Some slot }
+  with_last a slot = record a { last = Some slot; counts = raised Complete a.counts }
 
   -- The least of these open slots have left, one after another, while each was to leave.
   abbrev pub all_leaving_of : Aligned X → List (OpenSlot X) → Departures X (Aligned X)
@@ -144,7 +168,7 @@ module _ {X : Type 0} where
   -- these open slots have all left
   abbrev pub all_flushed_of : Aligned X → List (OpenSlot X) → Departures X (Aligned X)
   all_flushed_of a [] = record { frames = []; after = a }
-  all_flushed_of a (least ∷ slots) = with_first (front_of least) (all_flushed_of (without_first a (least ∷ slots)) slots)
+  all_flushed_of a (least ∷ slots) = with_first (front_of least) (all_flushed_of (flushed_first a (least ∷ slots)) slots)
 
   -- all open slots, and what is left behind
   abbrev pub all_flushed : Aligned X → Departures X (Aligned X)

@@ -4,15 +4,17 @@ ghost use Rattle.std.specs.Borrow.{sem};
 ghost use Rattle.pg_data.specs.Pieces.{Piece};
 ghost use Rattle.pg_stream.specs.Limits.{IsWithinLimits};
 ghost use Rattle.pg_align.specs.Histories.{Departed, StreamHistory, answer_to, is_above, discarded, next_to_flush, next_to_leave, open_slots, opening, reshaped, started, take_arrival, ticked};
-ghost use Rattle.pg_align.specs.Slots.{Aligned, HavePlaces, answer_at, flushed_of, front_of, head_with, least_of, leaves_now, leaving_of, none_open, others_than, with_arrival, with_last, with_none, with_shape, with_start, with_tick};
+ghost use Rattle.pg_align.specs.Slots.{Aligned, HavePlaces, answer_at, flushed_of, front_of, head_with, least_of, leaves_now, leaving_of, none_open, others_than, with_arrival, with_last, with_late, with_none, with_shape, with_start, with_tick};
+ghost use Rattle.pg_align.specs.Counts.{counts_of};
 ghost use Rattle.pg_align.specs.Shown.{Shows};
 ghost use Rattle.pg_align.specs.Fields.{slots_of, AreCounted};
 ghost use Rattle.pg_align.specs.declared.slot.Slot.{Slot};
 
 use crate::answer::Arrived;
+use crate::counts::{Cause, SlotCounts};
 use crate::slot::{
-    Opening, Slot, add_arrival, count_effective, free_all, free_slots, is_after, take_back,
-    take_least, tick_all,
+    Opening, Slot, add_arrival, cause_of, count_effective, free_all, free_slots, is_after,
+    take_back, take_least, tick_all,
 };
 use pg_data::SharedBlock;
 use pg_stream::Definition;
@@ -34,6 +36,7 @@ pub struct Align {
     slots: Vec<Slot>,
     spare: Vec<Slot>,
     lent: bool,
+    counts: SlotCounts,
 }
 
 impl Model for Align {
@@ -87,6 +90,7 @@ impl Align {
             slots,
             spare,
             lent: false,
+            counts: SlotCounts::new(),
         })
     }
 
@@ -121,6 +125,14 @@ impl Align {
         ensures history { (h : StreamHistory Piece) → Shows self.now h → result ≡ slice_index_or h.effective place false }
     {
         place < self.effective.len() && self.effective[place]
+    }
+
+    /// How many slots left since the stream was defined, and which members were missing or late.
+    pub fn counts(&self) -> &SlotCounts
+        ensures shown { result.now ≡ self.now.counts }
+        ensures history { (h : StreamHistory Piece) → Shows self.now h → result.now ≡ counts_of h.past }
+    {
+        &self.counts
     }
 
     /// Switches the stream on, with no last slot and no open slot. A stream that is on stays as it is.
@@ -177,14 +189,16 @@ impl Align {
             wait: self.wait,
             missing: self.wanted,
         };
-        add_arrival(
+        let arrived = add_arrival(
             &mut self.slots,
             &mut self.spare,
             opening,
             slot,
             place,
             block,
-        )
+        );
+        self.counts.count_if_late(arrived, place);
+        arrived
     }
 
     /// A tick: one less is left for each open slot.
@@ -205,6 +219,15 @@ impl Align {
         is_after(self.last, slot)
     }
 
+    /// The block of the member at this place came for a slot at or below the last one that left: as `arrive` does, it is counted.
+    #[inline(never)]
+    pub fn note_late(&mut self, place: usize)
+        requires place { place < length self.old.effective }
+        ensures shown { self.new ≡ with_late self.old place }
+    {
+        self.counts.count_late(place);
+    }
+
     /// A slot leaves that was never open, as one frame brought the blocks of all its members. It is the last one that left. It asks
     /// that no slot is open.
     #[inline(always)]
@@ -214,6 +237,7 @@ impl Align {
     {
         take_back(&mut self.lent, &mut self.spare);
         self.last = Some(slot);
+        self.counts.count_complete();
     }
 
     /// Whether a slot is to leave: `leave_next` would answer with one.
@@ -242,6 +266,8 @@ impl Align {
         }
         let least = take_least(&mut self.slots);
         self.last = Some(least.number);
+        self.counts
+            .count_left(cause_of(&least), &self.effective, &least.parts);
         self.spare.push_reserved(least);
         self.lent = true;
         Some(lend(&self.spare))
@@ -264,6 +290,8 @@ impl Align {
         }
         let first = take_least(&mut self.slots);
         self.last = Some(first.number);
+        self.counts
+            .count_left(Cause::Changed, &self.effective, &first.parts);
         self.spare.push_reserved(first);
         self.lent = true;
         Some(lend(&self.spare))

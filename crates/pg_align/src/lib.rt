@@ -7,12 +7,14 @@
 
 mod align;
 mod answer;
+mod counts;
 mod laws;
 mod slot;
 
 pub use align::{Align, Left};
 pub use answer::Arrived;
+pub use counts::{Cause, SlotCounts};
 pub use laws::{
-    all_flushed_in_steps, all_leaving_in_steps, few_stay_open, flushing_shows_history,
-    leaving_repeats, leaving_shows_history, slots_rise,
+    all_flushed_in_steps, all_leaving_in_steps, counts_look_back, few_stay_open,
+    flushing_shows_history, leaving_repeats, leaving_shows_history, slots_rise,
 };

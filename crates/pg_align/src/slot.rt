@@ -2,10 +2,11 @@
 ghost use Rattle.std.specs.Prelude.{◌≡◌, ◌+◌, ◌-◌, ◌<◌, ◌≤◌, ℕ, Bool, List, [], ◌∷◌, length, replicate, slice_set, slice_get, slice_index_or, Some, None, is_some, vec_len, vec_capacity, IsTrue, IfOk, IfErr, true, false, if◌then◌else◌, map, insert};
 ghost use Rattle.pg_data.specs.Pieces.{Piece};
 ghost use Rattle.pg_align.specs.Histories.{is_above};
-ghost use Rattle.pg_align.specs.Slots.{one_tick_less, AreFree, AreRising, HavePlaces, OpenSlot, StandsAt, count_below, others_than, put_into, part_at, with_part, fresh_slot};
+ghost use Rattle.pg_align.specs.Slots.{one_tick_less, AreFree, AreRising, HavePlaces, OpenSlot, StandsAt, cause_at, count_below, others_than, put_into, part_at, with_part, fresh_slot};
 ghost use Rattle.pg_align.specs.Fields.{slot_of, slots_of, lacking, AreAbove, AreBeforeLent, AreCounted, AreSpare};
 
 use crate::answer::Arrived;
+use crate::counts::Cause;
 use pg_data::SharedBlock;
 use std::alloc::{AllocError, Global};
 
@@ -75,6 +76,21 @@ pub(crate) fn tick_all(slots: &mut [Slot])
 {
     for slot in slots.iter_mut() {
         slot.ticks_left = slot.ticks_left.saturating_sub(1);
+    }
+}
+
+/// Why a slot is to leave by itself.
+#[tactic(auto, using(crate::proofs::Counting::complete))]
+pub(crate) fn cause_of(slot: &Slot) -> Cause
+    ensures { (effective : List Bool) → slot.now.missing ≡ lacking effective slot.now.parts.items
+        → result ≡ cause_at effective (slot_of slot.now) }
+{
+    if slot.missing == 0 {
+        Cause::Complete
+    } else if slot.ticks_left == 0 {
+        Cause::Waited
+    } else {
+        Cause::Pushed
     }
 }
 

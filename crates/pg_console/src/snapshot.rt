@@ -4,14 +4,14 @@ ghost use Rattle.std.specs.Prelude.{◌≡◌, IfSome};
 
 use crate::service_handle::ServiceHandle;
 use pg_audit::{PmuStats, Stats};
-use pg_gateway::{Event, Gate, Reply};
+use pg_gateway::{Event, Gate, MemberPlace, MemberStanding, Reply, Standing, StreamStanding};
 use pg_quality::PmuSummary;
 use pg_service::{LinkState, MeteredGate, PortReport, REASONS, Reports, SourceReport};
 use pg_status::{
-    Call, Histogram, Ignored, PmuState, Presence, Queue, Snapshot, SourceState, StreamState,
-    SubscriberState,
+    Call, Histogram, Ignored, MemberState, Membership, PmuState, Presence, Queue, Snapshot,
+    SourceState, StreamState, SubscriberState,
 };
-use pg_wire::{PmuId, PmuKey, Refusal, SubId};
+use pg_wire::{PmuId, PmuKey, Refusal, StreamId, SubId};
 use std::alloc::{AllocError, Global};
 use std::rt::Clock;
 use std::sync::Wait;
@@ -52,7 +52,7 @@ pub(crate) fn seen_by<R: Wait + Clock, G: Gate>(
     snapshot.sources.sort_unstable_by_key(|it| it.source.get());
     for sub in subs {
         let port = port_of(&ports, sub);
-        subscriber_into(alloc, gate, sub, port, &mut snapshot)?;
+        subscriber_into(alloc, gate, sub, port, &pmus, &mut snapshot)?;
     }
     Ok((snapshot, ages))
 }
@@ -196,12 +196,13 @@ fn subscriber_into<G: Gate>(
     gate: &mut MeteredGate<G>,
     sub: SubId,
     port: Option<&PortReport>,
+    registered: &[PmuKey],
     snapshot: &mut Snapshot,
 ) -> Result<(), AllocError> {
     let Reply::Stats(stats) = gate.post(Event::Stats(sub)) else {
         return Ok(());
     };
-    let queue = streams_into(gate, sub, &mut snapshot.streams)?;
+    let queue = streams_into(alloc, gate, sub, registered, &mut snapshot.streams)?;
     let state = subscriber_state(alloc, sub, &stats, port, queue)?;
     snapshot.subscribers.push(state)?;
     Ok(())
@@ -250,8 +251,10 @@ const STREAMS: u8 = 8;
 
 /// The subscriber's streams in the order in which they were defined, behind those that are there, and what waits for it.
 fn streams_into<G: Gate>(
+    alloc: Global,
     gate: &mut MeteredGate<G>,
     sub: SubId,
+    registered: &[PmuKey],
     streams: &mut Vec<StreamState>,
 ) -> Result<Queue, AllocError> {
     let mut queue = Queue {
@@ -259,7 +262,7 @@ fn streams_into<G: Gate>(
         bytes: 0,
     };
     for place in 0..STREAMS {
-        let Reply::Standing(standing) = gate.post(Event::Standing(sub, place)) else {
+        let Some(standing) = standing_at(gate, sub, place, 0) else {
             break;
         };
         queue = Queue {
@@ -274,8 +277,87 @@ fn streams_into<G: Gate>(
             stream: stream.stream,
             on: stream.is_on,
             effective: u32::from(stream.effective),
-            members: u32::from(stream.members),
+            complete: stream.complete,
+            waited: stream.waited,
+            pushed: stream.pushed,
+            changed: stream.changed,
+            members: members_of(alloc, gate, sub, place, &stream, registered)?,
         })?;
     }
     Ok(queue)
+}
+
+/// How a subscriber, its stream and that stream's member at these places stand.
+fn standing_at<G: Gate>(
+    gate: &mut MeteredGate<G>,
+    sub: SubId,
+    stream: u8,
+    member: u8,
+) -> Option<Standing> {
+    let place = MemberPlace { stream, member };
+    let Reply::Standing(standing) = gate.post(Event::Standing(sub, place)) else {
+        return None;
+    };
+    Some(standing)
+}
+
+/// How a member of the stream of this number stands, by places; `None` where the stream or the member is gone.
+fn member_at<G: Gate>(
+    gate: &mut MeteredGate<G>,
+    sub: SubId,
+    place: MemberPlace,
+    number: StreamId,
+) -> Option<MemberStanding> {
+    let standing = standing_at(gate, sub, place.stream, place.member)?;
+    let stream = standing.stream?;
+    if stream.stream == number {
+        stream.member
+    } else {
+        None
+    }
+}
+
+/// The members of the stream at a place. A stream that was removed meanwhile has those that were asked for by then.
+fn members_of<G: Gate>(
+    alloc: Global,
+    gate: &mut MeteredGate<G>,
+    sub: SubId,
+    place: u8,
+    first: &StreamStanding,
+    registered: &[PmuKey],
+) -> Result<Vec<MemberState>, AllocError> {
+    let mut members = Vec::new(alloc);
+    let mut next = first.member;
+    let count = u8::try_from(first.members).unwrap_or(u8::MAX);
+    for at in 1..=count {
+        let Some(member) = next else {
+            break;
+        };
+        members.push(member_state(&member, registered))?;
+        let place = MemberPlace {
+            stream: place,
+            member: at,
+        };
+        next = member_at(gate, sub, place, first.stream);
+    }
+    Ok(members)
+}
+
+/// A member, which is one of the registered PMUs or not.
+fn member_state(member: &MemberStanding, registered: &[PmuKey]) -> MemberState {
+    let membership = if member.is_effective {
+        Membership::Carried
+    } else if !registered.contains(&member.key) {
+        Membership::NotRegistered
+    } else if !member.is_granted {
+        Membership::NotGranted
+    } else {
+        Membership::NotAnnounced
+    };
+    MemberState {
+        key: member.key,
+        membership,
+        missing: member.missing,
+        late: member.late,
+    }
 }

@@ -1,6 +1,6 @@
 //! The slow reference: a stream by the whole list of its arrivals, where each answer is looked for in all of them. Each
 //! contract is the definition itself.
-ghost use Rattle.std.specs.Prelude.{◌≡◌, ◌+◌, ◌<◌, ◌^◌, ◌↔◌, length, reverse, option_map, IsTrue, IfOk, IfErr};
+ghost use Rattle.std.specs.Prelude.{◌≡◌, ◌+◌, ◌<◌, ◌^◌, ◌↔◌, [], length, reverse, option_map, IsTrue, IfOk, IfErr};
 ghost use Rattle.pg_align.specs.Histories.{answer_to, arrived, discarded, first_tick, flush_one, has_all, is_above, is_due, leave_one, next_to_flush, next_to_leave, open_numbers, open_slots, opening, parts_for, put_number, reshaped, started, take_arrival, ticked};
 ghost use Rattle.pg_align.specs.Slots.{head_with};
 
@@ -26,7 +26,7 @@ impl Model for Arrival {
     ghost view = { λ a. record { slot = a.slot; place = a.place; part = a.part; tick = a.tick } };
 }
 
-/// A stream and all arrivals that it kept, the newest last. A part is a number.
+/// A stream and all arrivals that it kept, the newest last. A part is a number. It does not look back on what left.
 #[derive(Drop)]
 pub(crate) struct PlainAlign {
     window: usize,
@@ -39,7 +39,7 @@ pub(crate) struct PlainAlign {
 }
 
 impl Model for PlainAlign {
-    ghost use Rattle.std.specs.Prelude.{ℕ, reverse};
+    ghost use Rattle.std.specs.Prelude.{ℕ, [], reverse};
     ghost use Rattle.pg_align.specs.Histories.{StreamHistory};
 
     ghost Value = { StreamHistory ℕ };
@@ -52,6 +52,7 @@ impl Model for PlainAlign {
       last = p.last;
       arrivals = reverse p.arrivals.items;
       ticks = p.ticks;
+      past = [];
     } };
 }
 
@@ -217,7 +218,7 @@ impl PlainAlign {
         part: u8,
     ) -> Result<Arrived, AllocError>
         ensures answer { IfOk result (λ answer. answer ≡ answer_to self.old slot place) }
-        ensures taken { IfOk result (λ _. self.new ≡ take_arrival self.old slot place part) }
+        ensures taken { IfOk result (λ _. self.new ≡ record (take_arrival self.old slot place part) { past = [] }) }
         ensures failed { IfErr result (λ _. self.new ≡ self.old) }
     {
         if !is_above(self.last, slot) {
@@ -246,7 +247,7 @@ impl PlainAlign {
     pub(crate) fn leave_next(&mut self, alloc: Global) -> Result<Option<PlainLeft>, AllocError>
         ensures answer { IfOk result (λ left.
             option_map (λ left. head_with left.slot left.parts.items) left ≡ next_to_leave self.old) }
-        ensures left { IfOk result (λ _. self.new ≡ leave_one self.old) }
+        ensures left { IfOk result (λ _. self.new ≡ record (leave_one self.old) { past = [] }) }
         ensures failed { IfErr result (λ _. self.new ≡ self.old) }
     {
         let open = self.open_slots(alloc)?;
@@ -269,7 +270,7 @@ impl PlainAlign {
     pub(crate) fn flush_next(&mut self, alloc: Global) -> Result<Option<PlainLeft>, AllocError>
         ensures answer { IfOk result (λ left.
             option_map (λ left. head_with left.slot left.parts.items) left ≡ next_to_flush self.old) }
-        ensures left { IfOk result (λ _. self.new ≡ flush_one self.old) }
+        ensures left { IfOk result (λ _. self.new ≡ record (flush_one self.old) { past = [] }) }
         ensures failed { IfErr result (λ _. self.new ≡ self.old) }
     {
         let open = self.open_slots(alloc)?;

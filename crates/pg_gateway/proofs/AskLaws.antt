@@ -10,6 +10,7 @@ use Rattle.pg_audit.specs.declared.counters.PmuStats.{PmuStats}
 use Rattle.pg_audit.specs.declared.audit.Entry.{Entry}
 use Rattle.pg_audit.specs.Noting.{newest_at}
 use Rattle.pg_session.specs.Private.{refused}
+use Rattle.pg_session.specs.declared.standing.MemberPlace.{MemberPlace}
 use Rattle.pg_session.specs.declared.standing.Standing.{Standing}
 use Rattle.pg_session.specs.Standing.{standing_of}
 use Rattle.pg_ring.specs.Shown.{frames_to_leave}
@@ -40,10 +41,10 @@ audit_some u index S v s e shown there is =
       shows = record { pmus = shown.pmus; subs = shown.subs; last_tick = shown.last_tick };
     }
 
-pub standing_none : (u place : ℕ) (S : SharedMachine) (v : GatewayValue) → GatewayShows v S → slot_of u S.subs ≡ None → Steps S (inquires (standing u place)) (tells (refused NoSuchSub)) v
+pub standing_none : (u : ℕ) (place : MemberPlace) (S : SharedMachine) (v : GatewayValue) → GatewayShows v S → slot_of u S.subs ≡ None → Steps S (inquires (standing u place)) (tells (refused NoSuchSub)) v
 standing_none u place S v shown none = record { may = rw none refl; shows = record { pmus = shown.pmus; subs = shown.subs; last_tick = shown.last_tick } }
 
-pub standing_some : (u place : ℕ) (S : SharedMachine) (v : GatewayValue) (s : SubscriberSlot) (st : Standing) → GatewayShows v S → slot_of u S.subs ≡ Some s → st ≡ standing_of s.own place → Steps S (inquires (standing u place)) (stands st) v
+pub standing_some : (u : ℕ) (place : MemberPlace) (S : SharedMachine) (v : GatewayValue) (s : SubscriberSlot) (st : Standing) → GatewayShows v S → slot_of u S.subs ≡ Some s → st ≡ standing_of s.own place → Steps S (inquires (standing u place)) (stands st) v
 standing_some u place S v s st shown there is =
     record {
       may = rw there (inl (0, omega arith, ap stands is));

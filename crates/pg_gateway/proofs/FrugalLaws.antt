@@ -8,6 +8,7 @@ use Rattle.pg_session.specs.Private as private
 use Rattle.pg_session.specs.Private.{ReplyValue, refused}
 use Rattle.pg_session.specs.Shown.{Model}
 use Rattle.pg_session.specs.ByAll.{by_arrivals, by_numbers}
+use Rattle.pg_session.specs.declared.standing.MemberPlace.{MemberPlace}
 use Rattle.pg_gateway.specs.GatewayEvents.{GatewayEvent, add_pmu, drop_pmu, add_sub, drop_sub, grant, asks, announce, measure, tick, stats, pmu_stats, audit, standing, who_waits, Answer, tells, inquires}
 use Rattle.pg_gateway.specs.Sharing.{SubscriberSlot, SubscriberSlots}
 use Rattle.pg_gateway.specs.State.{SharedMachine, Target, to_all, to_one, adds, drops, to_none, target, takes_memory, own_answer, reached_answer, stats_answer, pmu_answer, audit_answer, standing_answer, slot_of, made, answer}
@@ -54,7 +55,7 @@ audit_answered : (o : Option SubscriberSlot) (index : ℕ) → audit_answer o in
 audit_answered None index e = cc
 audit_answered (Some s) index e = cc
 
-standing_answered : (o : Option SubscriberSlot) (place : ℕ) → standing_answer o place ≡ tells (refused NoMemory) → ⊥
+standing_answered : (o : Option SubscriberSlot) (place : MemberPlace) → standing_answer o place ≡ tells (refused NoMemory) → ⊥
 standing_answered None place e = cc
 standing_answered (Some s) place e = cc
 

@@ -7,6 +7,7 @@ use Rattle.pg_entitle.specs.Grants.{has_key}
 use Rattle.pg_data.specs.Measurements.{Measurement}
 use Rattle.pg_session.specs.Events.{SubscriberEvent, Sample}
 use Rattle.pg_session.specs.Shown.{Model}
+use Rattle.pg_session.specs.declared.standing.MemberPlace.{MemberPlace}
 use Rattle.pg_session.specs.Standing.{standing_of}
 use Rattle.pg_gateway.specs.GatewayEvents.{GatewayEvent, gateway_event, told, asks, measure, stats, standing, Answer, tells, sub_counts, stands, inquires}
 use Rattle.pg_gateway.specs.Sharing.{SubscriberSlot, measures, some_measured}
@@ -51,7 +52,7 @@ own_counters u S p is =
     let found = slot_from (slot_of u S.subs) p is in
     ap (λ o. full_by (refuse (not (is_some o)) NoSuchSub None) (stats_answer o)) found.1 ∙ ap (λ (q : Model). sub_counts q.output.stats) found.2
 
-pub own_standing : (u place : ℕ) (S : SharedMachine) (p : Model) → own_of u S ≡ Some p → full_answer S (inquires (standing u place)) ≡ stands (standing_of p place)
+pub own_standing : (u : ℕ) (place : MemberPlace) (S : SharedMachine) (p : Model) → own_of u S ≡ Some p → full_answer S (inquires (standing u place)) ≡ stands (standing_of p place)
 own_standing u place S p is =
     let found = slot_from (slot_of u S.subs) p is in
     ap (λ o. full_by (refuse (not (is_some o)) NoSuchSub None) (standing_answer o place)) found.1 ∙ ap (λ (q : Model). stands (standing_of q place)) found.2

@@ -11,19 +11,20 @@ use Rattle.pg_session.specs.Events as session
 use Rattle.pg_session.specs.Events.{SubscriberEvent}
 use Rattle.pg_session.specs.Private as session_reply
 use Rattle.pg_session.specs.Private.{ReplyValue, drain_told}
+use Rattle.pg_session.specs.declared.standing.MemberPlace.{MemberPlace}
 use Rattle.pg_session.specs.declared.standing.Standing.{Standing}
 use Rattle.pg_gateway.specs.declared.event.Event.{Event}
 use Rattle.pg_gateway.specs.declared.event.Event.TheVariants as event
 use Rattle.pg_gateway.specs.declared.event.Reply.{Reply}
 use Rattle.pg_gateway.specs.declared.event.Reply.TheVariants as reply
 
--- what may be asked for: counters of a subscriber, counters of a PMU, an entry of a subscriber's audit, how a subscriber and its stream at
--- a place stand, and for which of these subscribers something waits
+-- what may be asked for: counters of a subscriber, counters of a PMU, an entry of a subscriber's audit, how a subscriber, its stream and that
+-- stream's member at a place stand, and for which of these subscribers something waits
 pub data Question : Type 0 where
   stats : ℕ → Question
   pmu_stats : PmuKey → Question
   audit : ℕ → ℕ → Question
-  standing : ℕ → ℕ → Question
+  standing : ℕ → MemberPlace → Question
   who_waits : List ℕ → Question
 
 pub data GatewayEvent : Type 0 where

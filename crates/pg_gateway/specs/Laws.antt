@@ -4,6 +4,7 @@ use Rattle.pg_entitle.specs.Grants.{has_key}
 use Rattle.pg_data.specs.Measurements.{Measurement}
 use Rattle.pg_session.specs.Events.{SubscriberEvent, Sample}
 use Rattle.pg_session.specs.Shown.{Model}
+use Rattle.pg_session.specs.declared.standing.MemberPlace.{MemberPlace}
 use Rattle.pg_session.specs.Standing.{standing_of}
 use Rattle.pg_gateway.specs.GatewayEvents.{GatewayEvent, asks, measure, stats, standing, Answer, tells, sub_counts, stands, inquires}
 use Rattle.pg_gateway.specs.State.{SharedMachine, opening, own_of, taken_in, refusal, May}
@@ -26,7 +27,7 @@ pub record Isolation : Type 0 where
       → full_answer (after es) (asks u x) ≡ tells (full_told p x)
   pub counters : (u : ℕ) (es : List GatewayEvent) (p : Model) → own_of u (after es) ≡ Some p
       → full_answer (after es) (inquires (stats u)) ≡ sub_counts p.output.stats
-  pub standings : (u place : ℕ) (es : List GatewayEvent) (p : Model) → own_of u (after es) ≡ Some p
+  pub standings : (u : ℕ) (place : MemberPlace) (es : List GatewayEvent) (p : Model) → own_of u (after es) ≡ Some p
       → full_answer (after es) (inquires (standing u place)) ≡ stands (standing_of p place)
 
 -- Two lists of events that give a subscriber equal views leave it alike, and hand it the same.

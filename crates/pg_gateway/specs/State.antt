@@ -19,6 +19,7 @@ use Rattle.pg_session.specs.Private as private
 use Rattle.pg_session.specs.Private.{ReplyValue, done, refused, handed, refuse, frames_of}
 use Rattle.pg_session.specs.Shown.{Model, begin}
 use Rattle.pg_session.specs.ByAll.{by_arrivals, by_numbers}
+use Rattle.pg_session.specs.declared.standing.MemberPlace.{MemberPlace}
 use Rattle.pg_session.specs.Standing.{standing_of}
 use Rattle.pg_gateway.specs.GatewayEvents.{GatewayEvent, add_pmu, drop_pmu, add_sub, drop_sub, grant, asks, announce, measure, tick, stats, pmu_stats, audit, standing, who_waits, Answer, tells, sub_counts, pmu_counts, entry, stands, those_waiting, inquires}
 use Rattle.pg_gateway.specs.Judging.{registered_of, judged, taken_of, first_refusal, blocks_counted, all_announced, memory_counted}
@@ -165,7 +166,7 @@ abbrev pub audit_answer : Option SubscriberSlot → ℕ → Answer
 audit_answer None index = tells (refused NoSuchSub)
 audit_answer (Some s) index = entry (newest_at s.noted index)
 
-abbrev pub standing_answer : Option SubscriberSlot → ℕ → Answer
+abbrev pub standing_answer : Option SubscriberSlot → MemberPlace → Answer
 standing_answer None place = tells (refused NoSuchSub)
 standing_answer (Some s) place = stands (standing_of s.own place)
 

@@ -5,7 +5,7 @@ use pg_command::Command as Asked;
 use pg_config::SourceConfig;
 use pg_data::DataFrame;
 use pg_ring::{Drained as Handed, RingBytes, RingSize};
-use pg_session::Standing;
+use pg_session::{MemberPlace, Standing};
 use pg_stream::Definition;
 use pg_wire::{PmuKey, Refusal, StreamId, SubId};
 use std::sync::Arc;
@@ -49,8 +49,8 @@ pub enum Event {
     PmuStats(PmuKey),
     /// An entry of a subscriber's audit is asked for: 0 the newest, at most 63.
     Audit(SubId, u8),
-    /// A question: how does a subscriber stand, and its stream at this place? 0 is the stream that was defined first.
-    Standing(SubId, u8),
+    /// A question: how does a subscriber stand, and its stream and that stream's member at this place?
+    Standing(SubId, MemberPlace),
     /// A question: for which of these subscribers does something wait to be handed out?
     WhoWaits(Vec<SubId>),
 }

@@ -26,4 +26,4 @@ pub use laws::{
     each_goes_by_its_view, equal_views_leave_alike, nothing_lost_is_full, own_blocks_alone,
 };
 pub use pg_ring::Drained;
-pub use pg_session::{Standing, StreamStanding};
+pub use pg_session::{MemberPlace, MemberStanding, Standing, StreamStanding};

@@ -26,7 +26,7 @@ use pg_config::{PmuConfig, SourceConfig};
 use pg_data::DataFrame;
 use pg_outcfg::StampCache;
 use pg_ring::{RingBytes, RingSize};
-use pg_session::{PrivateEvent, PrivateReply, Standing, Subscriber};
+use pg_session::{MemberPlace, PrivateEvent, PrivateReply, Standing, Subscriber};
 use pg_wire::{PmuKey, Refusal};
 use std::alloc::Global;
 use std::marker::Model;
@@ -140,11 +140,11 @@ impl SubscriberSlot {
         self.subscriber.stats()
     }
 
-    /// How it stands, with the stream at this place.
-    pub(crate) fn standing(&self, place: u8) -> Standing
+    /// How it stands, with the stream and the member at this place.
+    pub(crate) fn standing(&self, place: MemberPlace) -> Standing
         ensures { (s : SlotState) → SlotShows self.now s → result ≡ standing_of s.own place }
     {
-        self.subscriber.standing(usize::from(place))
+        self.subscriber.standing(place)
     }
 
     /// Whether something waits to be handed out.

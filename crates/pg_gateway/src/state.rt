@@ -40,7 +40,7 @@ use pg_data::DataFrame;
 use pg_outcfg::StampCache;
 use pg_registry::Registry;
 use pg_ring::{OutQueue, RingBytes, RingSize};
-use pg_session::PrivateEvent;
+use pg_session::{MemberPlace, PrivateEvent};
 use pg_wire::{PmuId, PmuKey, Refusal, SubId};
 use std::alloc::Global;
 use std::marker::Model;
@@ -445,7 +445,7 @@ impl GatewayState {
     }
 
     /// How a subscriber stands is asked for.
-    pub(crate) fn standing(&self, sub: SubId, place: u8) -> Reply
+    pub(crate) fn standing(&self, sub: SubId, place: MemberPlace) -> Reply
         ensures goes { Goes self.now (inquires (standing sub place)) (told result) self.now }
         ensures plain { IsPlain result }
     {

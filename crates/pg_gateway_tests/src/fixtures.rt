@@ -5,7 +5,7 @@ use crate::asserts::same;
 use pg_audit::Stats;
 use pg_command::Command;
 use pg_fakes::{FakeReader, FakeWriter, all_memory};
-use pg_gateway::{Drained, Event, Gate, Gateway, Reply, Standing};
+use pg_gateway::{Drained, Event, Gate, Gateway, MemberPlace, Reply, Standing, StreamStanding};
 use pg_ingest::{Link, LinkEvent};
 use pg_ring::{RingBytes, RingSize};
 use pg_shared::{Seat, Shared};
@@ -17,7 +17,7 @@ use std::process::Abort;
 use std::sync::Wait;
 
 /// Frames by name. Their words are bytes in hexadecimal; `20*11` is a byte so many times, and `CHK` the check of all before it.
-const FRAMES: [(&str, &str); 19] = [
+const FRAMES: [(&str, &str); 20] = [
     ("nothing", ""),
     // The CFG-2 of source 7: station PMU 7, one phasor VA; and with another station, CFGCNT 9, and FNOM of 50 Hz.
     (
@@ -49,6 +49,11 @@ const FRAMES: [(&str, &str); 19] = [
     (
         "later-7",
         "AA02 001A 0007 00000064 0001046B 0000 10002000 0000 0000 CHK",
+    ),
+    // The data frame of source 8 at the numerator 33,333.
+    (
+        "data-8",
+        "AA02 0018 0008 00000064 00008235 0000 0000 0000 1234 CHK",
     ),
     // The commands that source 7 is sent: 5, send CFG-2, and 2, start data.
     (
@@ -229,7 +234,11 @@ fn asked(rt: &impl Abort, alloc: Global, verb: &str, numbers: &[u16; 8]) -> Even
         }
         "stats" => Event::Stats(sub),
         "audit" => Event::Audit(sub, 0),
-        "standing" => Event::Standing(sub, u8::try_from(second).expect(rt, "a place")),
+        "standing" | "counts" => {
+            let stream = u8::try_from(second).expect(rt, "a place");
+            let member = u8::try_from(third).expect(rt, "a place");
+            Event::Standing(sub, MemberPlace { stream, member })
+        }
         _ => panic!(rt; "no such line"),
     }
 }
@@ -275,6 +284,36 @@ fn standing(rt: &impl Abort, alloc: Global, standing: &Standing) -> String {
         }
     }
     text
+}
+
+/// Of a stream, the frames that left complete, by wait, by the window and by a change; of a member of it, the PMU, whether it is carried, granted or neither,
+/// the frames with a filler in its place, and its late blocks.
+fn counts(rt: &impl Abort, alloc: Global, standing: &Standing) -> String {
+    let Some(stream) = standing.stream else {
+        panic!(rt; "no stream");
+    };
+    let StreamStanding {
+        complete,
+        waited,
+        pushed,
+        changed,
+        members,
+        member,
+        ..
+    } = stream;
+    let Some(member) = member else {
+        return format!(in alloc; "counts {members} none").expect(rt, "memory");
+    };
+    let state = match (member.is_effective, member.is_granted) {
+        (true, _) => "carried",
+        (false, true) => "granted",
+        (false, false) => "neither",
+    };
+    let (pmu, missing, late) = (member.key.pmu.get(), member.missing, member.late);
+    let text = format!(in alloc;
+        "counts {complete} {waited} {pushed} {changed} {pmu} {state} {missing} {late}"
+    );
+    text.expect(rt, "memory")
 }
 
 /// What was made and lost, and each reason with its count.
@@ -328,6 +367,16 @@ pub(crate) fn halves(line: &str) -> (&str, &str) {
     line.split_once(" > ").unwrap_or((line, "done 0 0"))
 }
 
+/// A reply as text, for a line: how a subscriber stands has two forms.
+fn told_for(rt: &impl Abort, alloc: Global, line: &str, reply: Reply) -> String {
+    if line.starts_with("counts ") {
+        if let Reply::Standing(came) = &reply {
+            return counts(rt, alloc, came);
+        }
+    }
+    told(rt, alloc, reply)
+}
+
 /// The reply is the answer of the line, in which `=` stands before frames.
 fn answers(rt: &impl Abort, alloc: Global, line: &str, reply: Reply) {
     let (_, answer) = halves(line);
@@ -335,7 +384,7 @@ fn answers(rt: &impl Abort, alloc: Global, line: &str, reply: Reply) {
     let mut wanted = String::from_str(alloc, words).expect(rt, "memory");
     let digits = hex::encode_upper(alloc, octets(rt, alloc, frames)).expect(rt, "memory");
     wanted.push_str(&digits).expect(rt, "memory");
-    let came = told(rt, alloc, reply);
+    let came = told_for(rt, alloc, line, reply);
     same(rt, (line, came.as_str()), (line, wanted.as_str()));
 }
 

@@ -5,6 +5,8 @@
 #[cfg(test)]
 mod asserts;
 #[cfg(test)]
+mod counts;
+#[cfg(test)]
 mod fixtures;
 #[cfg(test)]
 mod laws;

@@ -4,7 +4,8 @@ use Rattle.std.specs.List.{AllByRecursion}
 use Rattle.std.proofs.lemmas.Grind.{common_steps}
 use Rattle.std.proofs.lemmas.Bool.Decides.{nat_tests}
 use Rattle.pg_data.specs.Pieces.{Piece}
-use Rattle.pg_align.specs.Histories.{Arrival, StreamHistory, Departed, RiseTo, is_above, put_number, arrived, open_numbers, open_slots, is_to_leave, departed, slot_left, left, leave_in_turn, leave_all, flush_in_turn, flush_all, take_arrival, keep_arrival}
+use Rattle.pg_align.specs.Histories.{Arrival, StreamHistory, Departed, RiseTo, is_above, put_number, arrived, open_numbers, open_slots, is_to_leave, departed, slot_left, cause_of, left, with_late, leave_in_turn, leave_all, flush_in_turn, flush_all, take_arrival, keep_arrival}
+use Rattle.pg_align.specs.declared.counts.Cause.TheVariants.{Changed}
 use Rattle.pg_align.proofs.Leaving.{rest_open}
 use Rattle.pg_align.proofs.Rising.{leaving-rises, leaving-stays}
 use Rattle.pg_session.specs.Streams.{PlacedBlock, arrive_all}
@@ -42,9 +43,9 @@ all_open P last (a ∷ arrivals) each = by (is_above last a.slot) refl (all_open
 frames_left : (P : Departed Piece → Type 0) (h : OneHistory) (numbers : List ℕ) → AllByRecursion (λ n. P (departed h n)) numbers
     → AllByRecursion P (leave_in_turn h numbers).frames
 frames_left P h [] are = tt
-frames_left P h (slot ∷ slots) are = by (is_to_leave h (slot ∷ slots)) refl (frames_left P (left h slot) slots are.1)
+frames_left P h (slot ∷ slots) are = by (is_to_leave h (slot ∷ slots)) refl (frames_left P (left h (cause_of h slot) slot) slots are.1)
   where
-    by : (b : Bool) → is_to_leave h (slot ∷ slots) ≡ b → AllByRecursion P (leave_in_turn (left h slot) slots).frames
+    by : (b : Bool) → is_to_leave h (slot ∷ slots) ≡ b → AllByRecursion P (leave_in_turn (left h (cause_of h slot) slot) slots).frames
         → AllByRecursion P (leave_in_turn h (slot ∷ slots)).frames
     by true t rest = rw t (are.0, rest)
     by false t rest = rw t tt
@@ -52,7 +53,7 @@ frames_left P h (slot ∷ slots) are = by (is_to_leave h (slot ∷ slots)) refl 
 frames_flushed : (P : Departed Piece → Type 0) (h : OneHistory) (numbers : List ℕ) → AllByRecursion (λ n. P (departed h n)) numbers
     → AllByRecursion P (flush_in_turn h numbers).frames
 frames_flushed P h [] are = tt
-frames_flushed P h (slot ∷ slots) are = (are.0, frames_flushed P (left h slot) slots are.1)
+frames_flushed P h (slot ∷ slots) are = (are.0, frames_flushed P (left h Changed slot) slots are.1)
 
 -- what leaves is as it is for each slot above the last one that left
 pub leaving-frames : (P : Departed Piece → Type 0) (h : OneHistory) → ((n : ℕ) → IsTrue (is_above h.last n) → P (departed h n))
@@ -76,9 +77,9 @@ above_before end last (n ∷ numbers) slot r up = above_trans last n slot r.0 (a
 
 left_effective : (h : OneHistory) (numbers : List ℕ) → (leave_in_turn h numbers).after.effective ≡ h.effective
 left_effective h [] = refl
-left_effective h (slot ∷ slots) = by (is_to_leave h (slot ∷ slots)) refl (left_effective (left h slot) slots)
+left_effective h (slot ∷ slots) = by (is_to_leave h (slot ∷ slots)) refl (left_effective (left h (cause_of h slot) slot) slots)
   where
-    by : (b : Bool) → is_to_leave h (slot ∷ slots) ≡ b → (leave_in_turn (left h slot) slots).after.effective ≡ h.effective
+    by : (b : Bool) → is_to_leave h (slot ∷ slots) ≡ b → (leave_in_turn (left h (cause_of h slot) slot) slots).after.effective ≡ h.effective
         → (leave_in_turn h (slot ∷ slots)).after.effective ≡ h.effective
     by true t rest = rw t rest
     by false t rest = rw t refl
@@ -95,7 +96,7 @@ leaving-came Q h came slot place up =
 -- after a flush no slot is open
 none_open : (h : OneHistory) (numbers : List ℕ) → open_slots h ≡ numbers → open_slots (flush_in_turn h numbers).after ≡ []
 none_open h [] e = e
-none_open h (slot ∷ slots) e = none_open (left h slot) slots (rest_open h slot slots e)
+none_open h (slot ∷ slots) e = none_open (left h Changed slot) slots (rest_open h Changed slot slots e)
 
 put_some : (n : ℕ) (ms : List ℕ) → put_number n ms ≡ [] → ⊥
 put_some n [] e = cc e
@@ -152,7 +153,7 @@ take_keeps : (Q : ℕ → Option Piece → Type 0) (h : OneHistory) (slot place 
     → Keeps Q h (take_arrival h slot place part)
 take_keeps Q h slot place part is came = by (is_above h.last slot) (is_some (arrived h.arrivals slot place))
   where
-    by : (a b : Bool) → Keeps Q h (if not a then h else (if b then h else keep_arrival h slot place part))
+    by : (a b : Bool) → Keeps Q h (if not a then with_late h place else (if b then h else keep_arrival h slot place part))
     by false b = record { effective = refl; came = came }
     by true true = record { effective = refl; came = came }
     by true false = record { effective = refl; came = keep_came Q h slot place part is came }

@@ -1,5 +1,5 @@
 -- The range of a number by its highest power of two, and the least number of a range.
-use Rattle.std.proofs.Common.{◌≡◌, ℕ, zero, suc, ◌+◌, ◌-◌, ◌*◌, ◌/◌, ◌%◌, ◌^◌, ◌<◌, ◌≤◌, max, inl, inr, refl, sym, ap, ◌∙◌, lit<, arith}
+use Rattle.std.proofs.Common.{◌≡◌, ℕ, zero, suc, ◌+◌, ◌-◌, ◌*◌, ◌/◌, ◌%◌, ◌^◌, ◌<◌, ◌≤◌, min, inl, inr, refl, sym, ap, ◌∙◌, lit<, arith}
 use Rattle.std.proofs.lemmas.Bool.{cases_lt}
 use Rattle.std.proofs.lemmas.Bool.Decides.{nat_tests}
 use Rattle.std.proofs.lemmas.Nat.{pow-add, pow_pos, shl_below, shl_whole, shr_below, shr-shr}
@@ -11,6 +11,9 @@ range-small : (fuel n : ℕ) → n < 8 → range_in fuel n ≡ n
 unfolding range_in
 range-small zero n h = refl
 range-small (suc fuel) n h = grind (arith, nat_tests)
+
+pub range_small : (n : ℕ) → n < 8 → range_in 20 n ≡ n
+range_small n h = range-small 20 n h
 
 range-half : (fuel n : ℕ) → 8 ≤ n → range_in (suc fuel) n ≡ 4 + range_in fuel (n / 2)
 unfolding range_in
@@ -39,23 +42,21 @@ below-18 s m a b = elim (cases_lt s 18) [
       absurd (omega (arith, a, b, more))
 ]
 
--- a number below 4 is not halved
-few : (s n : ℕ) → n < 4 → 2 ^ s ≤ 1 → 4 * s + n / 2 ^ s ≡ n
-few zero n small low = omega arith
-few (suc s) n small low = absurd (omega (arith, low, two-pow-succ s, pow_pos s))
+-- the range of a number from 8 on, where 2 ^ s is the highest power of two up to a quarter of it
+pub range_by_log : (s n : ℕ) → 8 ≤ n → n < 2 ^ 20 → 2 ^ s ≤ n / 4 → n / 4 < 2 * 2 ^ s → 4 * s + n / 2 ^ s ≡ range_in 20 n
+range_by_log s n large below low high =
+    let fits : s < 18 = below-18 s (n / 4) low (omega (arith, below)) in
+    sym (range-large s 20 n (omega (arith, fits)) (omega (arith, low)) (omega (arith, high)))
 
--- the range of a number, where 2 ^ s is the highest power of two up to a quarter of it
-pub range_by_log : (s n : ℕ) → n < 2 ^ 20 → 2 ^ s ≤ max n 4 / 4 → max n 4 / 4 < 2 * 2 ^ s → 4 * s + n / 2 ^ s ≡ range_in 20 n
-range_by_log s n below low high =
-    let fits : s < 18 = below-18 s (max n 4 / 4) low (omega (arith, below)) in
-    elim (cases_lt n 4) [
-      | inl small ↦ few s n small (omega (arith, small, low)) ∙ sym (range-small 20 n (omega (arith, small)))
-      | inr large ↦ sym (range-large s 20 n (omega (arith, fits)) (omega (arith, large, low)) (omega (arith, large, high)))
-    ]
+-- the last range has all that are greater
+pub range_most : (n : ℕ) → 2 ^ 20 ≤ n → range_in 20 (min n (2 ^ 20 - 1)) ≡ 75
+range_most n h =
+    let most : min n (2 ^ 20 - 1) ≡ 2 ^ 20 - 1 = omega (arith, h) in
+    ap (λ (k : ℕ). range_in 20 k) most ∙ (range-large 17 20 (2 ^ 20 - 1) (omega arith) (omega arith) (omega arith) ∙ omega arith)
 
-pub range_below : (s n : ℕ) → n < 2 ^ 20 → 2 ^ s ≤ max n 4 / 4 → max n 4 / 4 < 2 * 2 ^ s → 4 * s + n / 2 ^ s < 76
-range_below s n below low high =
-    let fits : s < 18 = below-18 s (max n 4 / 4) low (omega (arith, below)) in
+pub range_below : (s n : ℕ) → 8 ≤ n → n < 2 ^ 20 → 2 ^ s ≤ n / 4 → n / 4 < 2 * 2 ^ s → 4 * s + n / 2 ^ s < 76
+range_below s n large below low high =
+    let fits : s < 18 = below-18 s (n / 4) low (omega (arith, below)) in
     let sum : 2 ^ (3 + s) ≡ 2 ^ 3 * 2 ^ s = pow-add 2 3 s in
     let digits : n / 2 ^ s < 2 ^ 3 = shr_below n 3 s (omega (arith, high, sum)) in
     omega (arith, digits, fits)

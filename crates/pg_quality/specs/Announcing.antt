@@ -5,7 +5,7 @@ use Rattle.pg_wire.specs.Head.{two_at}
 use Rattle.pg_config.specs.Parts.{Part, Source, block_id, data_len}
 use Rattle.pg_data.specs.Measurements.{Measurement}
 use Rattle.pg_quality.specs.Measures.{blocks_at, no_blocks, with_block}
-use Rattle.pg_quality.specs.declared.arrival.FrameTime.{FrameTime}
+use Rattle.pg_quality.specs.declared.frame_time.FrameTime.{FrameTime}
 use Rattle.pg_quality.specs.declared.block_quality.Block.{Block}
 use Rattle.pg_quality.specs.declared.block_quality.BlockQuality.{BlockQuality}
 use Rattle.pg_quality.specs.declared.pmu_quality.PmuQuality.{PmuQuality}
@@ -13,23 +13,26 @@ use Rattle.pg_quality.specs.declared.pmu_quality.PmuSummary.{PmuSummary}
 
 -- ---- a PMU
 
--- FREQ stands behind STAT and the phasors
 unfoldable pub pmu_of : Part → ℕ → BlockQuality → PmuQuality
 pmu_of part start blocks = record {
   id = block_id part.block;
   station = take 16 part.block;
   fnom = two_at part.block (length part.block - 4);
   start = start;
-  freq_at = start + 2 + 4 * part.phasors;
+  phasors = part.phasors;
   blocks = blocks;
 }
 
--- the head of a block, where it is whole
-abbrev pub block_in : List ℕ → ℕ → ℕ → Option Block
-block_in body start freq_at =
-    if nat_lt start freq_at && nat_le (freq_at + 4) (length body) then
+-- the head of a block that begins here, and has FREQ there, where it is whole
+abbrev pub block_at : List ℕ → ℕ → ℕ → Option Block
+block_at body start freq_at =
+    if nat_le (freq_at + 4) (length body) then
     Some (record { stat = two_at body start; freq = cast_signed w16 (two_at body freq_at); dfreq = cast_signed w16 (two_at body (freq_at + 2)) })
     else None
+
+-- FREQ stands behind STAT and the phasors
+abbrev pub block_in : List ℕ → ℕ → ℕ → Option Block
+block_in body start phasors = block_at body start (start + 2 + 4 * phasors)
 
 abbrev pub pmu_with : PmuQuality → Option Block → PmuQuality
 pmu_with p None = p
@@ -37,7 +40,7 @@ pmu_with p (Some block) = record p { blocks = with_block p.blocks block }
 
 -- a data frame with these blocks came
 unfoldable pub pmu_noted : List ℕ → PmuQuality → PmuQuality
-pmu_noted body p = pmu_with p (block_in body p.start p.freq_at)
+pmu_noted body p = pmu_with p (block_in body p.start p.phasors)
 
 abbrev pub summary_of : PmuQuality → PmuSummary
 summary_of p = record {
@@ -74,5 +77,5 @@ abbrev pub rate_of : Source → ℤ
 rate_of config = rate_in config.parts
 
 -- the time of a data frame
-abbrev pub time_of : Measurement → ℕ → ℤ → FrameTime
-time_of m base rate = record { soc = m.soc; frac = m.frac; quality = m.quality; base = base; rate = rate }
+abbrev pub time_of : Measurement → FrameTime
+time_of m = record { soc = m.soc; frac = m.frac; quality = m.quality }

@@ -5,6 +5,10 @@ use Rattle.std.specs.Prelude.{ℕ, ◌+◌, ◌-◌, ◌^◌, min, Bool, if◌th
 abbrev pub more : ℕ → ℕ → ℕ
 more count n = min (count + n) (2 ^ 64 - 1)
 
--- the same after one more, where something is so
+-- the same where something is so
+abbrev pub more_by : Bool → ℕ → ℕ → ℕ
+more_by is_so count n = if is_so then more count n else count
+
+-- after one more
 abbrev pub more_if : Bool → ℕ → ℕ
-more_if is_so count = if is_so then more count 1 else count
+more_if is_so count = more_by is_so count 1

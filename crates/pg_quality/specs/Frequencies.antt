@@ -13,6 +13,10 @@ no_band = record { least = pos 32767; greatest = negsuc 32767 }
 abbrev pub band_with : Band → ℤ → Band
 band_with b freq = record { least = int_min b.least freq; greatest = int_max b.greatest freq }
 
+-- FREQ -32,768 says that there is none
+abbrev pub band_if_any : Band → ℤ → Band
+band_if_any b freq = if int_eq freq (negsuc 32767) then b else band_with b freq
+
 -- a band, where it has a value
 abbrev pub band_of : Band → Option Band
 band_of b = if int_lt b.greatest b.least then None else Some b
@@ -34,9 +38,9 @@ rolled f second = record f {
 abbrev pub at_second : Frequency → ℕ → Frequency
 at_second f second = if second == f.second then f else rolled f second
 
--- a block came with these values; FREQ -32,768 says that there is none
+-- a block came with these values
 abbrev pub noted : Frequency → ℤ → ℤ → Frequency
-noted f freq dfreq = record f { freq = freq; dfreq = dfreq; current = if int_eq freq (negsuc 32767) then f.current else band_with f.current freq }
+noted f freq dfreq = record f { freq = freq; dfreq = dfreq; current = band_if_any f.current freq }
 
 abbrev pub row_at : List FrequencyRow → ℕ → FrequencyRow
 row_at rows second = slice_index_or rows (second % 300) no_row

@@ -1,7 +1,5 @@
--- The instants of DATA_RATE, and the arrival of a data frame (C37.118.2, 6.2 and 6.4). Clocks are milliseconds since 1970-01-01 00:00 UTC.
-use Rattle.std.specs.Prelude.{ℕ, ◌+◌, ◌-◌, ◌*◌, ◌/◌, ◌%◌, ◌^◌, min, max, nat_le, ℤ, pos, ◌-ℤ◌, int_lt, unsigned_abs, if◌then◌else◌}
-use Rattle.pg_quality.specs.declared.arrival.FrameTime.{FrameTime}
-use Rattle.pg_quality.specs.declared.arrival.Arrival.{Arrival}
+-- The instants of DATA_RATE, and the delay of a data frame (C37.118.2, 6.2 and 6.4). Clocks are milliseconds since 1970-01-01 00:00 UTC.
+use Rattle.std.specs.Prelude.{ℕ, ◌+◌, ◌-◌, ◌*◌, ◌/◌, ◌%◌, ◌^◌, min, nat_le, ℤ, pos, ◌-ℤ◌, int_lt, unsigned_abs, if◌then◌else◌}
 
 -- the whole number nearest to n / d, and of two equally near the greater
 abbrev pub nearest : ℕ → ℕ → ℕ
@@ -20,14 +18,3 @@ millis_of soc frac base = soc * 1000 + frac * 1000 / base
 -- the clock less the stamp
 abbrev pub delay_of : ℕ → ℕ → ℤ
 delay_of clock stamp = pos (min clock (2 ^ 63 - 1)) -ℤ pos stamp
-
--- a resolution of 0 counts as 1
-abbrev pub arrival_of : FrameTime → ℕ → Arrival
-arrival_of time clock =
-    let base = max time.base 1 in
-    record {
-      rate = time.rate;
-      instant = instant_of time.rate time.soc time.frac base;
-      delay = delay_of clock (millis_of time.soc time.frac base);
-      quality = time.quality;
-    }

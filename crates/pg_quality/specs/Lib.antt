@@ -2,6 +2,7 @@
 pub mod Counting
 pub mod Instants
 pub mod Placing
+pub mod NextStamps
 pub mod Tallies
 pub mod Delaying
 pub mod Stats
@@ -10,3 +11,4 @@ pub mod Watching
 pub mod Measures
 pub mod Summing
 pub mod Announcing
+pub mod Sources

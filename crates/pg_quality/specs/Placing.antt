@@ -1,10 +1,12 @@
 -- Spans of instants, and how the instant of a frame stands to those before it.
-use Rattle.std.specs.Prelude.{ℕ, ◌-◌, ◌*◌, ◌%◌, ◌^◌, ℤ, pos, unsigned_abs, bit_or, not, ◌||◌, nat_lt, nat_le, ◌==◌, if◌then◌else◌}
+use Rattle.std.specs.Prelude.{ℕ, ◌-◌, ◌*◌, ◌%◌, ◌^◌, max, ℤ, pos, unsigned_abs, bit_or, not, ◌||◌, nat_lt, nat_le, ◌==◌, if◌then◌else◌}
 use Rattle.std.specs.Int.{bit_at, int_max}
 use Rattle.std.specs.Ordering.{int_eq}
 use Rattle.pg_quality.specs.Counting.{more}
+use Rattle.pg_quality.specs.Instants.{instant_of}
+use Rattle.pg_quality.specs.declared.frame_time.FrameTime.{FrameTime}
 use Rattle.pg_quality.specs.declared.span.Span.{Span}
-use Rattle.pg_quality.specs.declared.span.Spans.{Spans}
+use Rattle.pg_quality.specs.declared.span.SpanCounts.{SpanCounts}
 use Rattle.pg_quality.specs.declared.span.Place.{Place}
 use Rattle.pg_quality.specs.declared.span.Place.TheVariants.{First, After, Before, Repeated, Forgotten, Unnumbered}
 
@@ -54,20 +56,43 @@ span_with s rate instant Forgotten = s
 span_with s rate instant Unnumbered = s
 
 -- it is counted
-abbrev pub counted : Spans → Place → Spans
-counted s First = record s { begun = more s.begun 1 }
-counted s (After steps) = s
-counted s Before = record s { out_of_order = more s.out_of_order 1 }
-counted s Repeated = record s { repeated = more s.repeated 1 }
-counted s Forgotten = record s { out_of_order = more s.out_of_order 1 }
-counted s Unnumbered = s
+abbrev pub counted : SpanCounts → Place → SpanCounts
+counted c First = record c { begun = more c.begun 1 }
+counted c (After steps) = c
+counted c Before = record c { out_of_order = more c.out_of_order 1 }
+counted c Repeated = record c { repeated = more c.repeated 1 }
+counted c Forgotten = record c { out_of_order = more c.out_of_order 1 }
+counted c Unnumbered = c
 
-abbrev pub no_spans : Spans
-no_spans = record { span = no_span; begun = 0; repeated = 0; out_of_order = 0 }
+-- ---- the spans of a source
+
+-- DATA_RATE and the resolution of FRACSEC as they were announced, the span of the last frame, and what was counted of all spans
+pub record SpanState : Type 0 where
+  pub rate : ℤ
+  pub base : ℕ
+  pub span : Span
+  pub counts : SpanCounts
+
+abbrev pub no_counts : SpanCounts
+no_counts = record { begun = 0; repeated = 0; out_of_order = 0 }
+
+abbrev pub no_spans : SpanState
+no_spans = record { rate = pos 0; base = 1; span = no_span; counts = no_counts }
+
+-- they were announced; a resolution of 0 counts as 1
+abbrev pub announced : SpanState → ℤ → ℕ → SpanState
+announced s rate base = record s { rate = rate; base = max base 1 }
+
+-- the instant of a frame, and how it stands
+unfoldable pub instant_in : SpanState → FrameTime → ℕ
+instant_in s t = instant_of s.rate t.soc t.frac s.base
+
+abbrev pub place_in : SpanState → FrameTime → Place
+place_in s t = place_of s.span s.rate (instant_in s t)
 
 -- a frame of this instant came, and stands so to those before it
-abbrev pub taken_at : Spans → ℤ → ℕ → Place → Spans
-taken_at s rate instant place = record (counted s place) { span = span_with s.span rate instant place }
+abbrev pub taken_at : SpanState → ℕ → Place → SpanState
+taken_at s instant place = record s { span = span_with s.span s.rate instant place; counts = counted s.counts place }
 
-abbrev pub taken : Spans → ℤ → ℕ → Spans
-taken s rate instant = taken_at s rate instant (place_of s.span rate instant)
+abbrev pub taken : SpanState → FrameTime → SpanState
+taken s t = taken_at s (instant_in s t) (place_in s t)

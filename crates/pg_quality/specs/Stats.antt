@@ -1,16 +1,16 @@
 -- STAT of data blocks (C37.118.2, 6.3, table 7), and the time quality of data frames (FRACSEC's top byte, 6.2).
 use Rattle.std.specs.Prelude.{ℕ, ◌/◌, ◌%◌, ◌^◌, Bool, not, ◌==◌, List, replicate, slice_set, slice_index_or, Some, None, if◌then◌else◌}
 use Rattle.std.specs.Int.{bit_at}
-use Rattle.pg_quality.specs.Counting.{more, more_if}
+use Rattle.pg_quality.specs.Counting.{more, more_by, more_if}
 use Rattle.pg_quality.specs.declared.stat.StatCounts.{StatCounts}
 use Rattle.pg_quality.specs.declared.time_quality.TimeQuality.{TimeQuality}
 
 abbrev pub is_set : ℕ → ℕ → Bool
 is_set word bit = bit_at word bit == 1
 
--- one more of a code, unless it is 0
-abbrev pub with_code : List ℕ → ℕ → List ℕ
-with_code counts code = if code == 0 then counts else slice_set counts code (more (slice_index_or counts code 0) 1)
+-- so many more of a code, unless it is 0
+abbrev pub with_code : List ℕ → ℕ → ℕ → List ℕ
+with_code counts code n = if code == 0 then counts else slice_set counts code (more (slice_index_or counts code 0) n)
 
 abbrev pub no_stat : StatCounts
 no_stat = record {
@@ -28,22 +28,29 @@ no_stat = record {
   unlocked = replicate 4 0;
 }
 
--- a block came with this STAT
-abbrev pub with_stat : StatCounts → ℕ → StatCounts
-with_stat c stat = record {
+-- so many blocks came with this STAT
+abbrev pub with_stats : StatCounts → ℕ → ℕ → StatCounts
+with_stats c stat n = record {
   last = stat;
   trigger_reason = if is_set stat 11 then Some (stat % 16) else c.trigger_reason;
-  pmu_error = more_if (stat / 2 ^ 14 == 1) c.pmu_error;
-  test_or_absent = more_if (stat / 2 ^ 14 == 2) c.test_or_absent;
-  do_not_use = more_if (stat / 2 ^ 14 == 3) c.do_not_use;
-  out_of_sync = more_if (is_set stat 13) c.out_of_sync;
-  by_arrival = more_if (is_set stat 12) c.by_arrival;
-  triggered = more_if (is_set stat 11) c.triggered;
-  changing = more_if (is_set stat 10) c.changing;
-  modified = more_if (is_set stat 9) c.modified;
-  time_quality = with_code c.time_quality ((stat / 2 ^ 6) % 8);
-  unlocked = with_code c.unlocked ((stat / 2 ^ 4) % 4);
+  pmu_error = more_by (stat / 2 ^ 14 == 1) c.pmu_error n;
+  test_or_absent = more_by (stat / 2 ^ 14 == 2) c.test_or_absent n;
+  do_not_use = more_by (stat / 2 ^ 14 == 3) c.do_not_use n;
+  out_of_sync = more_by (is_set stat 13) c.out_of_sync n;
+  by_arrival = more_by (is_set stat 12) c.by_arrival n;
+  triggered = more_by (is_set stat 11) c.triggered n;
+  changing = more_by (is_set stat 10) c.changing n;
+  modified = more_by (is_set stat 9) c.modified n;
+  time_quality = with_code c.time_quality ((stat / 2 ^ 6) % 8) n;
+  unlocked = with_code c.unlocked ((stat / 2 ^ 4) % 4) n;
 }
+
+abbrev pub with_stat : StatCounts → ℕ → StatCounts
+with_stat c stat = with_stats c stat 1
+
+-- so many more blocks came with the last STAT
+abbrev pub with_last : StatCounts → ℕ → StatCounts
+with_last c n = if n == 0 then c else with_stats c c.last n
 
 -- ---- the frame's time quality
 

@@ -1,10 +1,10 @@
 -- What those that ask are answered of a source's data frames.
 use Rattle.std.specs.Prelude.{ℕ, ℤ, pos, negsuc, List, [], ◌∷◌, map, Option, Some, None}
 use Rattle.pg_quality.specs.Tallies.{both, last_hour, last_minute as tally_of_minute}
+use Rattle.pg_quality.specs.Measures.{Frames}
 use Rattle.pg_quality.specs.Delaying.{below, bucket_of, last_minute, quantile_of}
 use Rattle.pg_quality.specs.declared.delay.Delays.{Delays}
 use Rattle.pg_quality.specs.declared.delay.Histogram.{Histogram}
-use Rattle.pg_quality.specs.declared.frame_quality.FrameQuality.{FrameQuality}
 use Rattle.pg_quality.specs.declared.summary.DelaySummary.{DelaySummary}
 use Rattle.pg_quality.specs.declared.summary.FrameSummary.{FrameSummary}
 
@@ -25,15 +25,15 @@ summary_with h (Some median) (Some most) = Some (record { least = h.least; media
 abbrev pub delay_summary : Histogram → Option DelaySummary
 delay_summary h = summary_with h (quantile_of h 500) (quantile_of h 990)
 
-abbrev pub frame_summary : ℤ → FrameQuality → ℕ → FrameSummary
-frame_summary rate q second = record {
-  rate = rate;
+abbrev pub frame_summary : Frames → ℕ → FrameSummary
+frame_summary q second = record {
+  rate = q.spans.rate;
   minute = tally_of_minute q.completeness second;
   hour = last_hour q.completeness second;
   connected = both q.completeness.connected q.completeness.current;
-  spans = q.spans.begun;
-  repeated = q.spans.repeated;
-  out_of_order = q.spans.out_of_order;
+  spans = q.spans.counts.begun;
+  repeated = q.spans.counts.repeated;
+  out_of_order = q.spans.counts.out_of_order;
   delay = delay_summary (last_minute q.delays second);
   below = delays_below q.delays metric_bounds;
   frames = below q.delays 152;

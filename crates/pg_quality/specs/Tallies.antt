@@ -25,6 +25,10 @@ tally_of Repeated rate = nothing
 tally_of Forgotten rate = nothing
 tally_of Unnumbered rate = record { expected = 0; received = 1 }
 
+-- what so many frames add that each are of the instant behind the last
+abbrev pub in_turn : ℕ → Tally
+in_turn frames = record { expected = frames; received = frames }
+
 -- received of expected, in tenths of a per cent rounded down: 1,000 says that none is missing
 abbrev pub completeness_of : Tally → Option ℕ
 completeness_of t =

@@ -4,7 +4,7 @@ ghost use Rattle.pg_quality.specs.Measures.{blocks_at, no_blocks, with_block};
 ghost use Rattle.pg_quality.specs.Watching.{changes_of, looked};
 
 use crate::frequency::Frequency;
-use crate::stat::StatCounts;
+use crate::stat::StatTally;
 use crate::watch::{PmuChanges, PmuWatch};
 
 /// The head of a PMU's data block (C37.118.2, 6.3).
@@ -19,10 +19,10 @@ pub struct Block {
 }
 
 /// The measures of one PMU's data blocks.
-#[derive(Clone, Copy)]
+#[derive(Drop)]
 pub struct BlockQuality {
     /// STAT of its blocks.
-    pub stat: StatCounts,
+    pub stat: StatTally,
     /// Its frequency.
     pub frequency: Frequency,
     /// What was seen of it at the last look.
@@ -35,9 +35,20 @@ impl BlockQuality {
         ensures { result ≡ no_blocks }
     {
         BlockQuality {
-            stat: StatCounts::new(),
+            stat: StatTally::new(),
             frequency: Frequency::new(),
             watch: PmuWatch::new(),
+        }
+    }
+
+    /// A copy.
+    pub(crate) fn copied(&self) -> BlockQuality
+        ensures { result ≡ self.now }
+    {
+        BlockQuality {
+            stat: self.stat.copied(),
+            frequency: self.frequency,
+            watch: self.watch,
         }
     }
 
@@ -53,7 +64,7 @@ impl BlockQuality {
         ensures watch { self.new ≡ record self.old { watch = looked self.old.watch self.old.stat } }
         ensures changes { result ≡ changes_of self.old.watch self.old.stat }
     {
-        self.watch.look(&self.stat)
+        self.watch.look(&self.stat.counts())
     }
 
     /// A data block came, in the second to which the clock has come.

@@ -1,6 +1,6 @@
 //! Completeness: how many of the instants of DATA_RATE came.
 ghost use Rattle.std.specs.Prelude.{◌≡◌, ◌*◌, ◌/◌, ◌<◌};
-ghost use Rattle.pg_quality.specs.Tallies.{both, completeness_of, filed_at, filed_since, filed_with, in_minute, in_second, is_within, last_hour, last_minute, no_row, nothing, nothing_came, rolled, tally_of, with_current, with_row, with_tally};
+ghost use Rattle.pg_quality.specs.Tallies.{both, completeness_of, filed_at, filed_since, filed_with, in_minute, in_second, in_turn, is_within, last_hour, last_minute, no_row, nothing, nothing_came, rolled, tally_of, with_current, with_row, with_tally};
 
 use crate::span::{Place, is_same};
 
@@ -24,6 +24,16 @@ impl Tally {
         Tally {
             expected: 0,
             received: 0,
+        }
+    }
+
+    /// What so many frames add that each are of the instant behind the last.
+    pub(crate) fn in_turn(frames: u64) -> Tally
+        ensures { result ≡ in_turn frames }
+    {
+        Tally {
+            expected: frames,
+            received: frames,
         }
     }
 

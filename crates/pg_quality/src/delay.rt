@@ -1,6 +1,5 @@
 //! The delay of frames: a histogram of each ten seconds of this machine's clock.
 ghost use Rattle.std.specs.Prelude.{◌≡◌, ◌+◌, ◌-◌, ◌^◌, ◌<◌, ◌≤◌, length, min, sum, take};
-ghost use Rattle.std.specs.Int.{int_max, int_min};
 ghost use Rattle.pg_quality.specs.Delaying.{added, below, both, bucket_of, counted, empty, end_in, end_of, is_within, last_minute, no_delays, noted, quantile_of, range_of, reached, rolled, start_of, with_one};
 
 /// How many buckets are there for delays from 0 on, and as many for those below it.
@@ -53,8 +52,12 @@ impl Histogram {
     {
         let bucket = bucket_of(delay);
         self.counts[bucket] = self.counts[bucket].saturating_add(1);
-        lower(&mut self.least, delay);
-        raise(&mut self.greatest, delay);
+        if delay < self.least {
+            self.least = delay;
+        }
+        if delay > self.greatest {
+            self.greatest = delay;
+        }
     }
 
     /// Adds the frames of another one. Each count stays at 2^32 - 1 once it is there.
@@ -149,6 +152,7 @@ impl Delays {
     }
 
     /// A frame came with this delay.
+    #[inline(always)]
     pub fn note(&mut self, delay: i64)
         ensures { self.new ≡ record self.old { current = noted self.old.current delay } }
     {
@@ -199,26 +203,6 @@ fn sum_below(totals: &[u64; 152], counts: &[u32; 152], most: usize) -> u64
     count
 }
 
-/// The least of the delays so far and one more.
-#[inline(always)]
-fn lower(least: &mut i64, delay: i64)
-    ensures { least.new ≡ int_min least.old delay }
-{
-    if delay < *least {
-        *least = delay;
-    }
-}
-
-/// The greatest of the delays so far and one more.
-#[inline(always)]
-fn raise(greatest: &mut i64, delay: i64)
-    ensures { greatest.new ≡ int_max greatest.old delay }
-{
-    if delay > *greatest {
-        *greatest = delay;
-    }
-}
-
 /// Whether ten seconds are these, or one of the six before.
 fn is_within(number: u64, last: u64) -> bool
     ensures { result ≡ is_within number last }
@@ -247,14 +231,19 @@ fn add_totals(totals: &mut [u64; 152], counts: &[u32; 152])
 }
 
 /// The range that a number lies in.
-#[tactic(auto, using(crate::proofs::Ranges::range_by_log, crate::proofs::Ranges::range_below))]
+#[tactic(auto, using(crate::proofs::Ranges::range_small, crate::proofs::Ranges::range_most, crate::proofs::Ranges::range_by_log, crate::proofs::Ranges::range_below))]
 #[inline(always)]
 fn range_of(number: u64) -> usize
     ensures value { result ≡ range_of number }
     ensures within { result < 76 }
 {
-    let number = number.min(MOST);
-    let shift = (number.max(4) / 4).ilog2();
+    if number < 8 {
+        return number as usize;
+    }
+    if number > MOST {
+        return SIDE - 1;
+    }
+    let shift = (number / 4).ilog2();
     4 * shift as usize + (number >> shift) as usize
 }
 

@@ -1,7 +1,6 @@
 //! FREQ and DFREQ of a PMU's data blocks, as whole numbers (C37.118.2, 6.3).
 ghost use Rattle.std.specs.Prelude.{◌≡◌, ◌%◌, ◌==◌, pos, if◌then◌else◌};
-ghost use Rattle.std.specs.Int.{int_max, int_min};
-ghost use Rattle.pg_quality.specs.Frequencies.{at_second, band_of, band_with, filed_at, no_band, no_frequency, noted, rolled};
+ghost use Rattle.pg_quality.specs.Frequencies.{at_second, band_if_any, band_of, filed_at, no_band, no_frequency, noted, rolled};
 
 use crate::span::is_same;
 
@@ -31,13 +30,27 @@ impl Band {
         }
     }
 
-    /// One more value.
+    /// One more FREQ. Most are within the band, and the one that says that there is no value is the least number.
     #[inline(always)]
     fn widen(&mut self, freq: i16)
-        ensures { self.new ≡ band_with self.old freq }
+        ensures { self.new ≡ band_if_any self.old freq }
     {
-        lower(&mut self.least, freq);
-        raise(&mut self.greatest, freq);
+        if freq < self.least {
+            self.widen_down(freq);
+        } else if freq > self.greatest {
+            self.greatest = freq;
+        }
+    }
+
+    /// The same of any.
+    #[inline(never)]
+    fn widen_down(&mut self, freq: i16)
+        ensures { self.new ≡ band_if_any self.old freq }
+    {
+        if !is_same(freq, NO_VALUE) {
+            self.least = self.least.min(freq);
+            self.greatest = self.greatest.max(freq);
+        }
     }
 
     /// The band, where it has a value.
@@ -123,9 +136,7 @@ impl Frequency {
     {
         self.freq = freq;
         self.dfreq = dfreq;
-        if !is_same(freq, NO_VALUE) {
-            self.current.widen(freq);
-        }
+        self.current.widen(freq);
     }
 
     /// The band of a second that is filed, where it is kept and has a value.
@@ -138,26 +149,6 @@ impl Frequency {
         } else {
             None
         }
-    }
-}
-
-/// The least of the values so far and one more.
-#[inline(always)]
-fn lower(least: &mut i16, value: i16)
-    ensures { least.new ≡ int_min least.old value }
-{
-    if value < *least {
-        *least = value;
-    }
-}
-
-/// The greatest of the values so far and one more.
-#[inline(always)]
-fn raise(greatest: &mut i16, value: i16)
-    ensures { greatest.new ≡ int_max greatest.old value }
-{
-    if value > *greatest {
-        *greatest = value;
     }
 }
 

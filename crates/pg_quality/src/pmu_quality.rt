@@ -1,6 +1,7 @@
 //! A PMU that a source announced, and the measures of its blocks.
 ghost use Rattle.std.specs.Prelude.{◌≡◌, ◌^◌, ◌<◌};
-ghost use Rattle.pg_quality.specs.Watching.{changes_of, looked};
+ghost use Rattle.pg_quality.specs.Watching.{changes_of};
+ghost use Rattle.pg_quality.specs.Sources.{looked_of};
 ghost use Rattle.pg_quality.specs.Announcing.{block_in, pmu_at, pmu_noted, pmu_of, summary_of};
 
 use crate::block_quality::{Block, BlockQuality};
@@ -8,11 +9,8 @@ use crate::stat::StatCounts;
 use crate::watch::PmuChanges;
 use pg_config::PmuConfig;
 
-/// How many bytes FREQ and DFREQ take (C37.118.2, 6.3).
-const FREQUENCIES: usize = 4;
-
 /// A PMU that a source announced, and the measures of its blocks.
-#[derive(Clone, Copy)]
+#[derive(Drop)]
 pub struct PmuQuality {
     /// Its IDCODE at its source.
     pub id: u16,
@@ -21,9 +19,9 @@ pub struct PmuQuality {
     /// FNOM.
     pub fnom: u16,
     /// Where its block begins among the blocks of a data frame.
-    pub start: usize,
-    /// Where FREQ stands among them.
-    pub freq_at: usize,
+    pub start: u16,
+    /// PHNMR, the number of phasors.
+    pub phasors: u16,
     /// The measures of its blocks.
     pub blocks: BlockQuality,
 }
@@ -59,8 +57,8 @@ impl PmuQuality {
             id: part.id(),
             station,
             fnom: u16::from_be_bytes([part.block[len - 4], part.block[len - 3]]),
-            start,
-            freq_at: start + 2 + 4 * usize::from(part.phasors),
+            start: start as u16,
+            phasors: part.phasors,
             blocks,
         }
     }
@@ -79,7 +77,7 @@ impl PmuQuality {
     pub(crate) fn note(&mut self, body: &[u8])
         ensures { self.new ≡ pmu_noted body.now self.old }
     {
-        if let Some(block) = block_in(body, self.start, self.freq_at) {
+        if let Some(block) = block_in(body, self.start, self.phasors) {
             self.blocks.note(block);
         }
     }
@@ -87,7 +85,7 @@ impl PmuQuality {
     /// Takes a look at its STAT, and returns what changed since the last one.
     pub fn look(&mut self) -> PmuChanges
         ensures changes { result ≡ changes_of self.old.blocks.watch self.old.blocks.stat }
-        ensures watch { self.new ≡ record self.old { blocks = record self.old.blocks { watch = looked self.old.blocks.watch self.old.blocks.stat } } }
+        ensures watch { self.new ≡ looked_of self.old }
     {
         self.blocks.look()
     }
@@ -100,20 +98,22 @@ impl PmuQuality {
             id: self.id,
             station: self.station,
             fnom: self.fnom,
-            stat: self.blocks.stat,
+            stat: self.blocks.stat.counts(),
             freq: self.blocks.frequency.freq,
             dfreq: self.blocks.frequency.dfreq,
         }
     }
 }
 
-/// The head of a block that begins at this place among these blocks, and has FREQ at another.
+/// The head of a block with so many phasors that begins at this place among these blocks.
 #[inline(always)]
-fn block_in(body: &[u8], start: usize, freq_at: usize) -> Option<Block>
-    ensures { result ≡ block_in body.now start freq_at }
+fn block_in(body: &[u8], start: u16, phasors: u16) -> Option<Block>
+    ensures { result ≡ block_in body.now start phasors }
 {
-    let is_whole = start < freq_at && freq_at < body.len() && body.len() - freq_at >= FREQUENCIES;
-    if !is_whole {
+    let start = usize::from(start);
+    // FREQ and DFREQ stand behind STAT and the phasors, and are two bytes each.
+    let freq_at = start + 2 + 4 * usize::from(phasors);
+    if freq_at + 4 > body.len() {
         return None;
     }
     Some(Block {

@@ -1,50 +1,49 @@
 //! The measures of a source's data, and of the blocks of each PMU that it announced.
-ghost use Rattle.std.specs.Prelude.{◌≡◌, ◌≤◌, [], length, map, IfOk, IfErr};
+ghost use Rattle.std.specs.Prelude.{◌≡◌, ◌≤◌, ◌==◌, not, length, map, IfOk, IfErr};
 ghost use Rattle.std.specs.Arc.{arc_value};
-ghost use Rattle.pg_data.specs.Measurements.{resolution};
-ghost use Rattle.pg_quality.specs.Instants.{arrival_of};
-ghost use Rattle.pg_quality.specs.Measures.{at_connect, at_second, no_frames, with_frame};
 ghost use Rattle.pg_quality.specs.Summing.{frame_summary};
-ghost use Rattle.pg_quality.specs.Tallies.{last_minute};
-ghost use Rattle.pg_quality.specs.Watching.{change_of, is_short_after};
-ghost use Rattle.pg_quality.specs.Announcing.{blocks_known, pmu_at, pmu_noted, pmus_from, rate_of, time_of};
+ghost use Rattle.pg_data.specs.Measurements.{resolution};
+ghost use Rattle.pg_quality.specs.Announcing.{blocks_known, pmu_at, pmu_noted, pmus_from, rate_of};
+ghost use Rattle.pg_quality.specs.Sources.{announced, came_to, connected, forgotten, judged, judgement, looked_at, changes_at, no_source, noted};
 
-use crate::arrival::{Arrival, FrameTime};
 use crate::block_quality::BlockQuality;
+use crate::completeness::Completeness;
 use crate::frame_quality::FrameQuality;
+use crate::frame_time::FrameTime;
 use crate::pmu_quality::PmuQuality;
 use crate::summary::FrameSummary;
-use crate::watch::{change_of, is_short_after};
+use crate::watch::{PmuChanges, change_of, is_short_after};
 use pg_config::{PmuConfig, SourceConfig};
 use pg_data::DataFrame;
 use std::alloc::{AllocError, Global};
+use std::marker::Model;
 use std::sync::Arc;
 
 /// The measures of a source's data, and of the blocks of each PMU that it announced.
 #[derive(Drop)]
 pub struct SourceQuality {
-    /// Of its data frames.
-    pub frames: FrameQuality,
-    /// The resolution of FRACSEC, as it was announced.
-    pub base: u32,
-    /// DATA_RATE, as it was announced.
-    pub rate: i16,
-    /// Whether too many of its frames were missing at the last look.
-    pub is_short: bool,
-    /// The PMUs of its last configuration, in its order.
-    pub pmus: Vec<PmuQuality>,
+    frames: FrameQuality,
+    // Whether too many of its frames were missing at the last look.
+    is_short: bool,
+    // The PMUs of its last configuration, in its order.
+    pmus: Vec<PmuQuality>,
+}
+
+impl Model for SourceQuality {
+    ghost use Rattle.pg_quality.specs.Sources.{SourceState};
+
+    ghost Value = { SourceState };
+
+    ghost view = { λ s. record { frames = s.frames; is_short = s.is_short; pmus = s.pmus.items } };
 }
 
 impl SourceQuality {
     /// Of a source that announced nothing.
     pub fn new(alloc: Global) -> SourceQuality
-        ensures frames { result.frames ≡ no_frames }
-        ensures pmus { result.pmus.items ≡ [] }
+        ensures { result ≡ no_source }
     {
         SourceQuality {
             frames: FrameQuality::new(),
-            base: 1,
-            rate: 0,
             is_short: false,
             pmus: Vec::new(alloc),
         }
@@ -52,7 +51,7 @@ impl SourceQuality {
 
     /// The source connected: the next frame begins a span, and what came since the source connected is counted from here.
     pub fn connect(&mut self)
-        ensures { self.new ≡ record self.old { frames = at_connect self.old.frames } }
+        ensures { self.new ≡ connected self.old }
     {
         self.frames.connect();
     }
@@ -63,15 +62,11 @@ impl SourceQuality {
     ///
     /// There is no memory: no PMU is known until it announces again.
     pub fn announce(&mut self, alloc: Global, config: &SourceConfig) -> Result<(), AllocError>
-        ensures known { IfOk result (λ _. self.new.pmus.items ≡ pmus_from 0 self.old.pmus.items config.now.parts) }
-        ensures memory { IfErr result (λ _. self.new.pmus.items ≡ []) }
-        ensures base { self.new.base ≡ resolution config.now }
-        ensures rate { self.new.rate ≡ rate_of config.now }
-        ensures same { (self.new.frames ≡ self.old.frames) × (self.new.is_short ≡ self.old.is_short) }
+        ensures known { IfOk result (λ _. self.new ≡ announced self.old config.now) }
+        ensures memory { IfErr result (λ _. self.new ≡ forgotten self.old config.now) }
     {
         let found = pmus_of(alloc, &config.parts, &self.pmus);
-        self.base = config.parts[0].base;
-        self.rate = config.parts[0].rate;
+        self.frames.announce(rate_of(config), base_of(config));
         match found {
             Ok(pmus) => {
                 self.pmus = pmus;
@@ -84,53 +79,89 @@ impl SourceQuality {
         }
     }
 
-    /// This machine's clock has come to a second since 1970-01-01 00:00 UTC: what was noted in the second before is filed.
-    pub fn come_to(&mut self, second: u64)
-        ensures frames { self.new.frames ≡ at_second self.old.frames second }
-        ensures pmus { self.new.pmus.items ≡ map (pmu_at second) self.old.pmus.items }
-        ensures same { (self.new.base ≡ self.old.base) × (self.new.rate ≡ self.old.rate) × (self.new.is_short ≡ self.old.is_short) }
+    /// This machine's clock has come to a second since 1970-01-01 00:00 UTC: what was noted in the second before is filed. The answer is whether another
+    /// second began.
+    pub fn come_to(&mut self, second: u64) -> bool
+        ensures source { self.new ≡ came_to second self.old }
+        ensures began { result ≡ not (second == self.old.frames.completeness.second) }
     {
-        self.frames.come_to(second);
         each_comes_to(&mut self.pmus, second);
+        self.frames.come_to(second)
     }
 
     /// A data frame of its last configuration came, read when this machine's clock stood at `clock` milliseconds since 1970-01-01 00:00 UTC, in
     /// the second to which the clock has come.
     #[inline(always)]
     pub fn note(&mut self, frame: &DataFrame, clock: u64)
-        ensures frames { self.new.frames ≡ with_frame self.old.frames (arrival_of (time_of frame.now self.old.base self.old.rate) clock) }
-        ensures pmus { self.new.pmus.items ≡ map (pmu_noted frame.now.body) self.old.pmus.items }
-        ensures same { (self.new.base ≡ self.old.base) × (self.new.rate ≡ self.old.rate) × (self.new.is_short ≡ self.old.is_short) }
+        ensures { self.new ≡ noted frame.now clock self.old }
     {
         let time = FrameTime {
             soc: frame.soc,
             frac: frame.frac,
             quality: frame.quality,
-            base: self.base,
-            rate: self.rate,
         };
-        self.frames.note(&Arrival::new(time, clock));
+        self.frames.note(&time, clock);
         note_each(&mut self.pmus, &frame.body);
     }
 
     /// Judges its last minute by this second of this machine's clock. Where that changed since the last look, the answer is whether too many of its frames
     /// are missing.
     pub fn judge(&mut self, second: u64) -> Option<bool>
-        ensures change { result ≡ change_of self.old.is_short (is_short_after self.old.is_short (last_minute self.old.frames.completeness second) self.old.rate) }
-        ensures short { self.new ≡ record self.old { is_short = is_short_after self.old.is_short (last_minute self.old.frames.completeness second) self.old.rate } }
+        ensures change { result ≡ judgement second self.old }
+        ensures short { self.new ≡ judged second self.old }
     {
-        let minute = self.frames.completeness.last_minute(second);
+        let minute = self.frames.completeness().last_minute(second);
         let was_short = self.is_short;
-        self.is_short = is_short_after(was_short, minute, self.rate);
+        self.is_short = is_short_after(was_short, minute, self.frames.rate());
         change_of(was_short, self.is_short)
+    }
+
+    /// What changed since the last look of the PMU at this place of its configuration: its IDCODE and the changes. `None` behind the last.
+    pub fn look(&mut self, place: usize) -> Option<(u16, PmuChanges)>
+        ensures changes { result ≡ changes_at place self.old }
+        ensures looked { self.new ≡ looked_at place self.old }
+    {
+        if place >= self.pmus.len() {
+            return None;
+        }
+        let pmu = &mut self.pmus[place];
+        Some((pmu.id, pmu.look()))
+    }
+
+    /// How many of its frames came.
+    pub fn completeness(&self) -> Completeness
+        ensures { result ≡ self.now.frames.completeness }
+    {
+        self.frames.completeness()
     }
 
     /// How good its data frames are in this second of this machine's clock.
     pub fn summary(&self, second: u64) -> FrameSummary
-        ensures { result ≡ frame_summary self.now.rate self.now.frames second }
+        ensures { result ≡ frame_summary self.now.frames second }
     {
-        FrameSummary::new(self.rate, &self.frames, second)
+        FrameSummary::new(&self.frames, second)
     }
+
+    /// The PMUs of its last configuration, in its order.
+    pub fn pmus(&self) -> &[PmuQuality]
+        ensures { result.now ≡ self.now.pmus }
+    {
+        &self.pmus
+    }
+}
+
+/// DATA_RATE of a configuration.
+fn rate_of(config: &SourceConfig) -> i16
+    ensures { result ≡ rate_of config.now }
+{
+    config.parts[0].rate
+}
+
+/// The resolution of FRACSEC of a configuration.
+fn base_of(config: &SourceConfig) -> u32
+    ensures { result ≡ resolution config.now }
+{
+    config.parts[0].base
 }
 
 /// The clock has come to a second.
@@ -177,7 +208,7 @@ fn blocks_of(known: &[PmuQuality], id: u16) -> BlockQuality
 {
     for pmu in known {
         if pmu.id == id {
-            return pmu.blocks;
+            return pmu.blocks.copied();
         }
     }
     BlockQuality::new()

@@ -1,8 +1,8 @@
-//! Spans: runs of instants with no jump between them.
-ghost use Rattle.std.specs.Prelude.{◌≡◌, false, IsTrue};
+//! A span: a run of instants with no jump between them.
+ghost use Rattle.std.specs.Prelude.{◌≡◌};
 ghost use Rattle.std.specs.Ordering.{int_eq};
 ghost use Rattle.pg_quality.specs.Counting.{more};
-ghost use Rattle.pg_quality.specs.Placing.{begun_at, counted, jump_of, moved, no_span, no_spans, place_after, place_before, place_of, span_with, taken};
+ghost use Rattle.pg_quality.specs.Placing.{begun_at, counted, jump_of, moved, no_counts, no_span, place_after, place_before, place_of, span_with};
 
 /// An instant that is further than so many seconds from the last one, either way, jumps: it begins a new span. Where DATA_RATE is in seconds a frame,
 /// it does so if it is further than so many frames.
@@ -71,7 +71,6 @@ impl Span {
     }
 
     /// How an instant of this DATA_RATE stands to those of the span.
-    #[inline(always)]
     pub fn place(&self, rate: i16, instant: u64) -> Place
         ensures { result ≡ place_of self.now rate instant }
     {
@@ -88,19 +87,7 @@ impl Span {
         }
     }
 
-    /// Whether an instant is the one behind the last.
-    #[inline(always)]
-    fn has_next(&self, rate: i16, instant: u64) -> bool
-        ensures { IsTrue result → place_of self.now rate instant ≡ Place.After 1 }
-    {
-        is_same(rate, self.rate)
-            && instant > self.last
-            && instant - self.last == 1
-            && self.jump != 0
-    }
-
     /// How an instant stands that is so many after the last one.
-    #[inline(always)]
     fn place_after(&self, steps: u64) -> Place
         ensures { result ≡ place_after self.now steps }
     {
@@ -127,8 +114,7 @@ impl Span {
     }
 
     /// The span once an instant has come, which stands so to those before it.
-    #[inline(always)]
-    fn with(self, rate: i16, instant: u64, place: Place) -> Span
+    pub(crate) fn with(self, rate: i16, instant: u64, place: Place) -> Span
         ensures { result ≡ span_with self rate instant place }
     {
         match place {
@@ -166,17 +152,15 @@ fn jump_of(rate: i16) -> u64
 
 /// Bits moved up by so many places.
 #[inline(always)]
-fn moved(bits: u64, places: u64) -> u64
+pub(crate) fn moved(bits: u64, places: u64) -> u64
     ensures { result ≡ moved bits places }
 {
     if places < KNOWN { bits << places } else { 0 }
 }
 
-/// The span of a source, and what was counted of all its spans. Each number stays at 2^64 - 1 once it is there.
+/// What was counted of all spans of a source. Each number stays at 2^64 - 1 once it is there.
 #[derive(Clone, Copy)]
-pub struct Spans {
-    /// The span of the last frame.
-    pub span: Span,
+pub struct SpanCounts {
     /// How many spans began.
     pub begun: u64,
     /// Frames of an instant that had come.
@@ -185,83 +169,45 @@ pub struct Spans {
     pub out_of_order: u64,
 }
 
-impl Spans {
+impl SpanCounts {
     /// Before the first frame.
-    pub fn new() -> Spans
-        ensures { result ≡ no_spans }
+    pub(crate) fn new() -> SpanCounts
+        ensures { result ≡ no_counts }
     {
-        Spans {
-            span: Span::none(),
+        SpanCounts {
             begun: 0,
             repeated: 0,
             out_of_order: 0,
         }
     }
 
-    /// A connection begins: the next frame begins a span.
-    pub fn connect(&mut self)
-        ensures { self.new ≡ record self.old { span = no_span } }
-    {
-        self.span = Span::none();
-    }
-
-    /// Takes an instant where it is the one behind the last, as it mostly is. The answer is whether it is.
-    #[inline(always)]
-    pub fn take_next(&mut self, rate: i16, instant: u64) -> bool
-        ensures next { IsTrue result → (place_of self.old.span rate instant ≡ Place.After 1) × (self.new ≡ taken self.old rate instant) }
-        ensures same { result ≡ false → self.new ≡ self.old }
-    {
-        if !self.span.has_next(rate, instant) {
-            return false;
-        }
-        self.span.last = instant;
-        self.span.came = moved(self.span.came, 1) | 1;
-        true
-    }
-
-    /// A frame of this instant came. The answer is how it stands to those before it.
-    #[inline(always)]
-    pub fn take(&mut self, rate: i16, instant: u64) -> Place
-        ensures place { result ≡ place_of self.old.span rate instant }
-        ensures spans { self.new ≡ taken self.old rate instant }
-    {
-        let place = self.span.place(rate, instant);
-        let span = self.span.with(rate, instant, place);
-        *self = Spans {
-            span,
-            ..self.counted(place)
-        };
-        place
-    }
-
     /// The counts with a frame that stands so to those before it.
-    #[inline(always)]
-    fn counted(&self, place: Place) -> Spans
-        ensures { result ≡ counted self.now place }
+    pub(crate) fn with(self, place: Place) -> SpanCounts
+        ensures { result ≡ counted self place }
     {
         match place {
-            Place::First => Spans {
+            Place::First => SpanCounts {
                 begun: self.begun.saturating_add(1),
-                ..*self
+                ..self
             },
-            Place::Repeated => Spans {
+            Place::Repeated => SpanCounts {
                 repeated: self.repeated.saturating_add(1),
-                ..*self
+                ..self
             },
             Place::Before => self.with_disorder(),
             Place::Forgotten => self.with_disorder(),
-            Place::After(_) => *self,
-            Place::Unnumbered => *self,
+            Place::After(_) => self,
+            Place::Unnumbered => self,
         }
     }
 
     /// The counts with a frame that came out of order.
-    fn with_disorder(&self) -> Spans
-        ensures { result ≡ record self.now { out_of_order = more self.now.out_of_order 1 } }
+    fn with_disorder(self) -> SpanCounts
+        ensures { result ≡ record self { out_of_order = more self.out_of_order 1 } }
     {
-        Spans {
+        SpanCounts {
             out_of_order: self.out_of_order.saturating_add(1),
-            ..*self
+            ..self
         }
     }
 }

@@ -1,7 +1,9 @@
 //! STAT of a PMU's data blocks (C37.118.2, 6.3, table 7).
 ghost use Rattle.std.specs.Prelude.{◌≡◌, ◌%◌, ◌<◌, length, if◌then◌else◌};
-ghost use Rattle.pg_quality.specs.Counting.{more_if};
-ghost use Rattle.pg_quality.specs.Stats.{is_set, no_stat, with_code, with_stat};
+ghost use Rattle.pg_quality.specs.Counting.{more_by};
+ghost use Rattle.pg_quality.specs.Stats.{is_set, no_stat, with_code, with_stat, with_stats};
+
+use std::marker::Model;
 
 /// How many blocks had each bit or code of STAT set, and the last STAT. Each number stays at 2^64 - 1 once it is there.
 #[derive(Clone, Copy)]
@@ -53,36 +55,104 @@ impl StatCounts {
         }
     }
 
+    /// The counts with so many blocks of this STAT.
+    fn with(self, stat: u16, blocks: u64) -> StatCounts
+        ensures { result ≡ with_stats self stat blocks }
+    {
+        let error = stat >> 14;
+        let mut time_quality = self.time_quality;
+        count_code(&mut time_quality, usize::from((stat >> 6) % 8), blocks);
+        let mut unlocked = self.unlocked;
+        count_code(&mut unlocked, usize::from((stat >> 4) % 4), blocks);
+        StatCounts {
+            last: stat,
+            trigger_reason: reason_of(stat, self.trigger_reason),
+            pmu_error: more_by(error == 1, self.pmu_error, blocks),
+            test_or_absent: more_by(error == 2, self.test_or_absent, blocks),
+            do_not_use: more_by(error == 3, self.do_not_use, blocks),
+            out_of_sync: more_by(is_set(stat, 13), self.out_of_sync, blocks),
+            by_arrival: more_by(is_set(stat, 12), self.by_arrival, blocks),
+            triggered: more_by(is_set(stat, 11), self.triggered, blocks),
+            changing: more_by(is_set(stat, 10), self.changing, blocks),
+            modified: more_by(is_set(stat, 9), self.modified, blocks),
+            time_quality,
+            unlocked,
+        }
+    }
+}
+
+/// STAT of a PMU's blocks. One that is that of the block before is counted with others like it, since it mostly is.
+#[derive(Drop)]
+pub struct StatTally {
+    counts: StatCounts,
+    // How many blocks with the last STAT are not in the counts yet.
+    repeated: u64,
+}
+
+impl Model for StatTally {
+    ghost use Rattle.pg_quality.specs.Stats.{with_last};
+    ghost use Rattle.pg_quality.specs.declared.stat.StatCounts.{StatCounts};
+
+    ghost Value = { StatCounts };
+
+    ghost view = { λ t. with_last t.counts t.repeated };
+}
+
+impl StatTally {
+    /// No block came.
+    pub fn new() -> StatTally
+        ensures { result ≡ no_stat }
+    {
+        StatTally {
+            counts: StatCounts::new(),
+            repeated: 0,
+        }
+    }
+
+    /// The counts.
+    pub fn counts(&self) -> StatCounts
+        ensures { result ≡ self.now }
+    {
+        if self.repeated == 0 {
+            self.counts
+        } else {
+            self.counts.with(self.counts.last, self.repeated)
+        }
+    }
+
+    /// A copy.
+    pub(crate) fn copied(&self) -> StatTally
+        ensures { result ≡ self.now }
+    {
+        StatTally {
+            counts: self.counts,
+            repeated: self.repeated,
+        }
+    }
+
     /// A block came with this STAT.
+    #[tactic(auto, using(crate::proofs::Repeating::repeated_more))]
     #[inline(always)]
     pub fn note(&mut self, stat: u16)
         ensures { self.new ≡ with_stat self.old stat }
     {
-        if stat == 0 {
-            self.last = 0;
+        if stat == self.counts.last {
+            self.repeated = self.repeated.saturating_add(1);
         } else {
-            self.note_bits(stat);
+            self.note_other(stat);
         }
     }
 
-    /// Counts the bits and codes of a STAT.
+    /// A block came with another STAT than the one before.
     #[inline(never)]
-    fn note_bits(&mut self, stat: u16)
+    fn note_other(&mut self, stat: u16)
         ensures { self.new ≡ with_stat self.old stat }
     {
-        let error = stat >> 14;
-        self.last = stat;
-        self.trigger_reason = reason_of(stat, self.trigger_reason);
-        self.pmu_error = more_if(error == 1, self.pmu_error);
-        self.test_or_absent = more_if(error == 2, self.test_or_absent);
-        self.do_not_use = more_if(error == 3, self.do_not_use);
-        self.out_of_sync = more_if(is_set(stat, 13), self.out_of_sync);
-        self.by_arrival = more_if(is_set(stat, 12), self.by_arrival);
-        self.triggered = more_if(is_set(stat, 11), self.triggered);
-        self.changing = more_if(is_set(stat, 10), self.changing);
-        self.modified = more_if(is_set(stat, 9), self.modified);
-        count_code(&mut self.time_quality, usize::from((stat >> 6) % 8));
-        count_code(&mut self.unlocked, usize::from((stat >> 4) % 4));
+        let counts = self.counts();
+        *self = StatTally {
+            counts: counts.with(stat, 1),
+            repeated: 0,
+        };
     }
 }
 
@@ -107,24 +177,22 @@ fn reason_of(stat: u16, last: Option<u8>) -> Option<u8>
     }
 }
 
-/// One more of a code, unless it is 0.
-#[inline(always)]
-fn count_code(counts: &mut [u64], code: usize)
+/// So many more of a code, unless it is 0.
+fn count_code(counts: &mut [u64], code: usize, blocks: u64)
     requires { code < length counts.old }
-    ensures { counts.new ≡ with_code counts.old code }
+    ensures { counts.new ≡ with_code counts.old code blocks }
 {
     if code != 0 {
-        counts[code] = counts[code].saturating_add(1);
+        counts[code] = counts[code].saturating_add(blocks);
     }
 }
 
-/// A counter with one more where it is so.
-#[inline(always)]
-pub(crate) fn more_if(is_so: bool, counter: u64) -> u64
-    ensures { result ≡ more_if is_so counter }
+/// A counter with so many more where it is so.
+pub(crate) fn more_by(is_so: bool, counter: u64, more: u64) -> u64
+    ensures { result ≡ more_by is_so counter more }
 {
     if is_so {
-        counter.saturating_add(1)
+        counter.saturating_add(more)
     } else {
         counter
     }

@@ -56,22 +56,25 @@ pub struct FrameSummary {
 }
 
 impl FrameSummary {
-    /// How good frames of this DATA_RATE are in this second of this machine's clock.
-    pub(crate) fn new(rate: i16, quality: &FrameQuality, second: u64) -> FrameSummary
-        ensures { result ≡ frame_summary rate quality.now second }
+    /// How good data frames are in this second of this machine's clock.
+    pub(crate) fn new(quality: &FrameQuality, second: u64) -> FrameSummary
+        ensures { result ≡ frame_summary quality.now second }
     {
+        let completeness = quality.completeness();
+        let counts = quality.span_counts();
+        let delays = quality.delays();
         FrameSummary {
-            rate,
-            minute: quality.completeness.last_minute(second),
-            hour: quality.completeness.last_hour(second),
-            connected: quality.completeness.since_connected(),
-            spans: quality.spans.begun,
-            repeated: quality.spans.repeated,
-            out_of_order: quality.spans.out_of_order,
-            delay: delay_summary(&quality.delays.last_minute(second)),
-            below: delays_below(&quality.delays),
-            frames: quality.delays.count(),
-            time_quality: quality.time_quality,
+            rate: quality.rate(),
+            minute: completeness.last_minute(second),
+            hour: completeness.last_hour(second),
+            connected: completeness.since_connected(),
+            spans: counts.begun,
+            repeated: counts.repeated,
+            out_of_order: counts.out_of_order,
+            delay: delay_summary(&delays.last_minute(second)),
+            below: delays_below(delays),
+            frames: delays.count(),
+            time_quality: quality.time_quality(),
         }
     }
 }

@@ -6,17 +6,18 @@ use std::test::*;
 /// Notes a frame of this time, read when the clock stood at so many milliseconds.
 fn note_at(quality: &mut FrameQuality, time: FrameTime, clock: u64) {
     quality.come_to(clock / 1_000);
-    quality.note(&Arrival::new(time, clock));
+    quality.note(&time, clock);
 }
 
 /// Notes a frame whose stamp is in microseconds, read so many milliseconds later.
 fn note(quality: &mut FrameQuality, rate: i16, soc: u32, frac: u32, delay: u32) {
+    if quality.rate() != rate {
+        quality.announce(rate, 1_000_000);
+    }
     let time = FrameTime {
         soc,
         frac,
         quality: 0,
-        base: 1_000_000,
-        rate,
     };
     let clock = u64::from(soc) * 1_000 + u64::from(frac) / 1_000;
     note_at(quality, time, clock + u64::from(delay));
@@ -43,20 +44,26 @@ fn tally(expected: u64, received: u64) -> Tally {
 fn a_minute_with_none_missing(rt: HostRuntime) {
     let mut quality = FrameQuality::new();
     note_each(&mut quality, 0, 1_800);
-    let minute = quality.completeness.last_minute(1_059);
+    let minute = quality.completeness().last_minute(1_059);
     assert_eq!(rt; minute, tally(1_800, 1_800));
     assert_eq!(rt; minute.completeness(), Some(1_000));
-    assert_eq!(rt; quality.completeness.since_connected(), tally(1_800, 1_800));
-    assert_eq!(rt; quality.completeness.last_hour(1_059), tally(1_800, 1_800));
-    assert_eq!(rt; quality.completeness.in_second(1_000), tally(30, 30));
-    assert_eq!(rt; quality.completeness.in_second(1_059), tally(30, 30));
-    assert_eq!(rt; quality.completeness.in_second(1_060), tally(0, 0));
+    assert_eq!(rt;
+        quality.completeness().since_connected(),
+        tally(1_800, 1_800)
+    );
+    assert_eq!(rt;
+        quality.completeness().last_hour(1_059),
+        tally(1_800, 1_800)
+    );
+    assert_eq!(rt; quality.completeness().in_second(1_000), tally(30, 30));
+    assert_eq!(rt; quality.completeness().in_second(1_059), tally(30, 30));
+    assert_eq!(rt; quality.completeness().in_second(1_060), tally(0, 0));
     // Minute 16 ends with second 1,019.
-    assert_eq!(rt; quality.completeness.in_minute(16), tally(600, 600));
-    assert_eq!(rt; quality.completeness.in_minute(17), tally(1_200, 1_200));
-    assert_eq!(rt; quality.spans.begun, 1);
-    assert_eq!(rt; quality.spans.repeated, 0);
-    assert_eq!(rt; quality.spans.out_of_order, 0);
+    assert_eq!(rt; quality.completeness().in_minute(16), tally(600, 600));
+    assert_eq!(rt; quality.completeness().in_minute(17), tally(1_200, 1_200));
+    assert_eq!(rt; quality.span_counts().begun, 1);
+    assert_eq!(rt; quality.span_counts().repeated, 0);
+    assert_eq!(rt; quality.span_counts().out_of_order, 0);
 }
 
 #[test]
@@ -88,17 +95,17 @@ fn one_of_3000_is_missing(rt: HostRuntime) {
     let mut quality = FrameQuality::new();
     note_each(&mut quality, 0, 1_500);
     note_each(&mut quality, 1_501, 3_000);
-    let came = quality.completeness.since_connected();
+    let came = quality.completeness().since_connected();
     assert_eq!(rt; came, tally(3_000, 2_999));
     assert_eq!(rt; came.completeness(), Some(999));
-    assert_eq!(rt; quality.completeness.in_second(1_050), tally(30, 29));
+    assert_eq!(rt; quality.completeness().in_second(1_050), tally(30, 29));
 }
 
 #[test]
 fn windows_end(rt: HostRuntime) {
     let mut quality = FrameQuality::new();
     note_each(&mut quality, 0, 1_830);
-    let kept = &quality.completeness;
+    let kept = quality.completeness();
     // Seconds 1,001 to 1,060.
     assert_eq!(rt; kept.last_minute(1_060), tally(1_800, 1_800));
     assert_eq!(rt; kept.last_hour(1_060), tally(1_830, 1_830));
@@ -116,24 +123,24 @@ fn jumps_are_not_missing(rt: HostRuntime) {
     note_each(&mut quality, 0, 10);
     // Three hours on, and back.
     note_one(&mut quality, 324_010);
-    assert_eq!(rt; quality.completeness.since_connected(), tally(11, 11));
-    assert_eq!(rt; quality.spans.begun, 2);
+    assert_eq!(rt; quality.completeness().since_connected(), tally(11, 11));
+    assert_eq!(rt; quality.span_counts().begun, 2);
     note_one(&mut quality, 10);
-    assert_eq!(rt; quality.completeness.since_connected(), tally(12, 12));
-    assert_eq!(rt; quality.spans.begun, 3);
+    assert_eq!(rt; quality.completeness().since_connected(), tally(12, 12));
+    assert_eq!(rt; quality.span_counts().begun, 3);
     // 60 seconds further are no jump, one instant more is one.
     note_one(&mut quality, 1_810);
-    assert_eq!(rt; quality.completeness.since_connected(), tally(1_812, 13));
+    assert_eq!(rt; quality.completeness().since_connected(), tally(1_812, 13));
     note_one(&mut quality, 3_611);
-    assert_eq!(rt; quality.completeness.since_connected(), tally(1_813, 14));
-    assert_eq!(rt; quality.spans.begun, 4);
+    assert_eq!(rt; quality.completeness().since_connected(), tally(1_813, 14));
+    assert_eq!(rt; quality.span_counts().begun, 4);
     // And so back.
     note_one(&mut quality, 1_811);
-    assert_eq!(rt; quality.spans.begun, 4);
-    assert_eq!(rt; quality.spans.out_of_order, 1);
+    assert_eq!(rt; quality.span_counts().begun, 4);
+    assert_eq!(rt; quality.span_counts().out_of_order, 1);
     note_one(&mut quality, 1_810);
-    assert_eq!(rt; quality.spans.begun, 5);
-    assert_eq!(rt; quality.spans.repeated, 0);
+    assert_eq!(rt; quality.span_counts().begun, 5);
+    assert_eq!(rt; quality.span_counts().repeated, 0);
 }
 
 #[test]
@@ -141,8 +148,8 @@ fn another_rate_begins_a_span(rt: HostRuntime) {
     let mut quality = FrameQuality::new();
     note_each(&mut quality, 0, 10);
     note(&mut quality, 60, 1_001, 0, 20);
-    assert_eq!(rt; quality.completeness.since_connected(), tally(11, 11));
-    assert_eq!(rt; quality.spans.begun, 2);
+    assert_eq!(rt; quality.completeness().since_connected(), tally(11, 11));
+    assert_eq!(rt; quality.span_counts().begun, 2);
 }
 
 #[test]
@@ -151,20 +158,20 @@ fn repeated_and_earlier(rt: HostRuntime) {
     note_each(&mut quality, 0, 10);
     note_one(&mut quality, 9);
     note_one(&mut quality, 5);
-    assert_eq!(rt; quality.spans.repeated, 2);
-    assert_eq!(rt; quality.spans.out_of_order, 0);
-    assert_eq!(rt; quality.completeness.since_connected(), tally(10, 10));
+    assert_eq!(rt; quality.span_counts().repeated, 2);
+    assert_eq!(rt; quality.span_counts().out_of_order, 0);
+    assert_eq!(rt; quality.completeness().since_connected(), tally(10, 10));
     // 10 and 11 come after 12, and then once more.
     note_one(&mut quality, 12);
-    assert_eq!(rt; quality.completeness.since_connected(), tally(13, 11));
+    assert_eq!(rt; quality.completeness().since_connected(), tally(13, 11));
     note_each(&mut quality, 10, 12);
-    assert_eq!(rt; quality.spans.out_of_order, 2);
-    assert_eq!(rt; quality.completeness.since_connected(), tally(13, 13));
+    assert_eq!(rt; quality.span_counts().out_of_order, 2);
+    assert_eq!(rt; quality.completeness().since_connected(), tally(13, 13));
     note_each(&mut quality, 10, 12);
-    assert_eq!(rt; quality.spans.repeated, 4);
-    assert_eq!(rt; quality.spans.out_of_order, 2);
-    assert_eq!(rt; quality.completeness.since_connected(), tally(13, 13));
-    assert_eq!(rt; quality.spans.begun, 1);
+    assert_eq!(rt; quality.span_counts().repeated, 4);
+    assert_eq!(rt; quality.span_counts().out_of_order, 2);
+    assert_eq!(rt; quality.completeness().since_connected(), tally(13, 13));
+    assert_eq!(rt; quality.span_counts().begun, 1);
 }
 
 #[test]
@@ -172,17 +179,17 @@ fn known_are_the_last_64(rt: HostRuntime) {
     let mut quality = FrameQuality::new();
     note_one(&mut quality, 0);
     note_one(&mut quality, 100);
-    assert_eq!(rt; quality.completeness.since_connected(), tally(101, 2));
+    assert_eq!(rt; quality.completeness().since_connected(), tally(101, 2));
     // 63 before the last one is known not to have come, of 64 before nothing is known.
     note_one(&mut quality, 37);
-    assert_eq!(rt; quality.completeness.since_connected(), tally(101, 3));
+    assert_eq!(rt; quality.completeness().since_connected(), tally(101, 3));
     note_one(&mut quality, 37);
-    assert_eq!(rt; quality.spans.repeated, 1);
+    assert_eq!(rt; quality.span_counts().repeated, 1);
     note_one(&mut quality, 36);
     note_one(&mut quality, 36);
-    assert_eq!(rt; quality.completeness.since_connected(), tally(101, 3));
-    assert_eq!(rt; quality.spans.repeated, 1);
-    assert_eq!(rt; quality.spans.out_of_order, 3);
+    assert_eq!(rt; quality.completeness().since_connected(), tally(101, 3));
+    assert_eq!(rt; quality.span_counts().repeated, 1);
+    assert_eq!(rt; quality.span_counts().out_of_order, 3);
 }
 
 #[test]
@@ -191,14 +198,14 @@ fn before_the_first_none_is_expected(rt: HostRuntime) {
     note_one(&mut quality, 50);
     note_one(&mut quality, 49);
     note_one(&mut quality, 49);
-    assert_eq!(rt; quality.completeness.since_connected(), tally(1, 1));
-    assert_eq!(rt; quality.spans.repeated, 0);
-    assert_eq!(rt; quality.spans.out_of_order, 2);
+    assert_eq!(rt; quality.completeness().since_connected(), tally(1, 1));
+    assert_eq!(rt; quality.span_counts().repeated, 0);
+    assert_eq!(rt; quality.span_counts().out_of_order, 2);
     note_one(&mut quality, 52);
     note_one(&mut quality, 51);
     note_one(&mut quality, 49);
-    assert_eq!(rt; quality.completeness.since_connected(), tally(3, 3));
-    assert_eq!(rt; quality.spans.out_of_order, 4);
+    assert_eq!(rt; quality.completeness().since_connected(), tally(3, 3));
+    assert_eq!(rt; quality.span_counts().out_of_order, 4);
 }
 
 #[test]
@@ -207,19 +214,19 @@ fn seconds_a_frame(rt: HostRuntime) {
     for soc in [1_000, 1_010, 1_020, 1_040] {
         note(&mut quality, -10, soc, 0, 20);
     }
-    let came = quality.completeness.since_connected();
+    let came = quality.completeness().since_connected();
     assert_eq!(rt; came, tally(5, 4));
     assert_eq!(rt; came.completeness(), Some(800));
     // A little early and a little late are of the same instant.
     note(&mut quality, -10, 1_049, 999_900, 20);
     note(&mut quality, -10, 1_060, 100, 20);
-    assert_eq!(rt; quality.completeness.since_connected(), tally(7, 6));
+    assert_eq!(rt; quality.completeness().since_connected(), tally(7, 6));
     // 60 frames further are no jump, 61 are one.
     note(&mut quality, -10, 1_660, 0, 20);
-    assert_eq!(rt; quality.completeness.since_connected(), tally(67, 7));
+    assert_eq!(rt; quality.completeness().since_connected(), tally(67, 7));
     note(&mut quality, -10, 2_270, 0, 20);
-    assert_eq!(rt; quality.completeness.since_connected(), tally(68, 8));
-    assert_eq!(rt; quality.spans.begun, 2);
+    assert_eq!(rt; quality.completeness().since_connected(), tally(68, 8));
+    assert_eq!(rt; quality.span_counts().begun, 2);
 }
 
 #[test]
@@ -228,12 +235,12 @@ fn no_rate_expects_nothing(rt: HostRuntime) {
     for soc in [1_000, 1_001, 1_001, 5_000, 1_000] {
         note(&mut quality, 0, soc, 0, 20);
     }
-    let came = quality.completeness.since_connected();
+    let came = quality.completeness().since_connected();
     assert_eq!(rt; came, tally(0, 5));
     assert_eq!(rt; came.completeness(), None);
-    assert_eq!(rt; quality.spans.begun, 1);
-    assert_eq!(rt; quality.spans.repeated, 0);
-    assert_eq!(rt; quality.spans.out_of_order, 0);
+    assert_eq!(rt; quality.span_counts().begun, 1);
+    assert_eq!(rt; quality.span_counts().repeated, 0);
+    assert_eq!(rt; quality.span_counts().out_of_order, 0);
 }
 
 #[test]
@@ -241,11 +248,11 @@ fn a_connection_begins_anew(rt: HostRuntime) {
     let mut quality = FrameQuality::new();
     note_each(&mut quality, 0, 30);
     quality.connect();
-    assert_eq!(rt; quality.completeness.since_connected(), tally(0, 0));
+    assert_eq!(rt; quality.completeness().since_connected(), tally(0, 0));
     note_each(&mut quality, 60, 70);
-    assert_eq!(rt; quality.completeness.since_connected(), tally(10, 10));
-    assert_eq!(rt; quality.completeness.last_minute(1_002), tally(40, 40));
-    assert_eq!(rt; quality.spans.begun, 2);
+    assert_eq!(rt; quality.completeness().since_connected(), tally(10, 10));
+    assert_eq!(rt; quality.completeness().last_minute(1_002), tally(40, 40));
+    assert_eq!(rt; quality.span_counts().begun, 2);
 }
 
 #[test]
@@ -254,10 +261,10 @@ fn a_connection_within_a_second(rt: HostRuntime) {
     note_each(&mut quality, 0, 10);
     quality.connect();
     note_each(&mut quality, 15, 30);
-    assert_eq!(rt; quality.completeness.since_connected(), tally(15, 15));
-    assert_eq!(rt; quality.completeness.in_second(1_000), tally(25, 25));
+    assert_eq!(rt; quality.completeness().since_connected(), tally(15, 15));
+    assert_eq!(rt; quality.completeness().in_second(1_000), tally(25, 25));
     note_each(&mut quality, 30, 31);
-    assert_eq!(rt; quality.completeness.in_second(1_000), tally(25, 25));
+    assert_eq!(rt; quality.completeness().in_second(1_000), tally(25, 25));
 }
 
 // ---- delay
@@ -267,22 +274,30 @@ const HALF: FrameTime = FrameTime {
     soc: 1_000,
     frac: 500,
     quality: 0,
-    base: 1_000,
-    rate: 30,
 };
 
-/// A frame of that time, read when the clock stood at so many milliseconds.
-fn read_at(clock: u64) -> Arrival {
-    Arrival::new(HALF, clock)
+/// Notes a frame of that time with numerators in milliseconds, read when the clock stood at so many of them.
+fn note_half(quality: &mut FrameQuality, clock: u64) {
+    if quality.rate() != 30 {
+        quality.announce(30, 1_000);
+    }
+    note_at(quality, HALF, clock);
+}
+
+/// The delay of a frame of that time, read when the clock stood so.
+fn delay_at(clock: u64) -> i64 {
+    let mut quality = FrameQuality::new();
+    note_half(&mut quality, clock);
+    quality.delays().last_minute(clock / 1_000).least
 }
 
 #[test]
 fn delays_have_a_sign(rt: HostRuntime) {
-    assert_eq!(rt; read_at(1_000_500).delay, 0);
-    assert_eq!(rt; read_at(1_000_650).delay, 150);
-    assert_eq!(rt; read_at(999_500).delay, -1_000);
-    assert_eq!(rt; read_at(0).delay, -1_000_500);
-    assert_eq!(rt; read_at(u64::MAX).delay, 9_223_372_036_853_775_307);
+    assert_eq!(rt; delay_at(1_000_500), 0);
+    assert_eq!(rt; delay_at(1_000_650), 150);
+    assert_eq!(rt; delay_at(999_500), -1_000);
+    assert_eq!(rt; delay_at(0), -1_000_500);
+    assert_eq!(rt; delay_at(u64::MAX), 9_223_372_036_853_775_307);
 }
 
 #[test]
@@ -358,23 +373,23 @@ fn delays_of_the_last_minute(rt: HostRuntime) {
     note(&mut quality, 30, 1_000, 0, 500);
     for second in 1_001..1_090u32 {
         note(&mut quality, 30, second, 0, 20);
-        let last = quality.delays.last_minute(u64::from(second));
+        let last = quality.delays().last_minute(u64::from(second));
         // Seconds 1,000 to 1,009 go when second 1,070 begins.
         let greatest = if second < 1_070 { 500 } else { 20 };
         assert_eq!(rt; last.greatest, greatest);
         assert_eq!(rt; last.least, 20);
     }
-    let last = quality.delays.last_minute(1_089);
+    let last = quality.delays().last_minute(1_089);
     assert_eq!(rt; last.count(), 70);
-    assert_eq!(rt; quality.delays.last_minute(1_200).quantile(500), None);
+    assert_eq!(rt; quality.delays().last_minute(1_200).quantile(500), None);
 }
 
 #[test]
 fn an_early_stamp_is_negative(rt: HostRuntime) {
     let mut quality = FrameQuality::new();
-    note_at(&mut quality, HALF, 999_500);
-    note_at(&mut quality, HALF, 999_500);
-    let last = quality.delays.last_minute(999);
+    note_half(&mut quality, 999_500);
+    note_half(&mut quality, 999_500);
+    let last = quality.delays().last_minute(999);
     assert_eq!(rt; last.least, -1_000);
     assert_eq!(rt; last.greatest, -1_000);
     assert_eq!(rt; last.quantile(500), Some(-1_000));
@@ -383,11 +398,11 @@ fn an_early_stamp_is_negative(rt: HostRuntime) {
 #[test]
 fn all_delays_are_kept(rt: HostRuntime) {
     let mut quality = FrameQuality::new();
-    note_at(&mut quality, HALF, 999_500);
+    note_half(&mut quality, 999_500);
     for second in 0..300u64 {
-        note_at(&mut quality, HALF, 1_000_515 + second * 1_000);
+        note_half(&mut quality, 1_000_515 + second * 1_000);
     }
-    let delays = &quality.delays;
+    let delays = quality.delays();
     assert_eq!(rt; delays.count(), 301);
     // -1,000 lies in the bucket of -1,024 to -897.
     assert_eq!(rt; delays.below(-1_024), 0);
@@ -436,33 +451,33 @@ fn each_bit_of_stat_alone(rt: HostRuntime) {
         0x0100, 0x0140, 0x0180, 0x01C0, 0x0010, 0x0020, 0x0030,
     ];
     for place in 0..18usize {
-        let mut stat = StatCounts::new();
+        let mut stat = StatTally::new();
         stat.note(0);
         stat.note(rows[place]);
         stat.note(0);
         let mut wanted = [0; 18];
         wanted[place] = 1;
-        assert_eq!(rt; counts(&stat), wanted);
-        assert_eq!(rt; stat.last, 0);
+        assert_eq!(rt; counts(&stat.counts()), wanted);
+        assert_eq!(rt; stat.counts().last, 0);
         stat.note(rows[place]);
         wanted[place] = 2;
-        assert_eq!(rt; counts(&stat), wanted);
-        assert_eq!(rt; stat.last, rows[place]);
+        assert_eq!(rt; counts(&stat.counts()), wanted);
+        assert_eq!(rt; stat.counts().last, rows[place]);
     }
 }
 
 #[test]
 fn reason_of_the_last_trigger(rt: HostRuntime) {
-    let mut stat = StatCounts::new();
+    let mut stat = StatTally::new();
     stat.note(0x000F);
-    assert_eq!(rt; counts(&stat), [0; 18]);
-    assert_eq!(rt; stat.trigger_reason, None);
+    assert_eq!(rt; counts(&stat.counts()), [0; 18]);
+    assert_eq!(rt; stat.counts().trigger_reason, None);
     stat.note(0x0807);
-    assert_eq!(rt; stat.trigger_reason, Some(7));
+    assert_eq!(rt; stat.counts().trigger_reason, Some(7));
     stat.note(0x0000);
-    assert_eq!(rt; stat.trigger_reason, Some(7));
+    assert_eq!(rt; stat.counts().trigger_reason, Some(7));
     stat.note(0x0800);
-    assert_eq!(rt; stat.trigger_reason, Some(0));
+    assert_eq!(rt; stat.counts().trigger_reason, Some(0));
 }
 
 // ---- time quality
@@ -543,19 +558,18 @@ fn nominal_frequencies(rt: HostRuntime) {
 // ---- whatever comes
 
 fn note_odd(rt: &impl Abort, quality: &mut FrameQuality, rate: i16, soc: u32, base: u32) {
+    quality.announce(rate, base);
     for frac in [0, 1, u32::MAX] {
         for clock in [0, 1_000_000, u64::MAX] {
             let time = FrameTime {
                 soc,
                 frac,
                 quality: 0xFF,
-                base,
-                rate,
             };
             note_at(quality, time, clock);
         }
     }
-    assert!(*rt; quality.spans.begun > 0);
+    assert!(*rt; quality.span_counts().begun > 0);
 }
 
 #[test]
@@ -568,5 +582,5 @@ fn nothing_overflows(rt: HostRuntime) {
             }
         }
     }
-    assert_eq!(rt; quality.time_quality.unreliable, 270);
+    assert_eq!(rt; quality.time_quality().unreliable, 270);
 }

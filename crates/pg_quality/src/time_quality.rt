@@ -2,7 +2,7 @@
 ghost use Rattle.std.specs.Prelude.{◌≡◌, ◌%◌, ◌<◌, ◌&&◌, not};
 ghost use Rattle.pg_quality.specs.Stats.{is_set, no_quality, with_quality};
 
-use crate::stat::more_if;
+use crate::stat::more_by;
 
 /// The last time quality of the data frames, and how many of them were not locked. Each number stays at 2^64 - 1 once it is there.
 #[derive(Clone, Copy)]
@@ -44,8 +44,8 @@ impl TimeQuality {
         requires { code < 16 }
         ensures { self.new ≡ record (with_quality self.old code) { last = self.old.last } }
     {
-        self.not_locked = more_if(code != 0, self.not_locked);
-        self.unreliable = more_if(code == 15, self.unreliable);
+        self.not_locked = more_by(code != 0, self.not_locked, 1);
+        self.unreliable = more_by(code == 15, self.unreliable, 1);
     }
 
     /// The last code, 0 for a locked clock to 15 for an unreliable one.

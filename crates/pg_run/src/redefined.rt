@@ -1,7 +1,7 @@
 //! Streams that a reload removes while they are on.
 
 use pg_console::ServiceHandle;
-use pg_gateway::{Edit, Event, Gate, Reply};
+use pg_gateway::{Edit, Event, Gate, MemberPlace, Reply};
 use pg_operator::Setup;
 use pg_service::MeteredGate;
 use pg_stream::Definition;
@@ -63,8 +63,12 @@ pub(crate) fn started_streams<G: Gate>(
 
 /// Whether a stream is on.
 fn is_on<G: Gate>(gate: &mut MeteredGate<G>, sub: SubId, stream: StreamId) -> bool {
-    for place in 0..STREAMS {
-        let Reply::Standing(standing) = gate.post(Event::Standing(sub, place)) else {
+    for stream_at in 0..STREAMS {
+        let at = MemberPlace {
+            stream: stream_at,
+            member: 0,
+        };
+        let Reply::Standing(standing) = gate.post(Event::Standing(sub, at)) else {
             return false;
         };
         match standing.stream {

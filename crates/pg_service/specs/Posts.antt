@@ -4,6 +4,7 @@ use Rattle.std.specs.Option.{option_map_or}
 use Rattle.pg_session.specs.Events.{SubscriberEvent}
 use Rattle.pg_data.specs.Measurements.{Measurement, resolution}
 use Rattle.pg_limits.specs.Clocks.{is_ahead, is_near}
+use Rattle.pg_session.specs.declared.standing.MemberPlace.{MemberPlace}
 use Rattle.pg_gateway.specs.GatewayEvents.{GatewayEvent, Answer, add_pmu, drop_pmu, add_sub, drop_sub, grant, asks, announce, measure, tick, standing, inquires}
 use Rattle.pg_gateway.specs.Posting.{IsMeasured, Posted, Notes}
 use Rattle.pg_service.specs.declared.metered_gate.ClockCheck.{ClockCheck}
@@ -44,7 +45,7 @@ frames_passed g takes frames (inquires q) e = frames (inquires q) e
 
 -- It was asked of this subscriber, or how a stream of it stands.
 abbrev pub IsOf : ℕ → Posted → Type 0
-IsOf sub p = ((h : SubscriberEvent) × (p.0 ≡ asks sub h)) ⊎ ((place : ℕ) × (p.0 ≡ inquires (standing sub place)))
+IsOf sub p = ((h : SubscriberEvent) × (p.0 ≡ asks sub h)) ⊎ ((place : MemberPlace) × (p.0 ≡ inquires (standing sub place)))
 
 -- What was posted meanwhile is of this subscriber alone, where the gate tells it.
 pub record OwnOnly (sub : ℕ) (before after : Option (List Posted)) : Type 0 where

@@ -28,9 +28,7 @@ pub struct GateStats {
     pub makers: u64,
     /// The bytes of the last measurement's frame, or 0.
     pub size: usize,
-    /// The announcements and measurements.
-    pub events: u64,
-    /// The measurements among them.
+    /// The measurements.
     pub measured: u64,
     /// DATA_RATE of the last announcement, if there was one.
     pub rate: Option<i16>,
@@ -59,7 +57,6 @@ impl GateStats {
             made: 0,
             makers: 0,
             size: 0,
-            events: 0,
             measured: 0,
             rate: None,
             far: 0,
@@ -82,7 +79,6 @@ impl GateStats {
     /// A measurement of this frame goes through.
     #[inline(always)]
     fn note_measurement(&mut self, frame: &DataFrame) {
-        self.events = self.events.saturating_add(1);
         self.measured = self.measured.saturating_add(1);
         self.size = frame.body.len().saturating_add(AROUND);
         self.last = Stamp {
@@ -274,7 +270,6 @@ impl<G: Gate> MeteredGate<G> {
         ensures gate { self.new.gate ≡ self.old.gate }
         ensures same { self.new.check ≡ self.old.check }
     {
-        self.seen.events = self.seen.events.saturating_add(1);
         self.seen.rate = match config.parts.first() {
             Some(part) => Some(part.rate),
             None => None,

@@ -3,7 +3,8 @@ use Rattle.std.proofs.Common.{◌≡◌, ℕ, ◌+◌, ◌/◌, ◌^◌, ◌<◌
 use Rattle.std.proofs.lemmas.List.{append-nil, map-append}
 use Rattle.pg_data.specs.Pieces.{Piece}
 use Rattle.pg_align.specs.Histories.{Departed, Departures, with_first}
-use Rattle.pg_align.specs.Slots.{Aligned, OpenSlot, leaves_now, leaving_of, flushed_of, after_leaving, without_least}
+use Rattle.pg_align.specs.declared.counts.SlotCounts.{SlotCounts}
+use Rattle.pg_align.specs.Slots.{Aligned, OpenSlot, leaves_now, leaving_of, flushed_of, after_leaving, after_flush}
 use Rattle.pg_session.specs.Sending.{Sending, Sends}
 use Rattle.pg_session.specs.Fields.{AreTimed}
 use Rattle.pg_session.proofs.Sending.{sends-none, sends-append}
@@ -49,18 +50,18 @@ pub record OneLess (rate : ℕ) (old new : Aligned Piece) (first : Departed Piec
   pub effective : new.effective ≡ old.effective
   pub window : new.window ≡ old.window
 
-abbrev aligned : ℕ → ℕ → List Bool → Bool → Option ℕ → List (OpenSlot Piece) → Aligned Piece
-aligned window wait effective is_on last slots =
-    record { window = window; wait = wait; effective = effective; is_on = is_on; last = last; slots = slots }
+abbrev aligned : ℕ → ℕ → List Bool → Bool → Option ℕ → SlotCounts → List (OpenSlot Piece) → Aligned Piece
+aligned window wait effective is_on last counts slots =
+    record { window = window; wait = wait; effective = effective; is_on = is_on; last = last; slots = slots; counts = counts }
 
 some_is : {A : Type 0} (x y : A) → Some x ≡ Some y → x ≡ y
 some_is x y e = cc e
 
-leaving_by : (rate window wait : ℕ) (effective : List Bool) (is_on : Bool) (last : Option ℕ) (least : OpenSlot Piece) (slots : List (OpenSlot Piece))
+leaving_by : (rate window wait : ℕ) (effective : List Bool) (is_on : Bool) (last : Option ℕ) (counts : SlotCounts) (least : OpenSlot Piece) (slots : List (OpenSlot Piece))
     (first : Departed Piece) (b : Bool) → leaves_now window effective (least ∷ slots) ≡ b
-    → leaving_of (aligned window wait effective is_on last (least ∷ slots)) ≡ Some first → AreTimed rate (least ∷ slots)
-    → OneLess rate (aligned window wait effective is_on last (least ∷ slots)) (after_leaving (aligned window wait effective is_on last (least ∷ slots))) first
-leaving_by rate window wait effective is_on last least slots first true e h timed =
+    → leaving_of (aligned window wait effective is_on last counts (least ∷ slots)) ≡ Some first → AreTimed rate (least ∷ slots)
+    → OneLess rate (aligned window wait effective is_on last counts (least ∷ slots)) (after_leaving (aligned window wait effective is_on last counts (least ∷ slots))) first
+leaving_by rate window wait effective is_on last counts least slots first true e h timed =
     let is = some_is _ _ (rw e at h) in
     rw e record {
       time = subst (λ (d : Departed Piece). d.slot / rate < 2 ^ 32) is timed.0;
@@ -69,24 +70,24 @@ leaving_by rate window wait effective is_on last least slots first true e h time
       effective = refl;
       window = refl;
     }
-leaving_by rate window wait effective is_on last least slots first false e h timed = absurd (cc (rw e at h))
+leaving_by rate window wait effective is_on last counts least slots first false e h timed = absurd (cc (rw e at h))
 
-leaving_parts : (rate window wait : ℕ) (effective : List Bool) (is_on : Bool) (last : Option ℕ) (slots : List (OpenSlot Piece))
-    (first : Departed Piece) → leaving_of (aligned window wait effective is_on last slots) ≡ Some first → AreTimed rate slots
-    → OneLess rate (aligned window wait effective is_on last slots) (after_leaving (aligned window wait effective is_on last slots)) first
-leaving_parts rate window wait effective is_on last [] first h timed = absurd (cc h)
-leaving_parts rate window wait effective is_on last (least ∷ slots) first h timed =
-    leaving_by rate window wait effective is_on last least slots first _ refl h timed
+leaving_parts : (rate window wait : ℕ) (effective : List Bool) (is_on : Bool) (last : Option ℕ) (counts : SlotCounts) (slots : List (OpenSlot Piece))
+    (first : Departed Piece) → leaving_of (aligned window wait effective is_on last counts slots) ≡ Some first → AreTimed rate slots
+    → OneLess rate (aligned window wait effective is_on last counts slots) (after_leaving (aligned window wait effective is_on last counts slots)) first
+leaving_parts rate window wait effective is_on last counts [] first h timed = absurd (cc h)
+leaving_parts rate window wait effective is_on last counts (least ∷ slots) first h timed =
+    leaving_by rate window wait effective is_on last counts least slots first _ refl h timed
 
 pub leaving-one : (rate : ℕ) (a : Aligned Piece) (first : Departed Piece) → leaving_of a ≡ Some first → AreTimed rate a.slots
     → OneLess rate a (after_leaving a) first
-leaving-one rate a = leaving_parts rate a.window a.wait a.effective a.is_on a.last a.slots
+leaving-one rate a = leaving_parts rate a.window a.wait a.effective a.is_on a.last a.counts a.slots
 
-flushed_parts : (rate window wait : ℕ) (effective : List Bool) (is_on : Bool) (last : Option ℕ) (slots : List (OpenSlot Piece))
-    (first : Departed Piece) → flushed_of (aligned window wait effective is_on last slots) ≡ Some first → AreTimed rate slots
-    → OneLess rate (aligned window wait effective is_on last slots) (without_least (aligned window wait effective is_on last slots)) first
-flushed_parts rate window wait effective is_on last [] first h timed = absurd (cc h)
-flushed_parts rate window wait effective is_on last (least ∷ slots) first h timed = record {
+flushed_parts : (rate window wait : ℕ) (effective : List Bool) (is_on : Bool) (last : Option ℕ) (counts : SlotCounts) (slots : List (OpenSlot Piece))
+    (first : Departed Piece) → flushed_of (aligned window wait effective is_on last counts slots) ≡ Some first → AreTimed rate slots
+    → OneLess rate (aligned window wait effective is_on last counts slots) (after_flush (aligned window wait effective is_on last counts slots)) first
+flushed_parts rate window wait effective is_on last counts [] first h timed = absurd (cc h)
+flushed_parts rate window wait effective is_on last counts (least ∷ slots) first h timed = record {
   time = subst (λ (d : Departed Piece). d.slot / rate < 2 ^ 32) (some_is _ _ h) timed.0;
   timed = timed.1;
   fewer = omega arith;
@@ -95,5 +96,5 @@ flushed_parts rate window wait effective is_on last (least ∷ slots) first h ti
 }
 
 pub flushed-one : (rate : ℕ) (a : Aligned Piece) (first : Departed Piece) → flushed_of a ≡ Some first → AreTimed rate a.slots
-    → OneLess rate a (without_least a) first
-flushed-one rate a = flushed_parts rate a.window a.wait a.effective a.is_on a.last a.slots
+    → OneLess rate a (after_flush a) first
+flushed-one rate a = flushed_parts rate a.window a.wait a.effective a.is_on a.last a.counts a.slots

@@ -1,5 +1,5 @@
 -- Blocks of a data frame that leave no slot of a stream open behind them.
-use Rattle.std.proofs.Common.{length-append, ◌≡◌, ◌⊎◌, ◌||◌, not, inl, inr, get_or, ℕ, zero, suc, ◌+◌, ◌<◌, ◌≤◌, ◌&&◌, ◌==◌, nat_lt, List, [], ◌∷◌, length, drop, replicate, slice_set, slice_index_or, Bool, true, false, if◌then◌else◌, IsTrue, Option, Some, None, IfSome, IfOk, is_some, slice_get, option_map, Result, Ok, Err, refl, sym, ap, subst, ◌∙◌, arith}
+use Rattle.std.proofs.Common.{length-append, ◌≡◌, ◌⊎◌, ◌||◌, not, inl, inr, get_or, ℕ, zero, suc, ◌+◌, ◌<◌, ◌≤◌, ◌&&◌, ◌==◌, nat_lt, List, [], ◌∷◌, length, drop, replicate, slice_set, slice_index_or, Bool, true, false, if◌then◌else◌, IsTrue, Option, Some, None, IfSome, IfOk, is_some, slice_get, option_map, Result, Ok, Err, refl, sym, ap, ap₂, subst, ◌∙◌, arith}
 use Rattle.std.proofs.lemmas.Grind.{common_steps}
 use Rattle.std.proofs.lemmas.List.{drop_all, length-map, length-set, length-replicate}
 use Rattle.pg_wire.specs.declared.ids.PmuKey.{PmuKey}
@@ -7,6 +7,10 @@ use Rattle.pg_data.specs.Measurements.{Measurement, IsMeasurement}
 use Rattle.pg_data.specs.Pieces.{Piece, piece_of}
 use Rattle.pg_align.specs.Histories.{Departures, is_above, has_all}
 use Rattle.pg_align.specs.Slots.{Aligned, OpenSlot, with_arrival, answer_at, with_last, all_leaving, head_with}
+use Rattle.pg_align.specs.Counts.{raised}
+use Rattle.pg_align.specs.declared.counts.Cause.TheVariants.{Complete}
+use Rattle.pg_align.specs.declared.counts.SlotCounts.{SlotCounts}
+use Rattle.pg_align.proofs.Looking.{none_missing}
 use Rattle.pg_align.specs.declared.answer.Arrived.TheVariants.{Kept}
 use Rattle.pg_outcfg.specs.Listing.{Listing}
 use Rattle.pg_outcfg.specs.Ordered.{AreBlocks, AreMembers, pieces_in}
@@ -106,7 +110,9 @@ filled_len parts out (p ∷ ps) e =
 leaves_filled : (a : Aligned Piece) (slot : ℕ) (out : List (Option Piece)) → a.slots ≡ [] → has_all a.effective out ≡ true
     → all_leaving (one_open a slot out) ≡ record { frames = head_with slot out ∷ []; after = with_last a slot }
 leaves_filled a slot out none has =
-    rw has (ap (λ (xs : List (OpenSlot Piece)). record { frames = head_with slot out ∷ []; after = record a { last = Some slot; slots = xs } }) (sym none))
+    let counted : List ℕ → SlotCounts = λ missing. record (raised Complete a.counts) { missing = missing } in
+    rw has (ap₂ (λ (xs : List (OpenSlot Piece)) (missing : List ℕ). record { frames = head_with slot out ∷ []; after = record a { last = Some slot; slots = xs; counts = counted missing } })
+    (sym none) (none_missing a.effective out a.counts.missing has))
 
 -- what such a frame is to a stream
 pub fills_turn : (listed : Listing) (s : StreamOf (Aligned Piece)) (slot : ℕ) (blocks : List PlacedBlock) (out : List (Option Piece))

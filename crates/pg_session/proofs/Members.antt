@@ -3,7 +3,7 @@ use Rattle.std.proofs.Common.{◌≡◌, ℕ, ◌+◌, ◌<◌, List, [], ◌∷
 use Rattle.std.proofs.lemmas.List.{map_more, take_more_set}
 use Rattle.pg_wire.specs.declared.ids.PmuKey.{PmuKey}
 use Rattle.pg_data.specs.Pieces.{Piece}
-use Rattle.pg_align.specs.Slots.{Aligned, OpenSlot, one_tick_less, leaves_now, without_first, all_leaving, all_leaving_of, all_flushed, all_flushed_of}
+use Rattle.pg_align.specs.Slots.{Aligned, OpenSlot, one_tick_less, leaves_now, without_first, flushed_first, all_leaving, all_leaving_of, all_flushed, all_flushed_of}
 use Rattle.pg_outcfg.specs.Listing.{Listing, config_at}
 use Rattle.pg_session.specs.Streams.{effective_in}
 use Rattle.pg_session.specs.Fields.{AreTimed}
@@ -54,7 +54,7 @@ window-left a = window-leaving a a.slots
 
 window-flushing : (a : Aligned Piece) (slots : List (OpenSlot Piece)) → (all_flushed_of a slots).after.window ≡ a.window
 window-flushing a [] = refl
-window-flushing a (slot ∷ slots) = window-flushing (without_first a (slot ∷ slots)) slots
+window-flushing a (slot ∷ slots) = window-flushing (flushed_first a (slot ∷ slots)) slots
 
 pub window-flushed : (a : Aligned Piece) → (all_flushed a).after.window ≡ a.window
 window-flushed a = window-flushing a a.slots

@@ -11,7 +11,8 @@ use Rattle.pg_audit.specs.declared.counters.Stats.{Stats}
 use Rattle.pg_align.specs.declared.answer.Arrived.{Arrived}
 use Rattle.pg_align.specs.declared.answer.Arrived.TheVariants.{Kept, Late, Twice}
 use Rattle.pg_align.specs.Histories.{is_above}
-use Rattle.pg_align.specs.Slots.{Aligned, OpenSlot, with_last, head_with}
+use Rattle.pg_align.specs.Slots.{Aligned, OpenSlot, with_last, with_late, head_with}
+use Rattle.pg_session.proofs.Simulating.{AreWithin}
 use Rattle.pg_outcfg.specs.Listing.{Listing}
 use Rattle.pg_stream.specs.Slots.{slot_at}
 use Rattle.pg_session.specs.Events.{Sample, key_in, measure, samples_at, sampled_part}
@@ -109,12 +110,15 @@ alone_where s on e = by s.slots.is_on (length s.definition.members) s.slots.slot
         let two = neither (nat_lt 1 n) (nat_lt 0 (suc (length xs))) f in
         absurd (let no : true ≡ false = sym (lt_some (length xs)) ∙ two.1 in cc no)
 
--- a late block leaves the slots as they are
-pub late_turn : (listed : Listing) (s : OneStream) (slot : ℕ) (blocks : List PlacedBlock) → length blocks ≡ 1 → is_above s.slots.last slot ≡ false → s.slots.slots ≡ []
-    → arrival_turn by_slots listed s blocks (Ok slot) ≡ record (still s) { late = 1 }
-late_turn listed s slot [] n late none = absurd (omega (arith, n))
-late_turn listed s slot (p ∷ []) n late none = rw (late, none) refl
-late_turn listed s slot (p ∷ q ∷ blocks) n late none = absurd (omega (arith, n))
+-- a late block leaves the slots as they are, and is counted
+pub late_turn : (listed : Listing) (s : OneStream) (slot : ℕ) (blocks : List PlacedBlock) → length blocks ≡ 1 → AreWithin (length s.definition.members) blocks
+    → length s.definition.members ≤ 1 → is_above s.slots.last slot ≡ false → s.slots.slots ≡ []
+    → arrival_turn by_slots listed s blocks (Ok slot) ≡ record (still (record s { slots = with_late s.slots 0 })) { late = 1 }
+late_turn listed s slot [] n within few late none = absurd (omega (arith, n))
+late_turn listed s slot (p ∷ []) n within few late none =
+    let first : p.place ≡ 0 = omega (arith, within.0, few) in
+    rw (first, late, none) refl
+late_turn listed s slot (p ∷ q ∷ blocks) n within few late none = absurd (omega (arith, n))
 
 -- copies of the one block that the streams ask for
 one_wanted : (s : OneStream) (quality : ℕ) (x : Sample)

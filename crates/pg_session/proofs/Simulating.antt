@@ -9,7 +9,7 @@ use Rattle.pg_data.specs.Pieces.{Piece}
 use Rattle.pg_stream.specs.declared.definition.Definition.{Definition}
 use Rattle.pg_stream.specs.Slots.{slot_at}
 use Rattle.pg_align.specs.Histories.{StreamHistory, Departures, is_above, flush_all}
-use Rattle.pg_align.specs.Slots.{Aligned, OpenSlot, part_at, with_arrival, leaves_now, without_first, all_leaving_of, all_flushed_of, all_flushed}
+use Rattle.pg_align.specs.Slots.{Aligned, OpenSlot, part_at, with_arrival, leaves_now, without_first, flushed_first, all_leaving_of, all_flushed_of, all_flushed}
 use Rattle.pg_align.specs.Shown as align
 use Rattle.pg_align.proofs.Histories.{Shows-arrival, Shows-tick, Shows-reshape}
 use Rattle.pg_align.proofs.Leaving.{Shows-frames, Shows-end, Shows-flushed_frames, Shows-flushed_end, all_flushed-none_open}
@@ -69,7 +69,7 @@ leaving-effective a (slot ∷ slots) = leaving_step a slot slots _ refl (leaving
 
 pub flushed-effective : (a : Aligned Piece) (slots : List (OpenSlot Piece)) → (all_flushed_of a slots).after.effective ≡ a.effective
 flushed-effective a [] = refl
-flushed-effective a (slot ∷ slots) = flushed-effective (without_first a (slot ∷ slots)) slots
+flushed-effective a (slot ∷ slots) = flushed-effective (flushed_first a (slot ∷ slots)) slots
 
 framed-shows : (listed : Listing) (d : Definition) (a : Aligned Piece) (h : StreamHistory Piece) (count : ℕ) (layouts : Layouts)
     (x : Departures Piece (Aligned Piece)) (y : Departures Piece (StreamHistory Piece))

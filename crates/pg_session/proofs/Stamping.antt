@@ -19,7 +19,7 @@ use Rattle.pg_stream.specs.Limits.{HasNumbers, is_within_limits}
 use Rattle.pg_stream.specs.Slots.{IsBefore, slot_at, stamp_at, numerator_at}
 use Rattle.pg_stream.proofs.Nearest.{stamp_at_is, numerator_below, stamps_rise}
 use Rattle.pg_stream.proofs.Within.{decides_limits}
-use Rattle.pg_align.specs.Histories.{Departed, StreamHistory, RiseTo, slot_left, is_above, arrived, open_numbers, leave_all, flush_all, flush_in_turn, take_arrival, keep_arrival, ticked}
+use Rattle.pg_align.specs.Histories.{Departed, StreamHistory, RiseTo, slot_left, is_above, arrived, open_numbers, leave_all, flush_all, flush_in_turn, take_arrival, keep_arrival, ticked, with_late}
 use Rattle.pg_align.proofs.Rising.{AreSo, CameFor, leaving-rises, flushing-rises, leaving-so, flushing-so, leaving-stays, flushing-stays}
 use Rattle.pg_outcfg.specs.Listing.{Listing}
 use Rattle.pg_outcfg.specs.Quality.{joined_quality}
@@ -115,7 +115,7 @@ record Keeps (P : ℕ → Type 0) (h after : StreamHistory Piece) : Type 0 where
 take_keeps : (P : ℕ → Type 0) (h : StreamHistory Piece) (slot place : ℕ) (part : Piece) → P slot → CameFor P h.arrivals → Keeps P h (take_arrival h slot place part)
 take_keeps P h slot place part is came = by (is_above h.last slot) (is_some (arrived h.arrivals slot place))
   where
-    by : (a b : Bool) → Keeps P h (if not a then h else (if b then h else keep_arrival h slot place part))
+    by : (a b : Bool) → Keeps P h (if not a then with_late h place else (if b then h else keep_arrival h slot place part))
     by false b = record { last = refl; is_on = refl; came = came }
     by true true = record { last = refl; is_on = refl; came = came }
     by true false = record { last = refl; is_on = refl; came = (is, came) }

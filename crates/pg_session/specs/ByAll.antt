@@ -1,6 +1,7 @@
 -- The model: a stream by all arrivals of its on-period, and a queue by all frames ever made.
 use Rattle.std.specs.Prelude.{length, sum_by}
 use Rattle.pg_data.specs.Pieces.{Piece}
+use Rattle.pg_align.specs.Counts.{counts_of}
 use Rattle.pg_align.specs.Histories.{StreamHistory, opening, answer_to, take_arrival, ticked, leave_all, flush_all, reshaped, started, discarded}
 use Rattle.pg_ring.specs.Shown.{begun_of, bytes_to_leave, frames_begun, gap_of, saturated}
 use Rattle.pg_ring.specs.Numbers.{Numbered, shown_of, push_made, dropped_by, lose_made, reply_made, drain_made, clear_made, cleared_by}
@@ -19,6 +20,7 @@ by_arrivals = record {
   reshape = reshaped;
   start = started;
   discard = discarded;
+  counts = λ h. counts_of h.past;
 }
 
 abbrev pub by_numbers : Queueing Numbered

@@ -18,6 +18,7 @@ by_slots = record {
   reshape = with_shape;
   start = with_start;
   discard = with_none;
+  counts = λ a. a.counts;
 }
 
 abbrev pub by_gaps : Queueing Queue

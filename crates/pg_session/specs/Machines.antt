@@ -4,6 +4,7 @@
 use Rattle.std.specs.Prelude.{ℕ, Bool, List}
 use Rattle.pg_data.specs.Pieces.{Piece}
 use Rattle.pg_align.specs.declared.answer.Arrived.{Arrived}
+use Rattle.pg_align.specs.declared.counts.SlotCounts.{SlotCounts}
 use Rattle.pg_align.specs.Histories.{Departures}
 use Rattle.pg_stream.specs.declared.definition.Definition.{Definition}
 
@@ -22,6 +23,8 @@ pub record Alignment (A : Type 0) : Type 0 where
   pub reshape : A → List Bool → A
   pub start : A → A
   pub discard : A → A
+  -- how many slots left since the definition, and which members were missing or late
+  pub counts : A → SlotCounts
 
 pub record Queueing (Q : Type 0) : Type 0 where
   -- a data frame is pushed; how many frames that drops

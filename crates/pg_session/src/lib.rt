@@ -29,5 +29,5 @@ pub use laws::{
 };
 pub use layouts::Layouts;
 pub use session::{Next, Session};
-pub use standing::{Standing, StreamStanding};
+pub use standing::{MemberPlace, MemberStanding, Standing, StreamStanding};
 pub use subscriber::Subscriber;

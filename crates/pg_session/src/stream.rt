@@ -32,10 +32,11 @@ use crate::filling::{Brought, place_all, place_one, send_filled};
 use crate::layouts::{Layouts, frame_len, frame_len_after};
 use crate::leaving::{flush_all, leave_all};
 use crate::output::Output;
-use crate::standing::{StreamStanding, count_effective};
+use crate::standing::{StreamStanding, count_effective, member_standing};
 use circular_buffer::HeapCircularBuffer;
 use pg_align::Align;
 use pg_data::{DataFrame, SharedBlock};
+use pg_entitle::Grants;
 use pg_outcfg::{ConfigList, HeadPrefix, OutCfg, StampCache, header};
 use pg_stream::Definition;
 use pg_wire::{PmuKey, Refusal, StreamId};
@@ -228,17 +229,23 @@ impl Stream {
         self.align.is_on()
     }
 
-    /// How it stands, by this CFG-1 list.
-    pub fn standing(&self, listed: &ConfigList) -> StreamStanding
-        ensures { result ≡ stream_standing by_slots listed.now self.now }
+    /// How it stands, and the member at this place, by these grants and this CFG-1 list.
+    pub fn standing(&self, grants: &Grants, listed: &ConfigList, member: u8) -> StreamStanding
+        ensures { result ≡ stream_standing by_slots grants.now listed.now member self.now }
     {
         let members = self.definition.members.as_slice();
+        let counts = self.align.counts();
         StreamStanding {
             stream: self.definition.stream,
             is_on: self.align.is_on(),
             effective: count_effective(listed, members),
             members: members.len() as u16,
             layouts: self.layouts,
+            complete: counts.complete,
+            waited: counts.waited,
+            pushed: counts.pushed,
+            changed: counts.changed,
+            member: member_standing(grants, listed, counts, members, member),
         }
     }
 
@@ -629,7 +636,10 @@ impl Stream {
             Ok(slot) if self.align.is_after_last(slot) => {
                 self.leave_filled(alloc, listed, slot, frame, &order, stamps, output);
             }
-            Ok(_) => output.count_late(),
+            Ok(_) => {
+                self.align.note_late(0);
+                output.count_late();
+            }
             Err(_) => output.count_past(),
         }
     }

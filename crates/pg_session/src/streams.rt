@@ -17,10 +17,11 @@ ghost use Rattle.pg_session.specs.Standing.{stream_standing};
 
 use crate::change::Change;
 use crate::output::Output;
-use crate::standing::StreamStanding;
+use crate::standing::{MemberPlace, StreamStanding};
 use crate::stream::Stream;
 use circular_buffer::HeapCircularBuffer;
 use pg_data::{DataFrame, SharedBlock};
+use pg_entitle::Grants;
 use pg_outcfg::{ConfigList, StampCache};
 use std::alloc::Global;
 
@@ -207,17 +208,18 @@ pub(crate) fn stream_of(streams: &[Stream], number: u16) -> Option<&Stream>
     None
 }
 
-/// How the stream at a place stands, by this CFG-1 list.
+/// How the stream and the member at a place stand, by these grants and this CFG-1 list.
 pub(crate) fn stream_standing_at(
     streams: &[Stream],
-    place: usize,
+    place: MemberPlace,
+    grants: &Grants,
     listed: &ConfigList,
 ) -> Option<StreamStanding>
-    ensures { result ≡ option_map (stream_standing by_slots listed.now) (slice_get streams.now place) }
+    ensures { result ≡ option_map (stream_standing by_slots grants.now listed.now place.member) (slice_get streams.now place.stream) }
 {
-    match streams.get(place) {
+    match streams.get(usize::from(place.stream)) {
         None => None,
-        Some(s) => Some(s.standing(listed)),
+        Some(s) => Some(s.standing(grants, listed, place.member)),
     }
 }
 

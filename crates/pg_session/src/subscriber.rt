@@ -23,7 +23,7 @@ use crate::event::{PrivateEvent, PrivateReply};
 use crate::listing::{list_all, list_one};
 use crate::output::Output;
 use crate::reply::{is_question, send_reply, word_at};
-use crate::standing::Standing;
+use crate::standing::{MemberPlace, Standing};
 use crate::stream::Stream;
 use crate::streams::{
     are_filled, measure_all, measure_all_filled, measure_all_one, remove_streams, reshape_all,
@@ -169,8 +169,8 @@ impl Subscriber {
         self.output.queue()
     }
 
-    /// How the subscriber stands: what waits for it, and the stream at this place, 0 the one that was defined first.
-    pub fn standing(&self, place: usize) -> Standing
+    /// How the subscriber stands: what waits for it, and the stream and the member at this place.
+    pub fn standing(&self, place: MemberPlace) -> Standing
         ensures value { (p : Model) → ShowsPrivate self.now p → result ≡ standing_of p place }
         // the same of what is kept, whatever state that shows
         ensures kept { result ≡ own_standing self.now.own place }
@@ -179,7 +179,7 @@ impl Subscriber {
         Standing {
             frames: queue.frames_to_leave(),
             bytes: queue.bytes_to_leave(),
-            stream: stream_standing_at(&self.streams, place, &self.listed),
+            stream: stream_standing_at(&self.streams, place, &self.grants, &self.listed),
         }
     }
 

@@ -135,13 +135,13 @@ impl SourceEntry {
             far: self.far,
             last,
             quality: quality.summary(second),
-            pmus: summaries_of(alloc, &quality.pmus)?,
+            pmus: summaries_of(alloc, quality.pmus())?,
         })
     }
 
     /// Keeps when it sent data and how far its clock is off, and returns whether its data are refused for that from now on, or no longer.
     pub(crate) fn note_seen(&mut self, seen: &GateStats, clock: u64, now: Instant) -> bool {
-        if seen.events > seen.far {
+        if seen.rate.is_some() || seen.measured > seen.far {
             self.measured_at = Some(now);
         }
         self.has_measured |= seen.measured > seen.far;

@@ -2,9 +2,8 @@
 
 use crate::history::{History, Past};
 use crate::quality_json::{put_pmus, put_quality};
-use crate::snapshot::{
-    Call, Ignored, Presence, Snapshot, SourceState, StreamState, SubscriberState,
-};
+use crate::snapshot::{Call, Ignored, Presence, Snapshot, SourceState, SubscriberState};
+use crate::stream_json::put_streams;
 use std::alloc::{AllocError, Global};
 
 /// A snapshot and what is remembered of its subscribers, as one JSON text: an object with `name`, and the lists
@@ -206,36 +205,4 @@ fn put_side(
         put_numbers(alloc, json, &[(comma(place), Some(frames))])?;
     }
     Ok(())
-}
-
-fn put_streams(
-    alloc: Global,
-    json: &mut String,
-    streams: &[StreamState],
-) -> Result<(), AllocError> {
-    json.push_str(",\"streams\":[")?;
-    for (place, stream) in streams.iter().enumerate() {
-        json.push_str(comma(place))?;
-        put_stream(alloc, json, stream)?;
-    }
-    json.push_str("]}")
-}
-
-fn put_stream(alloc: Global, json: &mut String, stream: &StreamState) -> Result<(), AllocError> {
-    let numbers = [
-        ("{\"subscriber\":", Some(u64::from(stream.sub.get()))),
-        (",\"stream\":", Some(u64::from(stream.stream.get()))),
-    ];
-    put_numbers(alloc, json, &numbers)?;
-    json.push_str(if stream.on {
-        ",\"on\":true"
-    } else {
-        ",\"on\":false"
-    })?;
-    let numbers = [
-        (",\"effective\":", Some(u64::from(stream.effective))),
-        (",\"members\":", Some(u64::from(stream.members))),
-    ];
-    put_numbers(alloc, json, &numbers)?;
-    json.push_str("}")
 }

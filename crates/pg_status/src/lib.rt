@@ -20,6 +20,9 @@ mod request;
 mod snapshot;
 mod station;
 mod status;
+mod stream_json;
+mod stream_metrics;
+mod stream_text;
 mod write_buffer;
 
 pub use asking::{Answered, BUSY, converse};
@@ -35,7 +38,8 @@ pub use page::page_text;
 pub use places::place_for;
 pub use request::{HEAD_BYTES, HttpError, Request, Shown, read_request};
 pub use snapshot::{
-    Call, Ignored, PmuState, Presence, Queue, Snapshot, SourceState, StreamState, SubscriberState,
+    Call, Ignored, MemberState, Membership, PmuState, Presence, Queue, Snapshot, SourceState,
+    StreamState, SubscriberState,
 };
 pub use station::shown_name;
 pub use status::print_status;

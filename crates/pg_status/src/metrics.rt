@@ -2,8 +2,9 @@
 
 use crate::histogram::{BOUNDS, Histogram};
 use crate::quality_metrics::print_quality;
-use crate::snapshot::{Call, Presence, Snapshot, SourceState, StreamState, SubscriberState};
+use crate::snapshot::{Call, Presence, Snapshot, SourceState, SubscriberState};
 use crate::station::print_escaped;
+use crate::stream_metrics::print_streams;
 use std::io;
 use std::io::Write;
 
@@ -150,40 +151,6 @@ impl SubscriberFigure {
     }
 }
 
-/// A number that is reported of each stream.
-#[derive(Clone, Copy)]
-enum StreamFigure {
-    On,
-    Effective,
-    Members,
-}
-
-impl StreamFigure {
-    fn name(self) -> &'static str {
-        match self {
-            StreamFigure::On => "pdcgw_stream_on",
-            StreamFigure::Effective => "pdcgw_stream_effective_members",
-            StreamFigure::Members => "pdcgw_stream_members",
-        }
-    }
-
-    fn help(self) -> &'static str {
-        match self {
-            StreamFigure::On => "1 if the subscriber has started the stream, else 0.",
-            StreamFigure::Effective => "Members of the stream that are granted and announced.",
-            StreamFigure::Members => "Members of the stream.",
-        }
-    }
-
-    fn of(self, stream: &StreamState) -> u64 {
-        match self {
-            StreamFigure::On => u64::from(stream.on),
-            StreamFigure::Effective => u64::from(stream.effective),
-            StreamFigure::Members => u64::from(stream.members),
-        }
-    }
-}
-
 /// Writes all metrics: what stands in a snapshot, and the ages of data frames as they were written.
 ///
 /// # Errors
@@ -301,25 +268,6 @@ fn print_subscribers<W: Write>(out: &mut W, subscribers: &[SubscriberState]) -> 
             let number = subscriber.sub.get();
             let value = figure.of(subscriber);
             writeln!(out, "{name}{{subscriber=\"{number}\"}} {value}")?;
-        }
-    }
-    Ok(())
-}
-
-/// Writes the metrics of streams.
-fn print_streams<W: Write>(out: &mut W, streams: &[StreamState]) -> io::Result<()> {
-    for figure in [
-        StreamFigure::On,
-        StreamFigure::Effective,
-        StreamFigure::Members,
-    ] {
-        let name = figure.name();
-        print_head(out, name, "gauge", figure.help())?;
-        for stream in streams {
-            let sub = stream.sub.get();
-            let number = stream.stream.get();
-            write!(out, "{name}{{subscriber=\"{sub}\",stream=\"{number}\"}}")?;
-            writeln!(out, " {}", figure.of(stream))?;
         }
     }
     Ok(())

@@ -49,7 +49,14 @@ section { padding: .8rem 1rem 1rem; overflow-x: auto; }
 h2 { margin: 0 0 .6rem; font-size: 1.05rem; font-weight: 600; }
 h2 small { display: inline-block; margin-left: .6rem; }
 table { width: 100%; border-collapse: collapse; }
-#streams { width: auto; min-width: 50%; }
+#sources th, #sources tbody tr, #subscribers tbody tr, #streams-head { cursor: pointer; }
+#sources th.sorted { color: var(--text); font-weight: 600; }
+tr.part td { border-top-style: dotted; }
+tr.part td:first-child { padding-left: 1.6rem; }
+.bar { display: inline-block; width: 2.4rem; height: .55rem; margin-left: .5rem; border: 1px solid var(--rule); border-radius: 2px; }
+td.line svg { display: inline-block; width: 5rem; height: 1.2rem; margin-right: .6rem; vertical-align: middle; }
+td.line span { display: inline-block; min-width: 5.2rem; }
+.trace { fill: none; stroke: var(--data); stroke-width: 1.5; vector-effect: non-scaling-stroke; }
 th, td { padding: .45rem 1.4rem .45rem 0; text-align: left; border-top: 1px solid var(--rule); white-space: nowrap; }
 th:last-child, td:last-child { padding-right: 0; }
 th { border-top: 0; padding-top: 0; color: var(--muted); font-size: .875rem; font-weight: 500; }
@@ -133,14 +140,16 @@ svg { display: block; width: 100%; overflow: visible; }
 <p class="times" style="margin:0"><span>5 min ago</span><span>now</span></p>
 </div>
 </section>
-<section><h2>Sources</h2><table id="sources"></table></section>
-<section><h2>PMUs<small>worst first</small></h2><table id="pmus"></table></section>
+<section><h2>Sources and their PMUs<small>a click on a source unfolds it, one on a heading sorts</small></h2><table id="sources"></table></section>
 <section><h2>Subscribers<small>marked: frames were dropped in the last five minutes</small></h2><table id="subscribers"></table></section>
-<section><h2>Streams<small>marked: frames of the subscriber were dropped in the last five minutes</small></h2><table id="streams"></table></section>
+<section><h2 id="streams-head">Streams<small id="streams-of"></small></h2><table id="streams"></table></section>
 </main>
 <script>
 'use strict';
 const SECONDS = 300;
+// The last state that came, and the subscriber whose streams are shown; null shows all.
+let latest = null;
+let chosen = null;
 const byId = id => document.getElementById(id);
 const tenths = value => value === null ? '–' : (value / 10).toFixed(1) + ' %';
 const whole = new Intl.NumberFormat('en-US');
@@ -211,7 +220,43 @@ function spark(cell, seconds) {
   draw(drops, bars(seconds.dropped, Math.max(...seconds.dropped, ...seconds.handed, 0)));
 }
 
-// Rows are [marked, cells], and a cell is [text, class, seconds]. What is unchanged is left as it is.
+// A line through numbers of the last five minutes, and the last of them as text; where there is no number the line is broken.
+function trace(cell, text, list) {
+  if (!cell.firstElementChild || cell.children.length !== 2) {
+    const space = 'http://www.w3.org/2000/svg';
+    const svg = document.createElementNS(space, 'svg');
+    svg.setAttribute('viewBox', '0 0 300 100');
+    svg.setAttribute('preserveAspectRatio', 'none');
+    const path = document.createElementNS(space, 'path');
+    path.setAttribute('class', 'trace');
+    svg.append(path);
+    cell.replaceChildren(svg, document.createElement('span'));
+  }
+  const known = list.filter(value => value !== null);
+  const [least, most] = [Math.min(...known), Math.max(...known)];
+  let pen = 'M';
+  const d = places(list).map(([x, value]) => {
+    if (value === null) { pen = 'M'; return ''; }
+    const at = pen + x + ' ' + (most > least ? 96 - 92 * (value - least) / (most - least) : 50).toFixed(1);
+    pen = 'L';
+    return at;
+  }).join('');
+  draw(cell.firstElementChild.firstElementChild, known.length ? d : '');
+  write(cell.lastElementChild, text, '');
+}
+
+// A number of per cent and a bar of it.
+function bar(cell, text, share) {
+  if (cell.children.length !== 2) cell.replaceChildren(document.createElement('span'), document.createElement('i'));
+  write(cell.firstElementChild, text, '');
+  write(cell.lastElementChild, '', 'bar');
+  const colour = share >= .99 ? 'var(--good)' : share >= .95 ? 'var(--warn)' : 'var(--bad)';
+  const wanted = 'linear-gradient(to right, ' + colour + ' ' + (100 * share).toFixed(0) + '%, transparent 0)';
+  if (cell.lastElementChild.dataset.is !== wanted) { cell.lastElementChild.dataset.is = wanted; cell.lastElementChild.style.background = wanted; }
+}
+
+// Rows are [marked, cells, class], and a cell is [text, class, drawn], where drawn is the seconds of a subscriber, a line or a share. What is unchanged
+// is left as it is.
 function fill(id, heads, rows, none) {
   const table = byId(id);
   if (!table.tHead) {
@@ -231,14 +276,16 @@ function fill(id, heads, rows, none) {
     return;
   }
   while (body.rows.length > rows.length) body.deleteRow(-1);
-  rows.forEach(([marked, cells], i) => {
+  rows.forEach(([marked, cells, of], i) => {
     const row = body.rows[i] || body.insertRow();
     if (row.cells.length !== heads.length) row.replaceChildren();
-    row.className = marked ? 'marked' : '';
-    cells.forEach(([text, kind, seconds], at) => {
+    row.className = [marked ? 'marked' : '', of || ''].join(' ').trim();
+    cells.forEach(([text, kind, drawn], at) => {
       const cell = row.cells[at] || row.insertCell();
       cell.dataset.label = heads[at][0];
-      if (seconds) { cell.className = 'curve'; spark(cell, seconds); return; }
+      if (drawn && drawn.handed) { cell.className = 'curve'; spark(cell, drawn); return; }
+      if (drawn && drawn.line) { cell.className = 'num line'; trace(cell, text, drawn.line); return; }
+      if (drawn && drawn.share !== undefined) { cell.className = 'num'; bar(cell, text, drawn.share); return; }
       if (kind && kind.startsWith('word')) {
         cell.className = 'state';
         if (!cell.firstElementChild) cell.replaceChildren(document.createElement('span'));
@@ -260,19 +307,6 @@ function callOf(source) {
     case 'pause': return ['pause, ' + span(source.pause), 'word bad'];
     default: return ['not connected', 'word off'];
   }
-}
-
-function showSources(sources) {
-  const heads = [['Source', 'lead'], ['State'], ['Address', 'full'], ['Last event', 'num full'], ['Frames', 'num'], ['Events', 'num'], ['Ignored', 'wide']];
-  fill('sources', heads, sources.map(source => {
-    const ignored = source.ignored.filter(one => one.count > 0);
-    return [false, [
-      [String(source.source)], callOf(source), [dash(source.address)],
-      [source.last === null ? 'never' : span(source.last) + ' ago'],
-      [whole.format(source.frames)], [whole.format(source.events)],
-      [ignored.map(one => one.reason + ' ' + whole.format(one.count)).join(', ') || '–', ignored.length ? 'wide warn' : 'wide'],
-    ]];
-  }), 'No source is registered.');
 }
 
 // All that is wrong with a PMU, the worst first: how bad it is, a word, its class, and what to do.
@@ -297,79 +331,219 @@ const stateOf = (quality, blocks) => wrongs(quality, blocks)[0] || [0, 'good', '
 // What was counted a minute ago, or when the page was opened.
 const counted = new Map();
 
-function growth(key, value) {
+function growth(key, value, isNew) {
   const past = counted.get(key) || [];
-  past.push(value);
+  if (isNew || !past.length) past.push(value);
   if (past.length > 60) past.shift();
   counted.set(key, past);
   return value - past[0];
 }
 
-// All that is wrong: how bad it is, its class, what it is of, what is wrong, and what to do.
-function troubles({ sources, subscribers, streams }) {
+// What to do about a member that a stream's frames do not carry.
+const absentHints = {
+  'not registered': 'addpmu, or take it out of the stream',
+  'not granted': 'grant it to the subscriber, or take it out of the stream',
+  'not announced': 'is its source connected, and is its id right?',
+};
+
+// All that is wrong: how bad it is, its class, what it is of, what is wrong, what to do, and the streams that miss something by it.
+function troubles({ sources, subscribers, streams }, isNew) {
   const all = [];
-  const tell = (weight, kind, of, what, hint) => all.push([weight, kind, of, what, hint]);
+  const tell = (weight, kind, of, what, hint) => {
+    const item = { weight, kind, of, what, hint, streams: [] };
+    all.push(item);
+    return item;
+  };
+  const grew = (key, value) => growth(key, value, isNew);
+  const { causes, ahead } = sourceTroubles(sources, tell, grew);
+  streamTroubles(streams, causes, ahead, tell, grew);
+  subscriberTroubles(subscribers, tell);
+  return all.sort((a, b) => b.weight - a.weight);
+}
+
+// Those of sources and PMUs; the answer has for each PMU what is wrong with it, and the PMUs whose clocks are ahead.
+function sourceTroubles(sources, tell, grew) {
+  const [causes, ahead] = [new Map(), new Set()];
   for (const source of sources) {
     const of = 'Source ' + source.source;
-    const grown = source.ignored.map(one => [one.reason, growth(of + one.reason, one.count)]).filter(([, count]) => count > 0);
-    if (grown.length) tell(4, 'word warn', of, grown.map(([reason, count]) => count + ' frames ignored, ' + reason).join('; '), 'in the last minute; see the log');
+    const grown = source.ignored.map(one => [one.reason, grew(of + one.reason, one.count)]).filter(([, count]) => count > 0);
+    const ignored = grown.map(([reason, count]) => whole.format(count) + ' frames ignored, ' + reason).join('; ');
     if (source.call === 'rests') continue;
-    if (source.call === 'calling' || source.call === 'pause') { tell(9, 'word bad', of, 'not connected', 'address, network, firewall, or it is off: see the log'); continue; }
-    if (source.call === 'connected') { tell(8, 'word bad', of, 'connected, and sends no data that count', 'its IDCODE, or its clock: see the log'); continue; }
+    if (source.call !== 'up') {
+      const item = source.call === 'connected' || ignored || source.events
+        ? tell(8, 'word bad', of, 'no data that count' + (ignored ? ': ' + ignored : ''), 'silent, or its IDCODE, CHK or clock is wrong: see the log')
+        : tell(9, 'word bad', of, 'not connected', 'address, network, firewall, or it is off: see the log');
+      for (const pmu of source.pmus) causes.set(source.source + '/' + pmu.pmu, item);
+      continue;
+    }
+    if (ignored) tell(4, 'word warn', of, ignored, 'in the last minute; see the log');
     for (const pmu of source.pmus) {
       const found = wrongs(source.quality, pmu.blocks);
       if (!found.length) continue;
-      const [weight, , kind, hint] = found[0];
-      tell(weight, kind, 'PMU ' + source.source + '/' + pmu.pmu + (pmu.blocks ? ' ' + pmu.blocks.station : ''), found.map(one => one[1]).join(', '), hint);
+      const [weight, word, kind, hint] = found[0];
+      const key = source.source + '/' + pmu.pmu;
+      causes.set(key, tell(weight, kind, 'PMU ' + key + (pmu.blocks ? ' ' + pmu.blocks.station : ''), found.map(one => one[1]).join(', '), hint));
+      if (word.startsWith('ahead')) ahead.add(key);
     }
   }
-  for (const one of subscribers) {
-    const [of, dropped] = ['Subscriber ' + one.subscriber, sum(one.seconds.dropped)];
-    if (dropped) tell(7, 'word bad', of, whole.format(dropped) + ' frames dropped in five minutes', 'it or its network is too slow, or its ring is too small');
-    const late = growth(of, one.late);
-    if (late) tell(3, 'word warn', of, late + ' blocks came too late in the last minute', 'a stream\u2019s wait has to be longer, or a clock is wrong');
-    if (one.waiting !== null && one.port !== null) tell(2, 'word warn', of, 'not connected for ' + span(one.waiting), 'its host, its network, or a WARN in the log');
-  }
+  return { causes, ahead };
+}
+
+// Those of streams: a member that is missing where nothing is known to be wrong with its PMU. Else its stream stands with the PMU; a member that is late
+// since another one's clock is ahead, with that one.
+function streamTroubles(streams, causes, ahead, tell, grew) {
   for (const one of streams) {
     const of = 'Stream ' + one.stream + ' of subscriber ' + one.subscriber;
-    if (one.effective < one.members) tell(4, 'word warn', of, one.effective + ' of ' + one.members + ' members', 'a member is not granted or not announced');
+    const early = one.pmus.map(pmu => pmu.source + '/' + pmu.pmu).find(key => ahead.has(key));
+    for (const pmu of one.pmus) {
+      const key = pmu.source + '/' + pmu.pmu;
+      const [missing, late] = ['missing', 'late'].map(which => grew(of + key + which, pmu[which]));
+      const cause = causes.get(key) || (late > 0 && early && causes.get(early));
+      if (pmu.absent && !(cause && pmu.absent === 'not announced')) tell(4, 'word warn', of + ' PMU ' + key, pmu.absent, absentHints[pmu.absent]);
+      else if (cause && (missing || pmu.absent)) cause.streams.push(one.stream + ' of ' + one.subscriber);
+      else if (missing && one.on) tell(4, 'word warn', of + ' PMU ' + key, 'missing in ' + whole.format(missing) + ' frames of the last minute' + (late ? ', ' + whole.format(late) + ' blocks late' : ''),
+        late ? 'the stream\u2019s wait has to be longer' : 'it does not come: see the PMU');
+    }
   }
-  return all.sort((a, b) => b[0] - a[0]);
 }
+
+// Those of subscribers. Where more than two are away, they share a line.
+function subscriberTroubles(subscribers, tell) {
+  for (const one of subscribers) {
+    const dropped = sum(one.seconds.dropped);
+    if (dropped) tell(7, 'word bad', 'Subscriber ' + one.subscriber, whole.format(dropped) + ' frames dropped in five minutes', 'it or its network is too slow, or its ring is too small');
+  }
+  const away = subscribers.filter(one => one.waiting !== null && one.port !== null);
+  if (away.length > 2) tell(2, 'word warn', 'Subscribers ' + some(away.map(one => one.subscriber), 8), 'not connected', 'their hosts, their network, or a WARN in the log');
+  else for (const one of away) tell(2, 'word warn', 'Subscriber ' + one.subscriber, 'not connected for ' + span(one.waiting), 'its host, its network, or a WARN in the log');
+}
+
+// The first few of a list.
+const some = (list, most) => list.slice(0, most).join(', ') + (list.length > most ? ' and ' + (list.length - most) + ' more' : '');
 
 function showTroubles(all) {
   const list = byId('attention');
   while (list.children.length > Math.max(all.length, 1)) list.lastChild.remove();
-  const rows = all.length ? all : [[0, 'word good', 'Nothing', '', 'all sources, PMUs and subscribers are well']];
-  rows.forEach(([, kind, of, what, hint], i) => {
+  const rows = all.length ? all : [{ kind: 'word good', of: 'Nothing', what: '', hint: 'all sources, PMUs and subscribers are well', streams: [] }];
+  rows.forEach(({ kind, of, what, hint, streams }, i) => {
     const item = list.children[i] || list.appendChild(document.createElement('li'));
     if (item.children.length !== 3) item.replaceChildren(document.createElement('span'), document.createElement('b'), document.createElement('small'));
     const [dot, words, after] = item.children;
     write(dot, of, kind);
     write(words, what ? ' ' + what : '', '');
-    write(after, hint, '');
+    write(after, hint + (streams.length ? '; fillers in stream ' + some(streams, 2) : ''), '');
   });
   write(byId('attention-count'), all.length ? String(all.length) : '', '');
 }
 
-function showPmus(sources) {
-  const heads = [['PMU', 'lead'], ['State'], ['Station', 'full'], ['Rate', 'num'], ['Last minute', 'num'], ['Last hour', 'num'],
-    ['Delay, median', 'num'], ['99 %', 'num'], ['Time'], ['STAT', 'num'], ['Frequency', 'num full']];
-  const all = sources.flatMap(source => source.pmus.map(pmu => [source, pmu, stateOf(source.quality, pmu.blocks)]));
-  all.sort((a, b) => b[2][0] - a[2][0] || a[0].source - b[0].source || a[1].pmu - b[1].pmu);
-  fill('pmus', heads, all.map(([source, pmu, [weight, word, kind]]) => {
-    const { quality, blocks } = source.quality && pmu.blocks ? { quality: source.quality, blocks: pmu.blocks } : {};
-    const delay = quality && quality.delay;
-    return [weight > 5, [
-      [source.source + '/' + pmu.pmu], [word, kind], [blocks ? blocks.station : '–'],
-      [quality ? (quality.rate < 0 ? '1/' + -quality.rate + ' s' : quality.rate + '/s') : '–'],
-      [quality ? tenths(quality.minute) : '–'], [quality ? tenths(quality.hour) : '–'],
-      [delay ? delay.median + ' ms' : '–'], [delay ? delay.most + ' ms' : '–'],
-      [quality ? quality.time : '–'], [blocks ? blocks.stat.toString(16).padStart(4, '0') : '–'],
-      [blocks && blocks.freq !== null ? (blocks.freq / 1000).toFixed(3) + ' Hz' : '–'],
-    ]];
-  }), 'No PMU is registered.');
+// What was seen in the last five minutes, since the page was opened: a number or null for each second.
+const seconds = new Map();
+
+function noted(key, value) {
+  const past = seconds.get(key) || [];
+  past.push(value);
+  if (past.length > SECONDS) past.shift();
+  seconds.set(key, past);
+  return past;
 }
+
+// The sources that are unfolded, and by which heading they are sorted.
+const unfolded = new Set();
+let sorted = 1;
+
+// Of a source and of each of its PMUs: how bad it is, a word and its class.
+function worst(source) {
+  const parts = source.pmus.map(pmu => stateOf(source.quality, pmu.blocks));
+  const call = callOf(source);
+  const weight = { up: 0, rests: 0, connected: 8, calling: 9, pause: 9 }[source.call];
+  const worse = source.call === 'up' ? parts.reduce((a, b) => b[0] > a[0] ? b : a, [0, ...call]) : [weight, ...call];
+  return { parts, state: worse };
+}
+
+const share = tenths => tenths === null ? undefined : tenths / 1000;
+
+function pmuCells(source, pmu, [, word, kind], name) {
+  const blocks = source.quality && source.quality.delay && pmu.blocks;
+  const freq = blocks && blocks.freq !== null ? blocks.freq / 1000 : null;
+  const past = seconds.get(source.source + '/' + pmu.pmu);
+  return {
+    name: [name], state: [word, kind], station: pmu.blocks ? pmu.blocks.station : '\u2013',
+    stat: [blocks ? blocks.stat.toString(16).padStart(4, '0') : '\u2013', blocks && blocks.stat ? 'num warn' : 'num'],
+    sync: [blocks ? (blocks.sync ? 'sync' : 'no sync') : '\u2013', blocks && !blocks.sync ? 'bad' : ''],
+    frequency: [freq === null ? '\u2013' : freq.toFixed(3) + ' Hz', '', past ? { line: past } : undefined],
+  };
+}
+
+const sourceHeads = [['Source', 'lead'], ['State'], ['Station', 'full'], ['Rate', 'num'], ['Last minute', 'num'], ['Last hour', 'num'],
+  ['Delay, five minutes', 'num line'], ['99 %', 'num'], ['Time'], ['STAT', 'num'], ['Frequency, five minutes', 'num line'], ['Ignored', 'wide']];
+const none = ['\u2013'];
+
+function sourceRow(source, { state, parts }) {
+  const { quality, pmus } = source;
+  const delay = quality && quality.delay;
+  const ignored = source.ignored.filter(one => one.count > 0);
+  const only = pmus.length === 1 ? pmuCells(source, pmus[0], parts[0], '') : null;
+  return [state[0] > 5, [
+    [source.source + (unfolded.has(source.source) ? ' \u25be' : ' \u25b8')], [state[1], state[2]],
+    [only ? only.station : pmus.length + ' PMUs'],
+    [quality ? (quality.rate < 0 ? '1/' + -quality.rate + ' s' : quality.rate + '/s') : '\u2013'],
+    [quality ? tenths(quality.minute) : '\u2013', 'num', quality ? { share: share(quality.minute) } : undefined],
+    [quality ? tenths(quality.hour) : '\u2013'],
+    [delay ? delay.median + ' ms' : '\u2013', '', { line: seconds.get(source.source) || [] }],
+    [delay ? delay.most + ' ms' : '\u2013'],
+    [quality && quality.time ? quality.time : '\u2013', quality && quality.time && quality.time !== 'locked' ? 'warn' : ''],
+    only ? only.stat : none, only ? only.frequency : none,
+    [ignored.map(one => one.reason + ' ' + whole.format(one.count)).join(', ') || '\u2013', ignored.length ? 'wide warn' : 'wide'],
+  ]];
+}
+
+// The rows of a source that is unfolded: itself, and each of its PMUs.
+function partRows(source, parts) {
+  const last = source.last === null ? 'never' : span(source.last) + ' ago';
+  const rest = new Array(8).fill(none);
+  const counted = whole.format(source.frames) + ' frames, ' + whole.format(source.events) + ' taken, the last ' + last;
+  return [[false, [[''], [''], [dash(source.address)], ...rest, [counted, 'wide']], 'part'],
+    ...source.pmus.map((pmu, at) => {
+      const { name, state, station, stat, sync, frequency } = pmuCells(source, pmu, parts[at], source.source + '/' + pmu.pmu);
+      return [parts[at][0] > 5, [name, state, [station], none, none, none, none, none, sync, stat, frequency, none], 'part'];
+    })];
+}
+
+// How sources are sorted by a heading: greater ones first, and then by number.
+const orders = {
+  0: () => 0, 1: (source, judged) => judged.state[0], 4: ({ quality }) => quality && quality.minute !== null ? -quality.minute : -1001,
+  5: ({ quality }) => quality && quality.hour !== null ? -quality.hour : -1001, 6: ({ quality }) => quality && quality.delay ? quality.delay.median : -1e9,
+  7: ({ quality }) => quality && quality.delay ? quality.delay.most : -1e9, 11: source => sum(source.ignored.map(one => one.count)),
+};
+
+function showSources(sources, isNew) {
+  if (isNew) {
+    for (const source of sources) {
+      noted(source.source, source.quality && source.quality.delay ? source.quality.delay.median : null);
+      for (const pmu of source.pmus) noted(source.source + '/' + pmu.pmu, source.quality && source.quality.delay && pmu.blocks && pmu.blocks.freq !== null ? pmu.blocks.freq : null);
+    }
+  }
+  const order = orders[sorted] || orders[1];
+  const all = sources.map(source => ({ source, judged: worst(source) }));
+  all.sort((a, b) => order(b.source, b.judged) - order(a.source, a.judged) || a.source.source - b.source.source);
+  fill('sources', sourceHeads, all.flatMap(({ source, judged }) => [
+    sourceRow(source, judged),
+    ...(unfolded.has(source.source) ? partRows(source, judged.parts) : []),
+  ]), 'No source is registered.');
+  [...byId('sources').tHead.rows[0].cells].forEach((cell, at) => { cell.classList.toggle('sorted', at === sorted); });
+}
+
+// A click on a source unfolds or folds it, one on a heading sorts by it.
+byId('sources').addEventListener('click', event => {
+  const head = event.target.closest('th');
+  const row = event.target.closest('tbody tr');
+  if (head && orders[head.cellIndex]) sorted = head.cellIndex;
+  if (row && !row.classList.contains('part')) {
+    const source = parseInt(row.cells[0].textContent, 10);
+    if (!unfolded.delete(source)) unfolded.add(source);
+  }
+  if (latest) showSources(latest.sources, false);
+});
 
 function showSubscribers(subscribers) {
   const heads = [['Subscriber', 'lead'], ['State'], ['Address', 'full'], ['Port', 'num full'], ['Five minutes', 'curve'], ['Frames/s', 'num'],
@@ -385,22 +559,49 @@ function showSubscribers(subscribers) {
   ]]), 'There is no subscriber.');
 }
 
+// The members that are not carried, missing or late.
+function membersOf(one) {
+  return one.pmus.filter(pmu => pmu.absent || pmu.missing || pmu.late).map(pmu => pmu.source + '/' + pmu.pmu
+    + (pmu.absent ? ' ' + pmu.absent : '')
+    + (pmu.missing ? ' missing ' + whole.format(pmu.missing) : '')
+    + (pmu.late ? ' late ' + whole.format(pmu.late) : '')).join(', ');
+}
+
 function showStreams(streams, subscribers) {
   const drops = new Map(subscribers.map(one => [one.subscriber, sum(one.seconds.dropped)]));
-  const heads = [['Stream', 'lead'], ['State'], ['Subscriber'], ['Members', 'num'], ['Dropped', 'num']];
-  fill('streams', heads, streams.map(one => {
+  const heads = [['Stream', 'lead'], ['State'], ['Subscriber'], ['Members', 'num'], ['Complete', 'num'], ['By wait', 'num'], ['By window', 'num'], ['By change', 'num'],
+    ['Dropped', 'num'], ['Members that were missing', 'wide']];
+  const shown = streams.filter(one => chosen === null || one.subscriber === chosen);
+  write(byId('streams-of'), chosen === null ? 'of all subscribers; a click on a subscriber shows its own' : 'of subscriber ' + chosen + '; a click here shows all', '');
+  const count = value => [whole.format(value), value ? 'num warn' : 'num'];
+  fill('streams', heads, shown.map(one => {
     const dropped = drops.get(one.subscriber) || 0;
+    const members = membersOf(one);
     return [dropped > 0, [
       [String(one.stream)], one.on ? ['on', 'word good'] : ['off', 'word off'], [String(one.subscriber)],
       [one.effective + ' of ' + one.members, one.effective < one.members ? 'num warn' : 'num'],
+      [whole.format(one.complete)], count(one.waited), count(one.pushed), [whole.format(one.changed)],
       [whole.format(dropped), dropped > 0 ? 'num bad' : 'num'],
+      [members || '\u2013', members ? 'wide warn' : 'wide'],
     ]];
   }), 'No stream is defined.');
 }
 
-function show(state) {
+// A click on a subscriber shows its streams alone, another one all.
+byId('subscribers').addEventListener('click', event => {
+  const row = event.target.closest('tbody tr');
+  if (!row) return;
+  const sub = Number(row.cells[0].textContent);
+  chosen = chosen === sub ? null : sub;
+  if (latest) show(latest, false);
+  byId('streams-head').scrollIntoView({ behavior: 'smooth', block: 'start' });
+});
+byId('streams-head').addEventListener('click', () => { chosen = null; if (latest) show(latest, false); });
+
+function show(state, isNew) {
+  latest = state;
   const { name, sources, subscribers, streams } = state;
-  const all = troubles(state);
+  const all = troubles(state, isNew);
   document.title = (all.length ? '(' + all.length + ') ' : '') + name + ' - pdcgw';
   showTroubles(all);
   write(byId('name'), name, '');
@@ -420,8 +621,7 @@ function show(state) {
   draw(byId('drops-curve'), bars(dropped, worst));
   write(byId('frames-top'), whole.format(most), '');
   write(byId('drops-top'), whole.format(worst), '');
-  showSources(sources);
-  showPmus(sources);
+  showSources(sources, isNew);
   showSubscribers(subscribers);
   showStreams(streams, subscribers);
 }
@@ -434,7 +634,7 @@ async function ask() {
   try {
     const answer = await fetch('/state', { cache: 'no-store', signal: AbortSignal.timeout(4000) });
     if (!answer.ok) throw new Error('answered ' + answer.status);
-    show(await answer.json());
+    show(await answer.json(), true);
     seen = new Date();
     byId('clock').textContent = 'as of ' + time(seen);
     byId('lost').hidden = true;

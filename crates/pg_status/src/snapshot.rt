@@ -1,7 +1,7 @@
 //! What the service shows of itself.
 
 use pg_quality::{FrameSummary, PmuSummary};
-use pg_wire::{PmuId, Refusal, StreamId, SubId};
+use pg_wire::{PmuId, PmuKey, Refusal, StreamId, SubId};
 
 /// How the connection to a source stands.
 #[derive(Clone, Copy, Debug, PartialEq, Eq)]
@@ -106,8 +106,34 @@ pub struct SubscriberState {
     pub queue: Queue,
 }
 
-/// A stream of a subscriber.
+/// Whether the frames of a stream carry a member, or why they do not.
+#[derive(Clone, Copy, Debug, PartialEq, Eq)]
+pub enum Membership {
+    /// They carry it: it is granted and announced.
+    Carried,
+    /// The PMU is not registered.
+    NotRegistered,
+    /// The PMU is not granted to the subscriber.
+    NotGranted,
+    /// The PMU's source has not announced it.
+    NotAnnounced,
+}
+
+/// A member of a stream.
 #[derive(Clone, Copy, Debug)]
+pub struct MemberState {
+    /// The PMU.
+    pub key: PmuKey,
+    /// Whether the stream's frames carry it.
+    pub membership: Membership,
+    /// The stream's frames since it was defined that have a filler in its place.
+    pub missing: u64,
+    /// Its blocks that came for a slot that had left.
+    pub late: u64,
+}
+
+/// A stream of a subscriber. Its frames are counted since it was defined.
+#[derive(Drop)]
 pub struct StreamState {
     /// The subscriber.
     pub sub: SubId,
@@ -117,8 +143,16 @@ pub struct StreamState {
     pub on: bool,
     /// How many of its members are granted and announced, so that its frames carry them.
     pub effective: u32,
-    /// How many members it has.
-    pub members: u32,
+    /// The frames that left complete.
+    pub complete: u64,
+    /// Those that had waited as long as `wait` says.
+    pub waited: u64,
+    /// Those that were pushed out: more slots than the window were open.
+    pub pushed: u64,
+    /// Those that left before a change of the stream's configuration.
+    pub changed: u64,
+    /// Its members, in the definition's order.
+    pub members: Vec<MemberState>,
 }
 
 /// What the service shows of itself at one moment: each list in the order in which it is shown.

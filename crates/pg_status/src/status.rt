@@ -1,20 +1,22 @@
 //! The lines of `status`.
 
 use crate::pmu_text::print_pmu;
-use crate::snapshot::{
-    Call, Ignored, Presence, Snapshot, SourceState, StreamState, SubscriberState,
-};
+use crate::snapshot::{Call, Ignored, Presence, Snapshot, SourceState, SubscriberState};
+use crate::stream_text::print_stream;
 use std::io;
 use std::io::Write;
 
-/// Writes a line for each source, with one for each of its registered PMUs behind it, and for each subscriber and stream. `-` stands for what is not
-/// there: an address, a port, an event to count from, a reason, the seconds of a pause that does not end by itself.
+/// Writes a line for each source, with one for each of its registered PMUs behind it, and for each subscriber and stream, with one behind it for each
+/// member that its frames do not carry, and for each that was missing in a frame or late. `-` stands for what is not there: an address, a port, an event
+/// to count from, a reason, the seconds of a pause that does not end by itself.
 ///
 /// ```text
 /// source 7 10.0.0.1:4712 up frames 120 events 118 ignored BadCheck=2 last 0
 /// pmu 7/1 "STATION A" 30/s got 99.8% delay 12 35 80 ms sync locked stat 0000 60.003 Hz
 /// subscriber 1 4800 connected 10.0.0.9:50312 made 90 dropped 0 lost 0 late 1 twice 0 handed 9360 queue 2 208
-/// stream 1 101 on members 2/3
+/// stream 1 101 on members 2/3 complete 80 waited 9 pushed 0 changed 1
+/// absent 7/3 not granted
+/// missing 7/2 10 late 4
 /// ```
 ///
 /// # Errors
@@ -93,16 +95,4 @@ fn print_subscriber<W: Write>(out: &mut W, subscriber: &SubscriberState) -> io::
     write!(out, " handed {}", subscriber.handed)?;
     let queue = subscriber.queue;
     writeln!(out, " queue {} {}", queue.frames, queue.bytes)
-}
-
-/// Writes the line of a stream.
-fn print_stream<W: Write>(out: &mut W, stream: &StreamState) -> io::Result<()> {
-    let state = if stream.on { "on" } else { "off" };
-    write!(
-        out,
-        "stream {} {} {state}",
-        stream.sub.get(),
-        stream.stream.get()
-    )?;
-    writeln!(out, " members {}/{}", stream.effective, stream.members)
 }

@@ -5,7 +5,7 @@ ghost use Rattle.pg_service.specs.Posts.{OwnOnly};
 
 use pg_gateway::{Event, Gate, Reply};
 use pg_limits::{FoundStream, STREAMS};
-use pg_session::StreamStanding;
+use pg_session::{MemberPlace, StreamStanding};
 use pg_wire::SubId;
 
 /// The streams of a subscriber at most, as an event counts them.
@@ -42,7 +42,13 @@ pub(crate) fn ask_standings<G: Gate>(sub: SubId, gate: &mut G) -> Standings
 fn post_standing<G: Gate>(sub: SubId, place: u8, gate: &mut G) -> Option<FoundStream>
     ensures own { OwnOnly sub (G.posts gate.old) (G.posts gate.new) }
 {
-    let reply = gate.post(Event::Standing(sub, place));
+    let reply = gate.post(Event::Standing(
+        sub,
+        MemberPlace {
+            stream: place,
+            member: 0,
+        },
+    ));
     standing_in(&reply)
 }
 

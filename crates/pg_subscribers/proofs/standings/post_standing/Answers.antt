@@ -6,5 +6,5 @@ use Rattle.pg_subscribers.proofs.standings.post_standing.Goals as goal
 
 pub returns : goal.returns
 returns g c =
-    let posted = posts_other (g.G.Gate.takes c.args.gate.now) (g.met.G.Gate.frames c.args.gate.now) (inquires (standing c.args.sub c.args.place)) (λ x. x) _ _ _ c.post-reply.ensures.posted in
+    let posted = posts_other (g.G.Gate.takes c.args.gate.now) (g.met.G.Gate.frames c.args.gate.now) (inquires (standing c.args.sub (record { stream = c.args.place; member = 0 }))) (λ x. x) _ _ _ c.post-reply.ensures.posted in
     record { own = own_one _ _ _ _ posted (inr (_, refl)) }

@@ -19,14 +19,14 @@ invariant_of-self c =
     let a = c.self.inside in
     let k = c.self.invariant in
     let back = taken_back a c.take_back.new.lent c.take_back.new.spare k c.take_back.ensures.none c.take_back.ensures.len c.take_back.ensures.free c.take_back.ensures.capacity in
-    let added = c.add_arrival.ensures in
+    let added = c.add_arrival-arrived.ensures in
     let on : a.is_on ≡ true = rw (← c.self.view_is) at c.requires.on in
     let many = c.len.ensures ∙ c.self.inside.effective.ok.0 in
     let counted = added.counted a.effective.items k.counted k.wanted (rw (← c.self.view_is) at c.requires.effective) in
-    kept_arrival a c.take_back.new.lent c.add_arrival.new.slots c.take_back.new.spare c.add_arrival.new.spare k back on added.count added.capacity.0 added.capacity.1 (rw many at added.places) added.rising added.above counted (rw many at added.free)
+    kept_arrival a c.take_back.new.lent c.add_arrival-arrived.new.slots c.take_back.new.spare c.add_arrival-arrived.new.spare c.count_if_late.new.self k back on added.count added.capacity.0 added.capacity.1 (rw many at added.places) added.rising added.above counted (rw many at added.free)
 
-pub add_arrival-requires : goal.add_arrival-requires
-add_arrival-requires c =
+pub add_arrival-arrived-requires : goal.add_arrival-arrived-requires
+add_arrival-arrived-requires c =
     let a = c.self.inside in
     let k = c.self.invariant in
     let back = taken_back a c.take_back.new.lent c.take_back.new.spare k c.take_back.ensures.none c.take_back.ensures.len c.take_back.ensures.free c.take_back.ensures.capacity in
@@ -45,29 +45,29 @@ add_arrival-requires c =
 
 pub returns-clause-answer : goal.returns-clause-answer
 returns-clause-answer c =
-    let added = c.add_arrival.ensures in
-    by_answer c.add_arrival.result
+    let added = c.add_arrival-arrived.ensures in
+    by_answer c.add_arrival-arrived.result
     (λ e. rw (← c.self.view_is, (added.kept e).0, (added.kept e).1) e)
     (λ e. rw (← c.self.view_is, (added.late e).0) e)
     (λ e. rw (← c.self.view_is, (added.twice e).0, (added.twice e).1) e)
 
 pub returns-clause-shown : goal.returns-clause-shown
 returns-clause-shown c =
-    let added = c.add_arrival.ensures in
+    let added = c.add_arrival-arrived.ensures in
     let many = c.len.ensures ∙ c.self.inside.effective.ok.0 in
-    by_answer c.add_arrival.result
-    (λ e. rw (← c.self.view_is, (added.kept e).0, (added.kept e).1, rw many at (added.kept e).2) refl)
-    (λ e. rw (← c.self.view_is, (added.late e).0, (added.late e).1) refl)
-    (λ e. rw (← c.self.view_is, (added.twice e).0, (added.twice e).1, (added.twice e).2) refl)
+    by_answer c.add_arrival-arrived.result
+    (λ e. rw (← c.self.view_is, c.count_if_late.ensures, e, (added.kept e).0, (added.kept e).1, rw many at (added.kept e).2) refl)
+    (λ e. rw (← c.self.view_is, c.count_if_late.ensures, e, (added.late e).0, (added.late e).1) refl)
+    (λ e. rw (← c.self.view_is, c.count_if_late.ensures, e, (added.twice e).0, (added.twice e).1, (added.twice e).2) refl)
 
 pub returns-clause-room : goal.returns-clause-room
 returns-clause-room c =
     let a = c.self.inside in
     let fresh = fresh_slot c.args.slot a.wait c.len.result c.args.place c.args.block in
-    by_answer c.add_arrival.result
-    (λ e. rw (← c.self.view_is, (c.add_arrival.ensures.kept e).2) (others-with_part fresh c.args.place c.args.block (slots_of a.slots.items)))
-    (λ e. rw (← c.self.view_is, (c.add_arrival.ensures.late e).1) refl)
-    (λ e. rw (← c.self.view_is, (c.add_arrival.ensures.twice e).2) refl)
+    by_answer c.add_arrival-arrived.result
+    (λ e. rw (← c.self.view_is, (c.add_arrival-arrived.ensures.kept e).2) (others-with_part fresh c.args.place c.args.block (slots_of a.slots.items)))
+    (λ e. rw (← c.self.view_is, (c.add_arrival-arrived.ensures.late e).1) refl)
+    (λ e. rw (← c.self.view_is, (c.add_arrival-arrived.ensures.twice e).2) refl)
 
 pub returns-clause-history : goal.returns-clause-history
 returns-clause-history c h s =

@@ -16,4 +16,4 @@ invariant_of-self-2 c =
     let k = c.self.invariant in
     let back = taken_back a c.take_back.new.lent c.take_back.new.spare k c.take_back.ensures.none c.take_back.ensures.len c.take_back.ensures.free c.take_back.ensures.capacity in
     let least = c.take_least-first in
-    kept_least a c.take_back.new.lent least.new.slots c.take_back.new.spare c.push_reserved.new.self least.result k back least.ensures.whole least.ensures.slots least.ensures.len least.ensures.capacity c.push_reserved.ensures.items (grind (arith, kept_steps)) (grind (arith, kept_steps))
+    kept_least a c.take_back.new.lent least.new.slots c.take_back.new.spare c.push_reserved.new.self least.result c.count_left.new.self k back least.ensures.whole least.ensures.slots least.ensures.len least.ensures.capacity c.push_reserved.ensures.items (grind (arith, kept_steps)) (grind (arith, kept_steps))

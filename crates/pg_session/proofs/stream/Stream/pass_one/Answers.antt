@@ -13,7 +13,7 @@ use Rattle.pg_session.specs.Kept.{by_slots}
 use Rattle.pg_session.specs.Fields.{with_stats, turn_stats}
 use Rattle.pg_session.specs.Filling.{filled, may_keep}
 use Rattle.pg_session.proofs.Sending.{sends-none}
-use Rattle.pg_session.proofs.Simulating.{stream_of}
+use Rattle.pg_session.proofs.Simulating.{placed-within, stream_of}
 use Rattle.pg_session.proofs.Measuring.{nothing-turns, measure_is, placed_few}
 use Rattle.pg_session.proofs.Filled.{fills_turn, blocks_came}
 use Rattle.pg_session.proofs.OneBlock.{alone_where, late_turn, left_turn, only_member, within_one}
@@ -148,9 +148,10 @@ returns-in-Ok-2-clause-stream c =
     refl came.0 c.base.ensures.value (sym c.in-Ok.is ∙ exact) in
     let late : is_above a.last c.in-Ok.slot ≡ false = sym c.is_after_last.ensures.shown ∙ c.if-is_after_last.false in
     let one : length blocks ≡ 1 = let few = placed_few def.members m (place ∷ []) in omega (arith, came.0, few) in
-    let here = turn ∙ late_turn listed s c.in-Ok.slot blocks one late alone.1 in
-    subst (λ (v : StreamOf (Aligned Piece)). v ≡ (measure_turn by_slots listed m.soc m.quality m.frac samples v).stream) c.self.view_is
-    (sym (ap (λ (u : Turn (Aligned Piece)). u.stream) here))
+    let here = turn ∙ late_turn listed s c.in-Ok.slot blocks one (placed-within def.members m.quality samples) alone.0 late alone.1 in
+    let made = ap (λ (x : Aligned Piece). stream_of def x c.self.inside.changes c.self.inside.layouts) c.note_late.ensures.shown in
+    subst (λ (v : StreamOf (Aligned Piece)). stream_of def c.note_late.new.self c.self.inside.changes c.self.inside.layouts ≡ (measure_turn by_slots listed m.soc m.quality m.frac samples v).stream) c.self.view_is
+    (made ∙ sym (ap (λ (u : Turn (Aligned Piece)). u.stream) here))
 
 pub returns-in-Ok-2-clause-sends : goal.returns-in-Ok-2-clause-sends
 returns-in-Ok-2-clause-sends c =
@@ -178,7 +179,7 @@ returns-in-Ok-2-clause-sends c =
     refl came.0 c.base.ensures.value (sym c.in-Ok.is ∙ exact) in
     let late : is_above a.last c.in-Ok.slot ≡ false = sym c.is_after_last.ensures.shown ∙ c.if-is_after_last.false in
     let one : length blocks ≡ 1 = let few = placed_few def.members m (place ∷ []) in omega (arith, came.0, few) in
-    let here = turn ∙ late_turn listed s c.in-Ok.slot blocks one late alone.1 in
+    let here = turn ∙ late_turn listed s c.in-Ok.slot blocks one (placed-within def.members m.quality samples) alone.0 late alone.1 in
     let new = c.count_late.new.self in
     let sent : Sends [] (with_stats out (turn_stats (record (still s) { late = 1 }) out.output.stats)) new = subst (λ (o : Sending). Sends [] o new) c.count_late.ensures (sends-none new) in
     subst (λ (v : StreamOf (Aligned Piece)). Sends (measure_turn by_slots listed m.soc m.quality m.frac samples v).frames
