@@ -59,8 +59,9 @@ PLAIN = "text/plain; charset=utf-8"
 # What is shown, by the beginning of its content; what is refused, whole.
 SHOWN = {"page": ("text/html; charset=utf-8", b"<!DOCTYPE html>\n"), "state": ("application/json", b'{"name":"'),
          "metrics": ("text/plain; version=0.0.4; charset=utf-8", b"# HELP pdcgw_info ")}
-DENIED = {"400": ("400 Bad Request", "", b"This is not a request of HTTP/1.1.\n"),
-          "404": ("404 Not Found", "", b"Not found. There are /, /state and /metrics.\n"),
+DENIED = {"within": ("400 Bad Request", "", b"/health takes ?within=SECONDS, 1 to 86400.\n"),
+          "400": ("400 Bad Request", "", b"This is not a request of HTTP/1.1.\n"),
+          "404": ("404 Not Found", "", b"Not found. There are /, /state, /metrics and /health.\n"),
           "405": ("405 Method Not Allowed", "Allow: GET, HEAD\r\n", b"Only GET and HEAD are allowed.\n"),
           "431": ("431 Request Header Fields Too Large", "", b"The head of a request may have at most 8192 bytes and 64 fields.\n"),
           "503": ("503 Service Unavailable", "Retry-After: 1\r\n", b"16 connections are open, the most possible: try again in a second.\n")}
@@ -74,6 +75,16 @@ HEAD /metrics HTTP/1.1=metrics alone
 GET /metrics?a=b&c HTTP/1.1=metrics
 GET /?/state HTTP/1.1=page
 GET /metrics/ HTTP/1.1=404
+GET /health? HTTP/1.1=within
+GET /health?within= HTTP/1.1=within
+GET /health?within=0 HTTP/1.1=within
+GET /health?within=86401 HTTP/1.1=within
+GET /health?within=99999999999999999999 HTTP/1.1=within
+GET /health?within=-1 HTTP/1.1=within
+GET /health?within=1.5 HTTP/1.1=within
+GET /health?Within=5 HTTP/1.1=within
+HEAD /health?within=5&a HTTP/1.1=within alone
+GET /health/ HTTP/1.1=404
 GET /Metrics HTTP/1.1=404
 GET /metric HTTP/1.1=404
 GET // HTTP/1.1=404

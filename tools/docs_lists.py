@@ -80,6 +80,7 @@ def lines():
     verbs = re.findall(r'"(\w+)" => Verb::', source("pg_lines", "verb"))
     ways = re.findall(r'"(\w+)" => Way::', source("pg_lines", "steer"))
     own = re.findall(r'"(\w+)" => return Ok\(Request::', source("pg_console", "console"))
+    own += re.findall(r'"(\w+)" => Topic::', source("pg_lines", "question"))
     table = rows(section("docs/OPERATING.md", "## Commands"))[1:]
     told = {span.split(" ")[0] for cells in table for span in spans(cells[0])}
     words = source("pdcgw", "help")

@@ -96,6 +96,12 @@ for each event: TIME LEVEL WHAT.
 
 More commands:
   status                   prints a line for each source, subscriber and stream, with its state and counters
+  version                  prints the version of the program that runs, as `pdcgw --version`
+  show U                   prints what U has now, also by commands, as tables of a setup file; their comments say whether it is
+                           connected, which streams are on, and why a member is not in the frames
+  advise                   prints for each stream the `wait` and `window` that the delays of the last minute ask for, so that 99.9%
+                           of the blocks come in time: advise U/STREAM wait TICKS in force TICKS late BLOCKS of BLOCKS window
+                           FRAMES in force FRAMES tick MS ms
   reload                   reads the setup file again and does what changed; subscribers that no change names keep their
                            connections and frames. Prints what was refused, then `reloaded: ..`. If the file has mistakes,
                            nothing changes and the answer lists them

@@ -49,7 +49,7 @@ impl HttpConnection {
                 Step::More => return true,
                 Step::Asks(shown) => {
                     let answered = match cache.contents(shown) {
-                        Ok(body) => self.exchange.answer(&body),
+                        Ok(contents) => self.exchange.answer(&contents),
                         Err(error) => Err(error),
                     };
                     if answered.is_err() {

@@ -1,7 +1,7 @@
 //! What the page and the metrics show.
 
 use crate::backend::AdminBackend;
-use pg_status::{Frames, Histogram, History, Shown, Snapshot, Total, contents_of};
+use pg_status::{Contents, Frames, Histogram, History, Shown, Snapshot, Total, contents_of};
 use std::alloc::{AllocError, Global};
 use std::time::{Duration, Instant};
 
@@ -17,6 +17,8 @@ pub(crate) struct SnapshotCache {
     history: History,
     ages: Histogram,
     due: Instant,
+    // Whether there was no memory for the last look.
+    is_stale: bool,
 }
 
 impl SnapshotCache {
@@ -29,10 +31,12 @@ impl SnapshotCache {
                 sources: Vec::new(alloc),
                 subscribers: Vec::new(alloc),
                 streams: Vec::new(alloc),
+                unanswered: 0,
             },
             history: History::new(alloc),
             ages: Histogram::new(),
             due: now,
+            is_stale: false,
         }
     }
 
@@ -57,6 +61,7 @@ impl SnapshotCache {
         if let Some(next) = now.checked_add(Duration::from_millis(LOOK_MS)) {
             self.due = next;
         }
+        self.is_stale = true;
         let snapshot = backend.snapshot()?;
         let mut totals = Vec::new(self.alloc);
         for it in snapshot.subscribers.iter() {
@@ -70,11 +75,27 @@ impl SnapshotCache {
         }
         self.snapshot = snapshot;
         self.ages = backend.ages();
+        self.is_stale = false;
         self.history.note(&totals)
     }
 
     /// What is answered where this is asked for.
-    pub(crate) fn contents(&self, shown: Shown) -> Result<Vec<u8>, AllocError> {
+    ///
+    /// # Errors
+    ///
+    /// There is no memory, or there was none for the last look, so that it is not known whether the gateway does its work.
+    pub(crate) fn contents(&self, shown: Shown) -> Result<Contents, AllocError> {
+        if self.is_stale && is_health(shown) {
+            return Err(AllocError);
+        }
         contents_of(self.alloc, shown, &self.snapshot, &self.history, &self.ages)
+    }
+}
+
+/// Whether it is asked whether the gateway does its work.
+fn is_health(shown: Shown) -> bool {
+    match shown {
+        Shown::Health { .. } => true,
+        _ => false,
     }
 }

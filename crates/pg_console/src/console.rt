@@ -1,16 +1,18 @@
 //! The console, where an operator's lines are answered.
 
+use crate::advise::print_advice;
 use crate::service_handle::ServiceHandle;
 use crate::snapshot::seen_by;
 use pg_gateway::{Edit, Gate, Reply};
 use pg_lines::{
-    NotPrinted, Steer, parse_steer, print_refusal, print_reply, read_edit, without_end,
+    NotPrinted, Question, Steer, parse_question, parse_steer, print_refusal, print_reply,
+    read_edit, without_end,
 };
 use pg_log::{Asked, Detail, Entry, LogEvent, Subject};
-use pg_service::{Change, MeteredGate};
+use pg_service::{Change, Directory, FollowUp, MeteredGate};
 use pg_shared::event_of;
 use pg_status::print_status;
-use pg_wire::{PmuId, Refusal};
+use pg_wire::{PmuId, Refusal, SubId};
 use std::alloc::Global;
 use std::io::{BufRead, ErrorKind, Write};
 use std::rt::Clock;
@@ -42,6 +44,26 @@ pub trait ServiceCommands {
         gate: &mut MeteredGate<G>,
         steer: Steer,
     ) -> Result<(), NotPrinted>;
+
+    /// Answers what a subscriber has, as a setup file says it.
+    ///
+    /// # Errors
+    ///
+    /// Those of `print_refusal` where an answer can't be printed.
+    fn show<W: Write, R: Wait + Clock, G: Gate>(
+        &mut self,
+        rt: &R,
+        console: &mut Console<'_, W>,
+        gate: &mut MeteredGate<G>,
+        sub: SubId,
+    ) -> Result<(), NotPrinted>;
+
+    /// Answers which version of the program runs.
+    ///
+    /// # Errors
+    ///
+    /// Those of `print_refusal` where an answer can't be printed.
+    fn version<W: Write>(&mut self, console: &mut Console<'_, W>) -> Result<(), NotPrinted>;
 }
 
 /// Nothing but edits can be asked for: other lines are `BadLine`.
@@ -69,6 +91,22 @@ impl ServiceCommands for NoServiceCommands {
         print_refusal(console.out_mut(), "refused", Refusal::BadLine)?;
         Ok(())
     }
+
+    fn show<W: Write, R: Wait + Clock, G: Gate>(
+        &mut self,
+        _rt: &R,
+        console: &mut Console<'_, W>,
+        _gate: &mut MeteredGate<G>,
+        _sub: SubId,
+    ) -> Result<(), NotPrinted> {
+        print_refusal(console.out_mut(), "refused", Refusal::BadLine)?;
+        Ok(())
+    }
+
+    fn version<W: Write>(&mut self, console: &mut Console<'_, W>) -> Result<(), NotPrinted> {
+        print_refusal(console.out_mut(), "refused", Refusal::BadLine)?;
+        Ok(())
+    }
 }
 
 /// What a line asks for.
@@ -80,6 +118,8 @@ enum Request {
     Steer(Steer),
     /// How the service stands.
     Status,
+    /// What it has.
+    Ask(Question),
     /// The setup file is to be read again.
     Reload,
     /// All workers are to end.
@@ -142,6 +182,7 @@ impl<'a, W: Write> Console<'a, W> {
             Ok(Request::Edit) => self.edit(rt, gate, line)?,
             Ok(Request::Steer(steer)) => steering.steer(rt, self, gate, steer)?,
             Ok(Request::Status) => self.status(rt, gate)?,
+            Ok(Request::Ask(question)) => self.ask(rt, gate, question, steering)?,
             Ok(Request::Reload) => steering.reload(rt, self, gate)?,
             Ok(Request::Quit) => return Ok(true),
             Err(refusal) => print_refusal(&mut self.out, "refused", refusal)?,
@@ -180,6 +221,21 @@ impl<'a, W: Write> Console<'a, W> {
         Ok(())
     }
 
+    /// Answers what the service has.
+    fn ask<R: Wait + Clock, G: Gate, S: ServiceCommands>(
+        &mut self,
+        rt: &R,
+        gate: &mut MeteredGate<G>,
+        question: Question,
+        steering: &mut S,
+    ) -> Result<(), NotPrinted> {
+        match question {
+            Question::Version => steering.version(self),
+            Question::Show(sub) => steering.show(rt, self, gate, sub),
+            Question::Advise => print_advice(&mut self.out, rt, self.alloc, &self.service),
+        }
+    }
+
     /// Whether a PMU of this source is registered.
     pub fn has_source<R: Wait>(&self, rt: &R, source: PmuId) -> bool {
         let directory = self.service.directory.lock(rt);
@@ -193,16 +249,40 @@ impl<'a, W: Write> Console<'a, W> {
         gate: &mut MeteredGate<G>,
         edit: Edit,
     ) -> Reply {
-        let change = Change::of(&edit);
         let asked = Asked::of(&edit);
+        let reply = match edit.try_clone(self.alloc) {
+            Ok(copy) => self.post_and_note(rt, gate, edit, copy),
+            Err(_) => Reply::Refused(Refusal::NoMemory),
+        };
+        self.log_edit(rt, asked, &reply);
+        reply
+    }
+
+    /// Posts an edit, of which `copy` is kept where it is done. The directory is held meanwhile, so that edits are kept in the order in which the
+    /// gateway does them.
+    fn post_and_note<R: Wait, G: Gate>(
+        &mut self,
+        rt: &R,
+        gate: &mut MeteredGate<G>,
+        edit: Edit,
+        copy: Edit,
+    ) -> Reply {
+        let change = Change::of(&edit);
+        let matters = change.is_of_ring();
+        let service = self.service;
+        let mut directory = service.directory.lock(rt);
+        if directory.in_force.reserve().is_err() {
+            return Reply::Refused(Refusal::NoMemory);
+        }
         // It is counted before it is posted, so that no worker that hands out frames by it is unaware of it; and behind that, so that a worker
         // that asked about streams meanwhile asks again.
-        let changes = self.service.handles.collector.layout_changes();
+        let changes = service.handles.collector.layout_changes();
         changes.begin();
         let reply = gate.post(event_of(edit));
         changes.end();
-        self.follow(rt, gate, change, &reply);
-        self.log_edit(rt, asked, &reply);
+        let noted = note(&mut directory, change, copy, &reply);
+        drop(directory);
+        self.follow(rt, gate, matters, noted);
         reply
     }
 
@@ -214,18 +294,15 @@ impl<'a, W: Write> Console<'a, W> {
         }
     }
 
-    /// Gives workers what an edit that was answered so asks of them, and wakes those that have frames to hand out by it.
+    /// Gives workers what an edit that was noted so asks of them, and wakes those that have frames to hand out by it.
+    /// `matters` says whether it concerns rings or streams.
     fn follow<R: Wait, G: Gate>(
         &mut self,
         rt: &R,
         gate: &mut MeteredGate<G>,
-        change: Change,
-        reply: &Reply,
+        matters: bool,
+        noted: Result<FollowUp, Refusal>,
     ) {
-        let matters = change.is_of_ring();
-        let mut directory = self.service.directory.lock(rt);
-        let noted = directory.note(change, reply);
-        drop(directory);
         match noted {
             Ok(after) => self.service.tell(rt, after),
             Err(_) => self.service.note(LogEvent::MailFault),
@@ -271,6 +348,19 @@ impl<'a, W: Write> Console<'a, W> {
         self.out.flush()?;
         Ok(LineOutcome::Answered)
     }
+}
+
+/// Keeps an edit that was answered so where it was done, and returns what workers have to do.
+fn note(
+    directory: &mut Directory,
+    change: Change,
+    edit: Edit,
+    reply: &Reply,
+) -> Result<FollowUp, Refusal> {
+    if let Reply::Done { .. } = reply {
+        directory.in_force.note(edit)?;
+    }
+    directory.note(change, reply)
 }
 
 /// Why an edit was refused that was answered so, if it was.
@@ -333,8 +423,11 @@ fn asked_by(alloc: Global, line: &[u8]) -> Result<Request, Refusal> {
         "reload" => return Ok(Request::Reload),
         _ => {}
     }
-    match parse_steer(alloc, text)? {
-        Some(steer) => Ok(Request::Steer(steer)),
+    if let Some(steer) = parse_steer(alloc, text)? {
+        return Ok(Request::Steer(steer));
+    }
+    match parse_question(alloc, text)? {
+        Some(question) => Ok(Request::Ask(question)),
         None => Ok(Request::Edit),
     }
 }

@@ -3,9 +3,11 @@
 #![tactic(auto)]
 
 mod admin_listeners;
+mod advise;
 mod backend;
 mod builder;
 mod console;
+mod delay_watch;
 mod mailboxes;
 mod reloads;
 mod runtime;
@@ -19,6 +21,7 @@ pub use admin_listeners::AdminListeners;
 pub use backend::ControlBackend;
 pub use builder::{ServiceBuilder, ServicePlan};
 pub use console::{Console, NoServiceCommands, ServiceCommands, answer_lines};
+pub use delay_watch::DelayWatch;
 pub use mailboxes::{Mailboxes, Pollers, WorkerCounts};
 pub use reloads::Reloads;
 pub use runtime::Runtime;

@@ -93,12 +93,13 @@ impl Mailboxes {
         Ok((mailboxes, pollers))
     }
 
-    /// The workers of these mailboxes, as others of the service reach them. `name` is the gateway's, and `stop` is set where all workers are
-    /// to end.
+    /// The workers of these mailboxes, as others of the service reach them. `name` is the gateway's, `tick_ms` the milliseconds from tick to
+    /// tick, and `stop` is set where all workers are to end.
     pub fn handle<'a>(
         &'a self,
         state: &'a SharedState,
         name: &'a str,
+        tick_ms: u16,
         stop: &'a AtomicBool,
     ) -> ServiceHandle<'a> {
         ServiceHandle {
@@ -110,6 +111,7 @@ impl Mailboxes {
                 collector: &state.collector,
             },
             name,
+            tick_ms,
             directory: &state.directory,
             admin: self.admin.as_ref(),
             reloads: self.reloads.as_ref(),

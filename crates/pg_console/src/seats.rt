@@ -24,7 +24,7 @@ pub struct SetUp {
     pub shared: Shared,
     /// The one seat at it.
     pub seat: Seat,
-    /// The PMUs and subscribers that it has.
+    /// The PMUs and subscribers that it has, and the edits by which it has them.
     pub directory: Directory,
 }
 
@@ -40,6 +40,7 @@ pub fn set_up<R: Wait>(rt: &R, alloc: Global, edits: Vec<Edit>) -> Result<SetUp,
 {
     let (shared, seat) = Shared::new(alloc, Gateway::new(alloc)?)?;
     let mut directory = Directory::new(alloc)?;
+    directory.in_force.note_all(alloc, &edits)?;
     let seat = post_all::<R, Brand>(rt, &shared, seat, edits, &mut directory)?;
     Ok(SetUp {
         shared,

@@ -2,12 +2,13 @@
 
 use crate::reloads::Reloads;
 use mio::net::TcpListener as PortListener;
+use pg_gateway::Edit;
 use pg_log::{Detail, Entry, LogEvent, Subject};
 use pg_service::{
     ConnectionRules, Dial, Directory, FollowUp, Mailbox, PortOrder, Reports, SourceOrder,
     WorkerHandles,
 };
-use pg_wire::{PmuId, Refusal, StreamId, SubId};
+use pg_wire::{PmuId, PmuKey, Refusal, StreamId, SubId};
 use std::alloc::Global;
 use std::net::SocketAddr;
 use std::rt::Clock;
@@ -23,6 +24,8 @@ pub struct ServiceHandle<'a> {
     pub handles: WorkerHandles<'a>,
     /// The gateway's name.
     pub name: &'a str,
+    /// Milliseconds from tick to tick.
+    pub tick_ms: u16,
     /// The PMUs and subscribers that are registered, and which worker has which source or subscriber.
     pub directory: &'a Mutex<Directory>,
     /// The mailbox of the admin worker, which serves the control socket and the page, if there is one.
@@ -109,7 +112,7 @@ impl ServiceHandle<'_> {
 
     /// What the workers report of their sources and ports. Once all are to end nobody is asked, as none need answer then: each line that
     /// lies there yet would wait a second for it.
-    pub(crate) fn ask<R: Wait + Clock>(&self, rt: &R, alloc: Global) -> Reports {
+    pub fn ask<R: Wait + Clock>(&self, rt: &R, alloc: Global) -> Reports {
         let WorkerHandles {
             ports,
             journal,
@@ -120,6 +123,49 @@ impl ServiceHandle<'_> {
             return collector.ask(rt, alloc, &[], &[], journal);
         }
         collector.ask(rt, alloc, self.sources, ports, journal)
+    }
+
+    /// The edits by which a subscriber has what it has, as far as they were done by now: how it was added, its grants and its streams. None
+    /// where it is not there.
+    ///
+    /// # Errors
+    ///
+    /// `NoMemory`.
+    pub fn edits_of<R: Wait>(
+        &self,
+        rt: &R,
+        alloc: Global,
+        sub: SubId,
+    ) -> Result<Vec<Edit>, Refusal> {
+        let directory = self.directory.lock(rt);
+        directory.in_force.of(alloc, sub)
+    }
+
+    /// The same of each subscriber, in the order of their numbers.
+    pub(crate) fn edits_by_subscriber<R: Wait>(
+        &self,
+        rt: &R,
+        alloc: Global,
+    ) -> Result<Vec<Vec<Edit>>, Refusal> {
+        let mut subs = Vec::new(alloc);
+        let mut found = Vec::new(alloc);
+        let directory = self.directory.lock(rt);
+        subs.extend_from_slice(directory.subscribers())?;
+        subs.sort_unstable_by_key(|it| it.get());
+        for sub in subs {
+            found.push(directory.in_force.of(alloc, sub)?)?;
+        }
+        Ok(found)
+    }
+
+    /// The registered PMUs, in no order.
+    ///
+    /// # Errors
+    ///
+    /// `NoMemory`.
+    pub fn registered<R: Wait>(&self, rt: &R, alloc: Global) -> Result<Vec<PmuKey>, Refusal> {
+        let directory = self.directory.lock(rt);
+        Ok(directory.pmus().to_vec(alloc)?)
     }
 
     /// The source is called no longer.

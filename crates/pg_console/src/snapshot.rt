@@ -31,6 +31,7 @@ pub(crate) fn seen_by<R: Wait + Clock, G: Gate>(
         sources: Vec::new(alloc),
         subscribers: Vec::new(alloc),
         streams: Vec::new(alloc),
+        unanswered: reports.unanswered,
     };
     let (pmus, subs) = registered_at(rt, alloc, service)?;
     let Reports {
@@ -129,6 +130,7 @@ fn source_state(
         last,
         quality,
         pmus,
+        ..
     } = report;
     let ignored = ignored_in(alloc, &counts, far)?;
     let mut frames = counts.taken;

@@ -74,7 +74,7 @@ fn run_all<R: Runtime, N: Named + Send>(
     let (mailboxes, pollers) = Mailboxes::new(rt, alloc, WORKERS)?;
     let shared_state = SharedState::new(alloc, directory)?;
     let stop = AtomicBool::new(false);
-    let service = mailboxes.handle(&shared_state, "demo", &stop);
+    let service = mailboxes.handle(&shared_state, "demo", TICK, &stop);
     let state = DemoState::new(service, ExpectedStreams::new(alloc));
     serve_demo::<R, N>(rt, alloc, shared, seat, options, &state, pollers)?;
     let mut outcome = state.outcome.lock(rt);
@@ -85,7 +85,7 @@ fn run_all<R: Runtime, N: Named + Send>(
 }
 
 /// From tick to tick, in milliseconds.
-const TICK: u64 = 10;
+const TICK: u16 = 10;
 
 /// Serves both sources and both subscribers, until the demo ends.
 fn serve_demo<'a, R: Runtime, N: Named + Send>(
@@ -120,7 +120,7 @@ fn serve_demo<'a, R: Runtime, N: Named + Send>(
     let plan = ServicePlan {
         dials,
         ports,
-        tick: Duration::from_millis(TICK),
+        tick: Duration::from_millis(u64::from(TICK)),
         listeners: AdminListeners {
             lines: None,
             page: Some(page),

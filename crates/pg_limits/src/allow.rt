@@ -4,6 +4,7 @@ ghost use Rattle.std.specs.List.{list_any};
 ghost use Rattle.std.specs.Net.Addr.{ipv4_bits};
 ghost use Rattle.pg_limits.specs.Hosts.{is_of, is_allowed};
 
+use std::fmt;
 use std::marker::Model;
 use std::net::Ipv4Addr;
 
@@ -45,6 +46,13 @@ impl Network {
     {
         let least = 1u64 << (32 - self.bits);
         u64::from(host.to_bits()) / least == u64::from(self.address) / least
+    }
+}
+
+impl fmt::Display for Network {
+    fn fmt<W: fmt::Write>(&self, f: &mut fmt::Formatter<W>) -> fmt::Result {
+        let address = Ipv4Addr::from_bits(self.address);
+        write!(f, "{address}/{}", self.bits)
     }
 }
 

@@ -7,5 +7,6 @@ pub mod Edits
 pub mod Printing
 pub mod Addresses
 pub mod Steers
+pub mod Questions
 -- how clap reads a line: only private contracts and proofs use these
 pub mod Clap

@@ -8,6 +8,7 @@ mod answers;
 mod define;
 mod edits;
 mod line;
+mod question;
 mod steer;
 mod verb;
 pub mod words;
@@ -16,4 +17,5 @@ pub use answers::{NotPrinted, print_counters, print_hex, print_refusal, print_re
 pub use define::Numbers;
 pub use edits::{is_comment, read_edit, without_end};
 pub use line::{parse_line, words_of};
+pub use question::{Question, parse_question};
 pub use steer::{Steer, parse_steer};

@@ -3,7 +3,7 @@
 use crate::asked::Asked;
 use crate::change::ConfigChange;
 use log::{Level, LevelFilter};
-use pg_wire::{PmuId, Refusal, SubId};
+use pg_wire::{PmuId, Refusal, StreamId, SubId};
 use std::alloc::Global;
 use std::io::ErrorKind;
 use std::net::SocketAddr;
@@ -138,13 +138,17 @@ pub enum LogEvent {
     Incomplete = 59,
     /// No longer are too many missing.
     Complete = 60,
+    /// Data of a source come later than the `wait` of a stream allows.
+    Late = 61,
+    /// They come in time again.
+    Timely = 62,
 }
 
 /// The PMUs of a configuration at most.
 pub const MOST_PMUS: usize = 16;
 
 /// How many kinds of notices there are.
-const KINDS: usize = 61;
+const KINDS: usize = 63;
 
 impl LogEvent {
     /// The kinds that are counted without an entry; the log has their counts.
@@ -199,6 +203,7 @@ impl LogEvent {
             | LogEvent::OutOfSync
             | LogEvent::DataError
             | LogEvent::Incomplete
+            | LogEvent::Late
             | LogEvent::Warned => Level::Warn,
             LogEvent::Called
             | LogEvent::Made
@@ -219,6 +224,7 @@ impl LogEvent {
             | LogEvent::InSync
             | LogEvent::DataGood
             | LogEvent::Complete
+            | LogEvent::Timely
             | LogEvent::Quit
             | LogEvent::Reloaded => Level::Info,
         }
@@ -265,6 +271,17 @@ pub enum Detail {
     Pmu(u16),
     /// So many tenths of a per cent came.
     Came(u16),
+    /// For this stream of this subscriber, whose `wait` is so many milliseconds, data come so many milliseconds after the first member's.
+    Behind {
+        /// The subscriber.
+        sub: SubId,
+        /// The stream.
+        stream: StreamId,
+        /// By how much they come later.
+        behind: u64,
+        /// The `wait`.
+        wait: u64,
+    },
     /// Of this stream, which is named first.
     OfStream(u16),
     /// What was asked for, and done.
@@ -333,8 +350,11 @@ impl Detail {
         }
     }
 
-    /// Whether both are addresses, or both are times, or both how many frames came.
+    /// Whether both are addresses, or both are times, or both how many frames came, or both how late data come for one stream.
     fn is_of_kind(&self, other: &Detail) -> bool {
+        if let (Some(one), Some(other)) = (self.late_stream(), other.late_stream()) {
+            return one == other;
+        }
         matches!(
             (self, other),
             (Detail::At(_), Detail::At(_))
@@ -342,6 +362,14 @@ impl Detail {
                 | (Detail::Came(_), Detail::Came(_))
                 | (Detail::Between(..), Detail::Between(..))
         )
+    }
+
+    /// For which stream data come late, where this says it.
+    fn late_stream(&self) -> Option<(SubId, StreamId)> {
+        match self {
+            Detail::Behind { sub, stream, .. } => Some((*sub, *stream)),
+            _ => None,
+        }
     }
 }
 

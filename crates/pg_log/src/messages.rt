@@ -124,6 +124,8 @@ fn said(event: LogEvent) -> &'static str {
         LogEvent::DataGood => "no data error any more: PMU",
         LogEvent::Incomplete => "data frames are missing:",
         LogEvent::Complete => "data frames come again:",
+        LogEvent::Late => "data come later than `wait` allows:",
+        LogEvent::Timely => "data come within `wait` again:",
     }
 }
 
@@ -175,6 +177,18 @@ fn write_detail<W: fmt::Write>(
         Detail::Config(rate, pmus) => write_config(*rate, pmus, f),
         Detail::Stream(number) | Detail::Pmu(number) => write!(f, " {number}"),
         Detail::Came(tenths) => write!(f, " {}.{}%", tenths / 10, tenths % 10),
+        Detail::Behind {
+            sub,
+            stream,
+            behind,
+            wait,
+        } => {
+            let (sub, stream) = (sub.get(), stream.get());
+            write!(
+                f,
+                " subscriber {sub}, stream {stream}: 99% within {behind} ms of the first member, `wait` is {wait} ms"
+            )
+        }
         Detail::Off(millis) => write_off(*millis, f),
         Detail::Differs(change) => write!(f, " {change}"),
         Detail::Between(refused, standing) => {

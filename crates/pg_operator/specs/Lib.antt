@@ -2,3 +2,4 @@
 pub mod Addresses
 pub mod Setups
 pub mod Ranges
+pub mod Made

@@ -132,7 +132,7 @@ fn add_streams(
 }
 
 /// A copy of a definition.
-fn copied(alloc: Global, definition: &Definition) -> Result<Definition, Refusal>
+pub(crate) fn copied(alloc: Global, definition: &Definition) -> Result<Definition, Refusal>
     ensures ok { IfOk result (λ copy. copy ≡ definition.now) }
     ensures err { IfErr result (λ r. r ≡ Refusal.NoMemory) }
 {

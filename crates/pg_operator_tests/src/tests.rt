@@ -4,4 +4,5 @@ mod asserts;
 mod lines;
 mod reloads;
 mod setups;
+mod shown;
 mod told;

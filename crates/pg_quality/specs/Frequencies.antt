@@ -25,7 +25,7 @@ abbrev pub no_row : FrequencyRow
 no_row = record { second = 0; band = no_band }
 
 abbrev pub no_frequency : Frequency
-no_frequency = record { freq = pos 0; dfreq = pos 0; second = 0; current = no_band; rows = replicate 300 no_row }
+no_frequency = record { freq = negsuc 32767; dfreq = negsuc 32767; second = 0; current = no_band; rows = replicate 300 no_row }
 
 -- another second begins: the band of the one before is filed at its number mod 300
 abbrev pub rolled : Frequency → ℕ → Frequency

@@ -7,7 +7,7 @@ use crate::span::is_same;
 /// How many seconds are kept: five minutes.
 const ROWS: u64 = 300;
 
-/// FREQ where there is no value.
+/// FREQ or DFREQ where there is no value.
 const NO_VALUE: i16 = i16::MIN;
 
 /// The least and the greatest FREQ of some time, in millihertz from the nominal frequency.
@@ -78,9 +78,9 @@ pub struct FrequencyRow {
 /// band.
 #[derive(Clone, Copy)]
 pub struct Frequency {
-    /// FREQ of the last block: millihertz from the nominal frequency.
+    /// FREQ of the last block: millihertz from the nominal frequency; -32,768 before the first.
     pub freq: i16,
-    /// DFREQ of the last block: hundredths of a hertz per second.
+    /// DFREQ of the last block: hundredths of a hertz per second; -32,768 before the first.
     pub dfreq: i16,
     /// The second to which this machine's clock has come, since 1970-01-01 00:00 UTC.
     pub second: u64,
@@ -100,8 +100,8 @@ impl Frequency {
             band: Band::none(),
         };
         Frequency {
-            freq: 0,
-            dfreq: 0,
+            freq: NO_VALUE,
+            dfreq: NO_VALUE,
             second: 0,
             current: Band::none(),
             rows: [row; 300],

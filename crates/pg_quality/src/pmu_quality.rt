@@ -37,9 +37,9 @@ pub struct PmuSummary {
     pub fnom: u16,
     /// STAT of its blocks.
     pub stat: StatCounts,
-    /// FREQ of its last block: millihertz from the nominal frequency.
+    /// FREQ of its last block: millihertz from the nominal frequency; -32,768 where it has none.
     pub freq: i16,
-    /// DFREQ of its last block: hundredths of a hertz per second.
+    /// DFREQ of its last block: hundredths of a hertz per second; -32,768 where it has none.
     pub dfreq: i16,
 }
 

@@ -8,6 +8,7 @@ ghost use Rattle.pg_quality.specs.Sources.{announced, came_to, connected, forgot
 
 use crate::block_quality::BlockQuality;
 use crate::completeness::Completeness;
+use crate::delay::Delays;
 use crate::frame_quality::FrameQuality;
 use crate::frame_time::FrameTime;
 use crate::pmu_quality::PmuQuality;
@@ -133,6 +134,13 @@ impl SourceQuality {
         ensures { result ≡ self.now.frames.completeness }
     {
         self.frames.completeness()
+    }
+
+    /// The delays of its data frames.
+    pub fn delays(&self) -> &Delays
+        ensures { result.now ≡ self.now.frames.delays }
+    {
+        self.frames.delays()
     }
 
     /// How good its data frames are in this second of this machine's clock.

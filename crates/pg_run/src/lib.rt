@@ -14,6 +14,7 @@ mod run_context;
 mod running;
 mod served;
 mod serving;
+mod showing;
 mod steering;
 mod stoppable_stdin;
 mod workers;

@@ -7,12 +7,12 @@ use crate::reload_worker::ReloadWorker;
 use crate::run_context::RunContext;
 use crate::running::logger_of;
 use crate::workers::Worker;
-use pg_console::{Runtime, ServiceBuilder};
+use pg_console::{DelayWatch, Runtime, ServiceBuilder};
 use pg_service::Poller;
 use pg_shared::{Named, Seat};
 use pg_wire::Refusal;
 
-/// The workers that write the log, do reloads and answer an operator's lines. The one that waits for lines is the last, so that where a thread
+/// The workers that write the log, watch delays, do reloads and answer an operator's lines. The one that waits for lines is the last, so that where a thread
 /// can't be started it is not there to wait for.
 pub(crate) fn own_workers<'a, R: Runtime, N: Named>(
     builder: &ServiceBuilder<'a, R>,
@@ -36,6 +36,8 @@ pub(crate) fn own_workers<'a, R: Runtime, N: Named>(
         builder.start,
     )?;
     workers.push(Worker::Log(log))?;
+    let delays = DelayWatch::new(builder.rt, builder.alloc, builder.service);
+    workers.push(Worker::Delays(delays))?;
     let (seat, reload_worker) = reload_worker::<R, N>(builder, context, seat, reloads);
     if let Some(worker) = reload_worker {
         workers.push(Worker::Reloads(worker))?;

@@ -27,12 +27,13 @@ const TRIES: u32 = 100;
 
 const PAUSE_MS: u64 = 10;
 
-/// The setup by which the gateway runs, and the file that it stands in.
+/// The setup by which the gateway runs, the file that it stands in, and the program's version.
 #[derive(Drop)]
 pub struct SetupManager<'a, R: Net + Clock> {
     rt: &'a R,
     files: &'a HostRuntime,
     file: &'a str,
+    pub(crate) version: &'a str,
     // It is held while it is read or replaced, and not while a reload waits for a port.
     pub(crate) setup: &'a Mutex<Setup>,
     // It is held while a reload does what changed.
@@ -40,11 +41,12 @@ pub struct SetupManager<'a, R: Net + Clock> {
 }
 
 impl<'a, R: Net + Clock> SetupManager<'a, R> {
-    /// The gateway runs by this setup of this file. A reload that changes it holds `turn`, so that one is done after another.
+    /// The program of this version runs by this setup of this file. A reload that changes it holds `turn`, so that one is done after another.
     pub fn new(
         rt: &'a R,
         files: &'a HostRuntime,
         file: &'a str,
+        version: &'a str,
         setup: &'a Mutex<Setup>,
         turn: &'a Mutex<()>,
     ) -> SetupManager<'a, R> {
@@ -52,6 +54,7 @@ impl<'a, R: Net + Clock> SetupManager<'a, R> {
             rt,
             files,
             file,
+            version,
             setup,
             turn,
         }

@@ -25,6 +25,13 @@ pub(crate) struct RunContext<'a> {
 impl<'a> RunContext<'a> {
     /// For the answers to lines.
     pub(crate) fn in_force<R: Net + Clock>(self, rt: &'a R) -> SetupManager<'a, R> {
-        SetupManager::new(rt, self.files, self.start.file, self.setup, self.turn)
+        SetupManager::new(
+            rt,
+            self.files,
+            self.start.file,
+            self.start.version,
+            self.setup,
+            self.turn,
+        )
     }
 }

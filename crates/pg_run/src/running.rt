@@ -44,7 +44,7 @@ use std::{fs, io};
 pub struct Start<'a> {
     /// The setup file.
     pub file: &'a str,
-    /// The program's version, for the log.
+    /// The program's version, for the log and the line `version`.
     pub version: &'static str,
     /// Whether the system's journal reads standard error, so that each line of the log begins with its priority.
     pub has_priority: bool,
@@ -190,6 +190,7 @@ fn plan_of<'a, R: Net + Clock>(
         service,
         ingest: usize::from(setup.ingest),
         serve: usize::from(setup.serve),
+        tick_ms: setup.tick_ms,
         now,
     })
 }

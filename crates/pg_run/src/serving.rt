@@ -26,6 +26,8 @@ pub(crate) struct Plan<'a> {
     pub(crate) service: ServicePlan<'a>,
     pub(crate) ingest: usize,
     pub(crate) serve: usize,
+    // Milliseconds from tick to tick.
+    pub(crate) tick_ms: u16,
     pub(crate) now: Instant,
 }
 
@@ -73,7 +75,7 @@ fn serve_with<'a, R: Runtime, N: Named + Send>(
         rt,
         alloc,
         shared,
-        service: mailboxes.handle(state, context.name, context.stop),
+        service: mailboxes.handle(state, context.name, plan.tick_ms, context.stop),
         start: plan.now,
     };
     let reloads = pollers.reloads.take();

@@ -121,4 +121,23 @@ impl<R: Net + Clock> ServiceCommands for SetupManager<'_, R> {
         }
         Ok(())
     }
+
+    fn show<W: Write, Q: Wait + Clock, G: Gate>(
+        &mut self,
+        rt: &Q,
+        console: &mut Console<'_, W>,
+        gate: &mut MeteredGate<G>,
+        sub: SubId,
+    ) -> Result<(), NotPrinted> {
+        match self.found(rt, console.alloc(), &console.service(), gate, sub) {
+            Ok(found) => found.print(console.out_mut())?,
+            Err(refusal) => print_refusal(console.out_mut(), "refused", refusal)?,
+        }
+        Ok(())
+    }
+
+    fn version<W: Write>(&mut self, console: &mut Console<'_, W>) -> Result<(), NotPrinted> {
+        writeln!(console.out_mut(), "pdcgw {}", self.version)?;
+        Ok(())
+    }
 }

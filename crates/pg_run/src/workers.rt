@@ -4,7 +4,7 @@ ghost use Rattle.pg_run.specs.Kinds.{Gives};
 
 use crate::operator::Operator;
 use crate::reload_worker::ReloadWorker;
-use pg_console::{HoldsSeat, Runtime};
+use pg_console::{DelayWatch, HoldsSeat, Runtime};
 use pg_service::Logger;
 use pg_shared::{Named, Seat, Work};
 
@@ -14,6 +14,7 @@ pub enum Worker<'a, R: Runtime, N: Named> {
     Lines(Operator<'a, R, N>),
     Reloads(ReloadWorker<'a, R, N>),
     Log(Logger<'a, R>),
+    Delays(DelayWatch<'a, R>),
 }
 
 impl<R: Runtime, N: Named> Work for Worker<'_, R, N> {
@@ -22,6 +23,7 @@ impl<R: Runtime, N: Named> Work for Worker<'_, R, N> {
             Worker::Lines(worker) => worker.turn(),
             Worker::Reloads(worker) => worker.turn(),
             Worker::Log(worker) => worker.turn(),
+            Worker::Delays(worker) => worker.turn(),
         }
     }
 }
@@ -38,6 +40,7 @@ impl<R: Runtime, N: Named> HoldsSeat<N> for Worker<'_, R, N> {
                 worker.finish();
                 None
             }
+            Worker::Delays(_) => None,
         }
     }
 }

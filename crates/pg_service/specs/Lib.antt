@@ -2,3 +2,5 @@
 pub mod Accepting
 pub mod Posts
 pub mod Setting
+pub mod Lasting
+pub mod Advising

@@ -1,6 +1,7 @@
 //! Which sources have PMUs, and what workers have to do after an edit.
 
 use crate::assignment::Assignment;
+use crate::edits_in_force::EditsInForce;
 use pg_gateway::{Edit, Reply};
 use pg_limits::least_room;
 use pg_wire::{PmuId, PmuKey, Refusal, SubId};
@@ -75,6 +76,8 @@ pub struct Directory {
     pub callers: Assignment,
     /// Which workers serve which subscribers.
     pub servers: Assignment,
+    /// The edits by which the gateway is what it is.
+    pub in_force: EditsInForce,
     pmus: Vec<PmuKey>,
     subscribers: Vec<SubId>,
     // The frames that the ring of each holds, and its streams, in the same order.
@@ -91,6 +94,7 @@ impl Directory {
         Ok(Directory {
             callers: Assignment::new(alloc),
             servers: Assignment::new(alloc),
+            in_force: EditsInForce::new(alloc),
             pmus: Vec::with_capacity(alloc, MOST)?,
             subscribers: Vec::with_capacity(alloc, MOST_SUBS)?,
             rings: Vec::with_capacity(alloc, MOST_SUBS)?,

@@ -4,10 +4,12 @@
 #![tactic(auto)]
 
 mod acceptor;
+mod advice;
 mod assignment;
 mod connections;
 mod directory;
 mod edits;
+mod edits_in_force;
 mod logger;
 mod mail;
 mod metered_gate;
@@ -22,10 +24,12 @@ mod targets;
 mod worker_handles;
 
 pub use acceptor::{ACCEPTED, AcceptTimer, Acceptor};
+pub use advice::{Advice, MemberDelays, StreamPace, behind_of, is_late_after};
 pub use assignment::Assignment;
 pub use connections::{Connections, ConnectionsWorker};
 pub use directory::{Change, Directory, FollowUp};
 pub use edits::post_edits;
+pub use edits_in_force::EditsInForce;
 pub use logger::Logger;
 pub use mail::{Mailbox, PortOrder, SourceOrder};
 pub use metered_gate::{ClockCheck, GateStats, Guards, MeteredGate};

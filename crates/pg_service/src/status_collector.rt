@@ -5,7 +5,7 @@ use crate::mail::{Mailbox, PortOrder, SourceOrder};
 use pg_audit::PmuStats;
 use pg_limits::{Clocks, LayoutChanges};
 use pg_log::{Journal, LogEvent};
-use pg_quality::{FrameSummary, PmuSummary};
+use pg_quality::{FrameSummary, Histogram as DelayHistogram, PmuSummary};
 use pg_status::Histogram;
 use pg_wire::{PmuId, SubId};
 use std::alloc::Global;
@@ -52,6 +52,8 @@ pub struct SourceReport {
     pub last: Option<Duration>,
     /// How good its data frames are.
     pub quality: FrameSummary,
+    /// How long its data frames took in the last 60 seconds.
+    pub delays: DelayHistogram,
     /// How good the blocks are of the PMUs of its last configuration, in its order.
     pub pmus: Vec<PmuSummary>,
 }
@@ -63,6 +65,8 @@ pub struct PortReport {
     pub sub: SubId,
     /// Where it listens, as far as the system says.
     pub address: Option<SocketAddr>,
+    /// Where it is to listen once it can be bound, where it can't be now.
+    pub unbound: Option<SocketAddr>,
     /// From where the subscriber is connected, if it is.
     pub peer: Option<SocketAddr>,
     /// Since when it is connected, or not.
@@ -82,6 +86,8 @@ pub struct Reports {
     pub ports: Vec<PortReport>,
     /// How old the data frames were that their ports handed out, from the start on.
     pub ages: Histogram,
+    /// How many workers did not answer in time.
+    pub unanswered: usize,
     // Which asking is answered, and by how many workers so far.
     asking: u64,
     answers: usize,
@@ -94,6 +100,7 @@ impl Reports {
             sources: Vec::new(alloc),
             ports: Vec::new(alloc),
             ages: Histogram::new(),
+            unanswered: 0,
             asking,
             answers: 0,
         }
@@ -214,7 +221,8 @@ impl StatusCollector {
         if !self.waits_for(rt, workers) {
             journal.note(LogEvent::Unanswered);
         }
-        let reports = self.replace(rt, Reports::new(alloc, 0));
+        let mut reports = self.replace(rt, Reports::new(alloc, 0));
+        reports.unanswered = workers.saturating_sub(reports.answers);
         drop(asking);
         reports
     }

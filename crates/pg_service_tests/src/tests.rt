@@ -1,5 +1,6 @@
 //! The tests, by what they test.
 
+mod advice;
 mod asserts;
 mod endpoints;
 mod errors;

@@ -135,6 +135,7 @@ impl SourceEntry {
             far: self.far,
             last,
             quality: quality.summary(second),
+            delays: quality.delays().last_minute(second),
             pmus: summaries_of(alloc, quality.pmus())?,
         })
     }

@@ -2,5 +2,6 @@
 pub mod Ages
 pub mod Seconds
 pub mod Requests
+pub mod Healths
 pub mod Lines
 pub mod Stations

@@ -1,5 +1,6 @@
-//! The bytes of what is shown.
+//! What is answered to a request.
 
+use crate::health::{Health, health_of, health_text};
 use crate::histogram::Histogram;
 use crate::history::History;
 use crate::json::state_json;
@@ -9,7 +10,16 @@ use crate::request::Shown;
 use crate::snapshot::Snapshot;
 use std::alloc::{AllocError, Global};
 
-/// What is answered where this is asked for: the page as it is, the metrics, or the state and history as JSON.
+/// What is answered to a request.
+#[derive(Drop)]
+pub struct Contents {
+    /// Whether the gateway does its work, where that is asked for; else true.
+    pub is_well: bool,
+    /// The bytes.
+    pub body: Vec<u8>,
+}
+
+/// What is answered where this is asked for: the page as it is, the metrics, the state and history as JSON, or whether the gateway does its work.
 ///
 /// # Errors
 ///
@@ -20,20 +30,31 @@ pub fn contents_of(
     snapshot: &Snapshot,
     history: &History,
     ages: &Histogram,
-) -> Result<Vec<u8>, AllocError> {
-    match shown {
-        Shown::Page => Vec::from_slice(alloc, page_text().as_bytes()),
+) -> Result<Contents, AllocError> {
+    let mut is_well = true;
+    let body = match shown {
+        Shown::Page => Vec::from_slice(alloc, page_text().as_bytes())?,
         Shown::State => {
             let text = state_json(alloc, snapshot, history)?;
-            Vec::from_slice(alloc, text.as_bytes())
+            Vec::from_slice(alloc, text.as_bytes())?
         }
-        Shown::Metrics => {
-            let mut out = Vec::new(alloc);
-            match print_metrics(&mut out, snapshot, ages) {
-                Ok(()) => Ok(out),
-                // A vector takes all bytes that find memory.
-                Err(_) => Err(AllocError),
-            }
+        Shown::Metrics => metrics_of(alloc, snapshot, ages)?,
+        Shown::Health { within } => {
+            let health = health_of(snapshot, within);
+            is_well = health == Health::Well;
+            let text = health_text(alloc, health, within)?;
+            Vec::from_slice(alloc, text.as_bytes())?
         }
+    };
+    Ok(Contents { is_well, body })
+}
+
+/// The metrics as text.
+fn metrics_of(alloc: Global, snapshot: &Snapshot, ages: &Histogram) -> Result<Vec<u8>, AllocError> {
+    let mut out = Vec::new(alloc);
+    match print_metrics(&mut out, snapshot, ages) {
+        Ok(()) => Ok(out),
+        // A vector takes all bytes that find memory.
+        Err(_) => Err(AllocError),
     }
 }

@@ -1,5 +1,6 @@
 //! A request and its answer over one connection.
 
+use crate::contents::Contents;
 use crate::request::{HEAD_BYTES, HttpError, Request, Shown, read_request};
 use crate::write_buffer::{Sending, WriteBuffer};
 use pg_limits::Deadline;
@@ -15,6 +16,9 @@ const TURNS: u32 = 16;
 
 /// The bytes of one read.
 const PIECE: usize = 1024;
+
+/// The status where the gateway does not do its work, or serves no more connections.
+const UNAVAILABLE: &str = "503 Service Unavailable";
 
 /// The media type of an answer in words.
 const PLAIN: &str = "text/plain; charset=utf-8";
@@ -144,16 +148,22 @@ impl HttpExchange {
         }
     }
 
-    /// Takes what was asked for: these bytes are to be shown. Nothing changes where nothing was asked for.
+    /// Takes what was asked for. It is sent with the status 200, or 503 where the gateway does not do its work. Nothing changes where nothing was asked
+    /// for.
     ///
     /// # Errors
     ///
     /// There is no memory: the connection is to be closed.
-    pub fn answer(&mut self, body: &[u8]) -> Result<(), AllocError> {
+    pub fn answer(&mut self, contents: &Contents) -> Result<(), AllocError> {
         let ExchangeState::Asks { shown, is_head } = self.state else {
             return Ok(());
         };
-        self.reply.bytes = reply_with(self.alloc, "200 OK", kind_of(shown), body, is_head)?;
+        let status = if contents.is_well {
+            "200 OK"
+        } else {
+            UNAVAILABLE
+        };
+        self.reply.bytes = reply_with(self.alloc, status, kind_of(shown), &contents.body, is_head)?;
         self.state = ExchangeState::Sends;
         Ok(())
     }
@@ -228,6 +238,7 @@ fn kind_of(shown: Shown) -> &'static str {
         Shown::Page => "text/html; charset=utf-8",
         Shown::State => "application/json",
         Shown::Metrics => "text/plain; version=0.0.4; charset=utf-8",
+        Shown::Health { .. } => PLAIN,
     }
 }
 
@@ -257,8 +268,12 @@ fn refusal(alloc: Global, denial: HttpError, is_head: bool) -> Result<Vec<u8>, A
             let told = "This is not a request of HTTP/1.1.\n";
             reply_with(alloc, "400 Bad Request", PLAIN, told.as_bytes(), is_head)
         }
+        HttpError::Within => {
+            let told = "/health takes ?within=SECONDS, 1 to 86400.\n";
+            reply_with(alloc, "400 Bad Request", PLAIN, told.as_bytes(), is_head)
+        }
         HttpError::NotFound => {
-            let told = "Not found. There are /, /state and /metrics.\n";
+            let told = "Not found. There are /, /state, /metrics and /health.\n";
             reply_with(alloc, "404 Not Found", PLAIN, told.as_bytes(), is_head)
         }
         HttpError::Method => {

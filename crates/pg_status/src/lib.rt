@@ -5,6 +5,7 @@
 mod asking;
 mod contents;
 mod control_protocol;
+mod health;
 mod histogram;
 mod history;
 mod http_exchange;
@@ -26,8 +27,9 @@ mod stream_text;
 mod write_buffer;
 
 pub use asking::{Answered, BUSY, converse};
-pub use contents::contents_of;
+pub use contents::{Contents, contents_of};
 pub use control_protocol::{Answer, ControlProtocol, LineAnswer, OWED_BYTES, Turned};
+pub use health::{Health, health_of};
 pub use histogram::{BOUNDS, BUCKETS, Histogram};
 pub use history::{Frames, History, Past, SECONDS, Total};
 pub use http_exchange::{HttpExchange, Step};

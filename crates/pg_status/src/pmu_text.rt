@@ -6,7 +6,7 @@ use pg_quality::{DelaySummary, FrameSummary, PmuSummary, nominal_of};
 use std::io;
 use std::io::Write;
 
-/// FREQ where there is no value.
+/// FREQ or DFREQ where there is no value.
 const NO_VALUE: i16 = i16::MIN;
 
 /// STAT's bit 13: not in sync with a UTC traceable time source (C37.118.2, 6.3).
@@ -82,12 +82,19 @@ pub(crate) fn is_in_sync(blocks: &PmuSummary) -> bool {
     blocks.stat.last & OUT_OF_SYNC == 0
 }
 
+/// FREQ or DFREQ, where it is a value.
+pub(crate) fn value_of(number: i16) -> Option<i16> {
+    if number == NO_VALUE {
+        None
+    } else {
+        Some(number)
+    }
+}
+
 /// The frequency of a PMU's last block in millihertz, if it sent one.
 pub(crate) fn millihertz(blocks: &PmuSummary) -> Option<i32> {
-    if blocks.freq == NO_VALUE {
-        return None;
-    }
-    Some(nominal_of(blocks.fnom) + i32::from(blocks.freq))
+    let freq = value_of(blocks.freq)?;
+    Some(nominal_of(blocks.fnom) + i32::from(freq))
 }
 
 /// Writes a PMU's frequency in hertz.

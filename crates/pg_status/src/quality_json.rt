@@ -1,7 +1,7 @@
 //! How good data are, as JSON.
 
 use crate::json::{comma, put_numbers, put_text};
-use crate::pmu_text::{is_in_sync, millihertz, time_word};
+use crate::pmu_text::{is_in_sync, millihertz, time_word, value_of};
 use crate::snapshot::PmuState;
 use crate::station::shown_name;
 use pg_quality::{DelaySummary, FrameSummary, PmuSummary, Tally};
@@ -107,7 +107,10 @@ fn put_blocks(alloc: Global, json: &mut String, blocks: &PmuSummary) -> Result<(
         Some(value) => put_signed(alloc, json, ",\"freq\":", i64::from(value))?,
         None => json.push_str(",\"freq\":null")?,
     }
-    put_signed(alloc, json, ",\"dfreq\":", i64::from(blocks.dfreq))?;
+    match value_of(blocks.dfreq) {
+        Some(value) => put_signed(alloc, json, ",\"dfreq\":", i64::from(value))?,
+        None => json.push_str(",\"dfreq\":null")?,
+    }
     json.push_str("}}")
 }
 

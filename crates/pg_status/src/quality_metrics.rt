@@ -1,7 +1,7 @@
 //! How good data are, as metrics.
 
 use crate::metrics::print_head;
-use crate::pmu_text::{is_in_sync, millihertz, print_thousandths};
+use crate::pmu_text::{is_in_sync, millihertz, print_thousandths, value_of};
 use crate::snapshot::SourceState;
 use crate::station::print_station;
 use pg_quality::{BOUNDS, FrameSummary, PmuSummary, StatCounts};
@@ -262,7 +262,10 @@ impl PmuFigure {
                 Some(value) => print_thousandths(out, i64::from(value)),
                 None => write!(out, "NaN"),
             },
-            PmuFigure::Rocof => print_thousandths(out, 10 * i64::from(blocks.dfreq)),
+            PmuFigure::Rocof => match value_of(blocks.dfreq) {
+                Some(value) => print_thousandths(out, 10 * i64::from(value)),
+                None => write!(out, "NaN"),
+            },
         }
     }
 }

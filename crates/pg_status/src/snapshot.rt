@@ -166,4 +166,6 @@ pub struct Snapshot {
     pub subscribers: Vec<SubscriberState>,
     /// The streams of all subscribers.
     pub streams: Vec<StreamState>,
+    /// How many workers did not answer within a second, so that their sources or ports are missing.
+    pub unanswered: usize,
 }

@@ -198,6 +198,7 @@ impl Port {
         PortReport {
             sub: self.endpoint.sub(),
             address: self.address().ok(),
+            unbound: None,
             peer: self.peer,
             since,
             frames: self.stamps.frames(),

@@ -9,7 +9,7 @@ use mio::net::TcpListener;
 use pg_gateway::{Event, Gate, Reply};
 use pg_log::{Detail, Entry, Journal, LogEvent, Subject};
 use pg_service::{
-    ConnectionRules, Mailbox, MeteredGate, Poller, PortOrder, ReadyQueue, SourceOrder,
+    ConnectionRules, Mailbox, MeteredGate, Poller, PortOrder, PortReport, ReadyQueue, SourceOrder,
     StatusCollector, sooner,
 };
 use pg_shared::{Named, SharedGate, Work};
@@ -33,6 +33,21 @@ struct Unbound {
     rules: ConnectionRules,
     address: SocketAddr,
     retry: Instant,
+}
+
+impl Unbound {
+    /// How it stands.
+    fn report(&self) -> PortReport {
+        PortReport {
+            sub: self.sub,
+            address: None,
+            unbound: Some(self.address),
+            peer: None,
+            since: Duration::ZERO,
+            frames: 0,
+            gaps: 0,
+        }
+    }
 }
 
 /// A worker that serves subscribers at their ports. A turn waits until a socket is ready, it is woken, or one of its
@@ -242,6 +257,11 @@ impl<'a, R: Wait + Net + Clock, N: Named> PortWorker<'a, R, N> {
         let mut reports = Vec::new(self.alloc);
         for port in self.ports.iter().flatten() {
             if reports.push(port.report(self.queue.now)).is_err() {
+                self.journal.note(LogEvent::MailFault);
+            }
+        }
+        for port in &self.unbound {
+            if reports.push(port.report()).is_err() {
                 self.journal.note(LogEvent::MailFault);
             }
         }

@@ -2,6 +2,7 @@
 
 use crate::tests::asserts::same;
 use pg_fakes::edit_line;
+use pg_lines::parse_question;
 use pg_operator::{BoundBy, line_of_key, parse_line};
 use pg_wire::SubId;
 use std::test::*;
@@ -95,6 +96,39 @@ fn lines_as_edits(rt: HostRuntime) {
         };
         let read = read.expect(&rt, "memory");
         let told = format!(in alloc; "{line} => {read}").expect(&rt, "memory");
+        same(&rt, told.as_str(), row);
+    }
+}
+
+/// Lines, each with what it asks about the service behind ` => `.
+const QUESTIONS: &str = "\
+version => Some(Version)
+  version   => Some(Version)
+version 1 => None
+Version => None
+advise => Some(Advise)
+advise 1 => None
+show 1 => Some(Show(SubId { id: 1 }))
+ show  65535  => Some(Show(SubId { id: 65535 }))
+show => None
+show 0 => None
+show 65536 => None
+show 01 => None
+show -1 => None
+show 1 1 => None
+show 1/1 => None
+shows 1 => None
+show\t1 => None
+# version => None
+ => None";
+
+#[test]
+fn lines_as_questions(rt: HostRuntime) {
+    let alloc = rt.alloc();
+    for row in QUESTIONS.split('\n') {
+        let (line, _) = row.split_once(" => ").expect(&rt, "a row");
+        let question = parse_question(alloc, line).expect(&rt, "memory");
+        let told = format!(in alloc; "{line} => {question:?}").expect(&rt, "memory");
         same(&rt, told.as_str(), row);
     }
 }

@@ -47,9 +47,9 @@ fn make_boxes<R: Net + Abort>(rt: &R, alloc: Global) -> Boxes {
     }
 }
 
-/// How often it is noted that workers did not answer, where one line asks what the service shows and no worker is there. `is_over` says
-/// whether all are to end.
-fn unanswered<R: Net + Abort + Wait + Clock>(rt: &R, alloc: Global, is_over: bool) -> u64 {
+/// How often it is noted that workers did not answer, where one line asks what the service shows and no worker is there; and how many are
+/// reported that did not. `is_over` says whether all are to end.
+fn unanswered<R: Net + Abort + Wait + Clock>(rt: &R, alloc: Global, is_over: bool) -> (u64, usize) {
     let boxes = make_boxes(rt, alloc);
     let stop = AtomicBool::new(is_over);
     let told = ServiceHandle {
@@ -61,6 +61,7 @@ fn unanswered<R: Net + Abort + Wait + Clock>(rt: &R, alloc: Global, is_over: boo
             collector: &boxes.collector,
         },
         name: "test",
+        tick_ms: 10,
         directory: &boxes.directory,
         admin: None,
         reloads: None,
@@ -77,13 +78,14 @@ fn unanswered<R: Net + Abort + Wait + Clock>(rt: &R, alloc: Global, is_over: boo
         &mut NoServiceCommands,
     );
     drop(console);
-    boxes.journal.count(LogEvent::Unanswered)
+    let noted = boxes.journal.count(LogEvent::Unanswered);
+    (noted, told.ask(rt, alloc).unanswered)
 }
 
 /// Workers that are there are asked what the service shows, and waited for; once all are to end nobody is, as none need answer then.
 #[test]
 fn nobody_is_asked_at_the_end(rt: HostRuntime) {
     let alloc = rt.alloc();
-    same(&rt, unanswered(&rt, alloc, false), 1);
-    same(&rt, unanswered(&rt, alloc, true), 0);
+    same(&rt, unanswered(&rt, alloc, false), (1, 2));
+    same(&rt, unanswered(&rt, alloc, true), (0, 0));
 }

@@ -103,6 +103,7 @@ fn texts_in_json(rt: HostRuntime) {
         sources: Vec::new(alloc),
         subscribers: Vec::new(alloc),
         streams: Vec::new(alloc),
+        unanswered: 0,
     };
     let odd = source(&rt, alloc, "a\"b\\c\nd\u{1}é</script>");
     shown.sources.push(odd).expect(&rt, "memory");
