@@ -15,6 +15,11 @@ def health(page, query=""):
     return head.split("\r\n")[0].split(" ", 1)[1], body
 
 
+def is_stopped(pid, task):
+    with open(f"/proc/{pid}/task/{task}/stat", encoding="utf-8") as file:
+        return file.read().rpartition(")")[2].split()[0] == "T"
+
+
 def served(bench):
     """A gateway with two sources, of which 7 announced."""
     page, seven = bench.port(), bench.source(7)
@@ -53,7 +58,9 @@ def test_health_of_a_frozen_gateway(bench):
     page, seven, gateway = served(bench)
     seven.measure(int(time.time() * RATE), 1)
     until(lambda: health(page)[0] == "200 OK", "200")
-    os.kill(gateway.process.pid, signal.SIGSTOP)
+    pid = gateway.process.pid
+    os.kill(pid, signal.SIGSTOP)
+    until(lambda: all(is_stopped(pid, task) for task in os.listdir(f"/proc/{pid}/task")), "a stopped process")
     try:
         with socket.create_connection(("127.0.0.1", page), 1) as peer:
             peer.sendall(b"GET /health HTTP/1.1\r\n\r\n")
@@ -63,6 +70,6 @@ def test_health_of_a_frozen_gateway(bench):
             except socket.timeout:
                 pass
     finally:
-        os.kill(gateway.process.pid, signal.SIGCONT)
+        os.kill(pid, signal.SIGCONT)
     until(lambda: health(page)[0] == "200 OK", "200 again")
     gateway.quit()

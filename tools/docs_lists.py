@@ -319,10 +319,12 @@ def options():
     """The options of each word of the program."""
     texts = {name: source("pdcgw", name) for name in ("main", "tools", "ctl")}
     words = {word: set() for word in re.findall(r'Command::new\(alloc, "(\w+)"\)', "".join(texts.values()))}
-    of = {word: between(texts["tools"], f"fn {word}_words", "\n}") for word in ("simulate", "watch", "demo")}
+    of = {word: between(texts["tools"], f"fn {word}_words", "\n}") for word in ("simulate", "watch", "bridge", "demo")}
     of["ctl"] = between(texts["ctl"], "fn words", "\n}")
     for word, text in of.items():
         words[word] = set(re.findall(r'long\("([\w-]+)"\)', text)) | set(re.findall(r'(?:option|valued|flag)\(\s*alloc,\s*"([\w-]+)"', text))
+        # (an option of several words has a function of its name)
+        words[word] |= set(re.findall(r"\.arg\((stream)\(alloc\)\)", text))
     for word in ("run", "check"):
         words[word] = {"setup"}
     return words

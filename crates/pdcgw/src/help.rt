@@ -11,7 +11,7 @@ Exit status:
      37 BadSetup, a setup file with mistakes, or the reason for which an edit of a setup is refused; 39 ReadFault, standard
      input or a setup file can't be read, a port, the page or the control socket can't be bound, or `ctl` has no gateway or no
      answer; 34 Busy, 8 clients are at the control socket; 40 WriteFault, standard output can't be written; 1 NoMemory. Of
-     `simulate`, `watch` and `demo` there is one line, `pdcgw:` and what is wrong
+     `simulate`, `watch`, `bridge` and `demo` there is one line, `pdcgw:` and what is wrong
   2  unknown words on the command line
 
 `pdcgw replay --help` has the commands and their answers, `pdcgw run --help` the keys of a setup file.";
@@ -187,6 +187,36 @@ frame are counted as missing; fillers are blocks of a gateway in place of missin
 
 Exit status: 0 if nothing was wrong; 1 if something was, or no data frame came, or the name has no address, the address can't be
 reached, or output can't be written; 2 for unknown words.";
+
+/// Of `bridge`.
+pub const BRIDGE: &str = "\
+Connects to ADDRESS as `watch` does, starts the stream, and prints it as lines, each of which stands by itself. They are meant for
+a pipe to the client of a message broker or a database:
+
+    pdcgw bridge 127.0.0.1:4800 --stream 101 | mosquitto_pub -l -q 1 -t pmu/101
+
+Formats: json, an object; influx, InfluxDB line protocol; csv, always the same 18 columns without a heading: type, time, gateway,
+stream, idcode, station, stat, good, filled, time_quality, leap_second, frequency, rocof, from, to, slots, why, detail (JSON).
+
+Types of line:
+  data                     one PMU of a data frame: STAT, time quality, FREQ in Hz, DFREQ in Hz/s, and each channel by its name:
+                           magnitudes in V or A, angles in degrees, analog values, digital words. What is absent is null, or left out
+  config                   one PMU of the configuration: channels, units, DATA_RATE, nominal frequency, CFGCNT, the IDCODEs of all
+                           PMUs; at the start, at each change and after each --repeat
+  gap                      slots before a frame that have no data lines: the times of the frames around them, how many, and why:
+                           `missing`, no frame of them came; `reconnect`, `change`, the connection was made again or the
+                           configuration changed meanwhile; `output`, their lines were dropped
+  state                    after each --heartbeat: what was counted since the start, and how many milliseconds behind its time the
+                           last frame came
+The slots of data lines and gaps together are all slots of the stream, from the first line to the last.
+
+With --key the key of a gap or a state is STREAM/STREAM.
+
+It goes on: a connection that ends, can't be had, or gives no frame for --silence is made again after 1, 2, 4, .. 30 seconds.
+Standard error has a line for each. The socket is always read. While standard output takes nothing, --keep lines wait; then the
+oldest are dropped, and the next line that is printed is their gap.
+
+Exit status: 1 if standard output has ended, 2 for unknown words. A signal ends it at once.";
 
 /// Of `demo`.
 pub const DEMO: &str = "\

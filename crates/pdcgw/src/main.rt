@@ -71,6 +71,7 @@ fn program<'a>(alloc: Global, help: &'a str) -> Result<Command<'a>, AllocError> 
         .subcommand(ctl::words(alloc)?)?
         .subcommand(tools::simulate_words(alloc)?)?
         .subcommand(tools::watch_words(alloc)?)?
+        .subcommand(tools::bridge_words(alloc)?)?
         .subcommand(tools::demo_words(alloc)?)
 }
 
@@ -121,6 +122,7 @@ fn do_words<R: Files + Env + Runtime + Alloc<A = Global>>(
         "ctl" => return ctl::run(rt, files, words),
         "simulate" => return tools::simulate(rt, words),
         "watch" => return tools::watch(rt, words, is_terminal),
+        "bridge" => return tools::bridge(rt, words),
         "demo" => return tools::demo(rt, words, is_terminal),
         _ => {}
     }

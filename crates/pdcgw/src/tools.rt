@@ -1,4 +1,4 @@
-//! The words of the tools: `simulate`, `watch` and `demo`.
+//! The words of the tools: `simulate`, `watch`, `bridge` and `demo`.
 
 use crate::{Outcome, help};
 use clap::{Arg, ArgAction, ArgMatches, Command};
@@ -6,7 +6,8 @@ use pg_demo::DemoOptions;
 use pg_demo_core::Verdict;
 use pg_run::Runtime;
 use pg_tools::{
-    BadOption, SimulateArgs, Style, WatchArgs, number, read_simulate_options, read_watch_options,
+    BadOption, BridgeArgs, SimulateArgs, Style, WatchArgs, number, read_bridge_options,
+    read_simulate_options, read_watch_options,
 };
 use std::alloc::{AllocError, Global};
 use std::net::Net;
@@ -131,26 +132,34 @@ where
     }
 }
 
+/// The address of `watch` and `bridge`.
+fn address<'a>(alloc: Global) -> Arg<'a> {
+    Arg::new(alloc, "address")
+        .value_name("ADDRESS")
+        .help(
+            "Where a gateway's subscriber connects, or a source listens: A.B.C.D:PORT or NAME:PORT",
+        )
+        .required(true)
+}
+
+/// The stream of `watch` and `bridge`.
+fn stream<'a>(alloc: Global) -> Arg<'a> {
+    valued(
+        alloc,
+        "stream",
+        "N",
+        "The IDCODE of the stream, or of the source",
+    )
+    .required(true)
+}
+
 /// The words of `watch`.
 pub fn watch_words<'a>(alloc: Global) -> Result<Command<'a>, AllocError> {
     Command::new(alloc, "watch")
         .about("Plays a subscriber: checks a stream, and shows it")
         .after_help(help::WATCH)
-        .arg(
-            Arg::new(alloc, "address")
-                .value_name("ADDRESS")
-                .help(
-                    "Where a gateway's subscriber connects, or a source listens: A.B.C.D:PORT or NAME:PORT",
-                )
-                .required(true),
-        )?
-        .arg(valued(
-            alloc,
-            "stream",
-            "N",
-            "The IDCODE of the stream, or of the source",
-        )
-        .required(true))?
+        .arg(address(alloc))?
+        .arg(stream(alloc))?
         .arg(flag(
             alloc,
             "csv",
@@ -186,6 +195,86 @@ where
         Ok(options) => match pg_tools::watch(rt, &options) {
             Ok(true) => Outcome::Done,
             Ok(false) => Outcome::Troubled(String::new(rt.alloc())),
+            Err(fault) => Outcome::Fallen(fault),
+        },
+        Err(misword) => Outcome::Misworded(misword),
+    }
+}
+
+/// The words of `bridge`.
+pub fn bridge_words<'a>(alloc: Global) -> Result<Command<'a>, AllocError> {
+    Command::new(alloc, "bridge")
+        .about("Prints a stream as lines, for a message broker, a database or a historian")
+        .after_help(help::BRIDGE)
+        .arg(address(alloc))?
+        .arg(stream(alloc))?
+        .arg(option(
+            alloc,
+            "format",
+            "FORMAT",
+            "json",
+            "The format of the lines: json, influx or csv",
+        ))?
+        .arg(valued(
+            alloc,
+            "name",
+            "NAME",
+            "The name of the gateway, which each line has",
+        ))?
+        .arg(flag(
+            alloc,
+            "key",
+            "Puts STREAM/IDCODE and a tab before each line",
+        ))?
+        .arg(option(
+            alloc,
+            "repeat",
+            "SECONDS",
+            "60",
+            "How often the configuration is repeated, 1 to 86400",
+        ))?
+        .arg(option(
+            alloc,
+            "heartbeat",
+            "SECONDS",
+            "10",
+            "How often the state is reported, 1 to 86400",
+        ))?
+        .arg(option(
+            alloc,
+            "silence",
+            "SECONDS",
+            "5",
+            "After how long without a frame it connects again, 1 to 86400",
+        ))?
+        .arg(option(
+            alloc,
+            "keep",
+            "LINES",
+            "10000",
+            "How many lines wait for standard output at most, 1 to 1000000",
+        ))
+}
+
+/// Does the work of `bridge`.
+pub fn bridge<R>(rt: &R, words: &ArgMatches<'_>) -> Outcome
+where
+    R: Net + Clock + Print + Eprint + Alloc<A = Global>,
+{
+    let read = read_bridge_options(&BridgeArgs {
+        address: words.get_str("address").unwrap_or(""),
+        stream: words.get_str("stream").unwrap_or(""),
+        format: words.get_str("format").unwrap_or(""),
+        name: words.get_str("name"),
+        is_keyed: words.get_flag("key"),
+        repeat: words.get_str("repeat").unwrap_or(""),
+        heartbeat: words.get_str("heartbeat").unwrap_or(""),
+        silence: words.get_str("silence").unwrap_or(""),
+        keep: words.get_str("keep").unwrap_or(""),
+    });
+    match read {
+        Ok(options) => match pg_tools::bridge(rt, &options) {
+            Ok(()) => Outcome::Done,
             Err(fault) => Outcome::Fallen(fault),
         },
         Err(misword) => Outcome::Misworded(misword),

@@ -2,4 +2,6 @@
 pub mod Faulting
 pub mod Holdover
 pub mod Playing
+pub mod Queueing
 pub mod Retrying
+pub mod Slots

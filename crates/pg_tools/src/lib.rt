@@ -1,20 +1,34 @@
-//! Tools to try a gateway with: a source that is simulated, and a subscriber that shows what comes. They know nothing of the
-//! gateway.
+//! Tools to try a gateway with, and to take its streams elsewhere: a source that is simulated, a subscriber that shows what comes, and one that
+//! prints it as lines. They know nothing of the gateway.
 //! What no clause of IEEE C37.118.2 is named for is a rule of this project.
 #![tactic(auto)]
 
+mod bridge_options;
+mod bridge_stream;
+mod converter;
+mod csv_lines;
 mod fault;
 mod holdover;
+mod influx_lines;
+mod json_lines;
 mod layout;
+mod line_parts;
+mod line_queue;
+mod line_writer;
 mod lines;
 mod measuring;
+mod name_text;
+mod output_poll;
 mod reading;
+mod repeat;
 mod retry;
 mod screen;
 mod settings;
 mod signal;
 mod simulate_source;
 mod simulator;
+mod slots;
+mod socket;
 mod source;
 mod source_faults;
 mod target;
@@ -23,7 +37,11 @@ mod watch_stream;
 mod watcher;
 mod wave;
 
+pub use bridge_options::{BridgeArgs, BridgeOptions, Format, read_bridge_options};
+pub use bridge_stream::bridge;
+pub use converter::{BridgeCounts, Converter, Ending, Instants};
 pub use fault::Fault;
+pub use line_queue::{Content, Entry, Gap, LineQueue, Why};
 pub use measuring::add_measured;
 pub use retry::{RETRY_TIMEOUT, Retry};
 pub use settings::{
@@ -32,6 +50,7 @@ pub use settings::{
 };
 pub use simulate_source::simulate;
 pub use simulator::{Simulator, SimulatorEvent};
+pub use slots::{DataRate, Slots};
 pub use source::{CommandEvent, Source, SourceCounts};
 pub use source_faults::Faults;
 pub use target::Target;

@@ -3,7 +3,7 @@
 ghost use Rattle.std.specs.Prelude.{◌≤◌};
 
 use crate::reading::{Cell, Quality, Reading};
-use crate::unix_time::UnixTime;
+use crate::unix_time::{TIME_BASE, UnixTime};
 use crate::watcher::Watcher;
 use jiff_core::Timestamp;
 use jiff_fmt::temporal::DateTimePrinter;
@@ -11,6 +11,9 @@ use pg_config::SourceConfig;
 use pg_data::DataFrame;
 use std::alloc::AllocError;
 use std::fmt;
+
+/// The longest delay that is shown, in milliseconds.
+const MOST_DELAY: u64 = 4_000_000_000;
 
 /// The time of a frame. Its text is ISO 8601, to the microsecond.
 #[derive(Clone, Copy)]
@@ -36,6 +39,23 @@ impl FrameTime {
     /// The same in microseconds since 1970.
     pub fn unix_time(self) -> UnixTime {
         UnixTime::new(self.soc, self.micros() as u32)
+    }
+
+    /// The time of a clock, as the time of a frame.
+    pub fn at(time: UnixTime) -> FrameTime {
+        FrameTime {
+            soc: time.soc(),
+            frac: time.fraction(),
+            base: TIME_BASE,
+        }
+    }
+
+    /// How many milliseconds a time is behind this one, below 0 where it is before: -4,000,000,000 to 4,000,000,000.
+    pub fn millis_behind(self, at: UnixTime) -> i64 {
+        let stamp = self.unix_time();
+        let behind = (at.micros.saturating_sub(stamp.micros) / 1_000).min(MOST_DELAY);
+        let ahead = (stamp.micros.saturating_sub(at.micros) / 1_000).min(MOST_DELAY);
+        i64::from(behind as u32).saturating_sub(i64::from(ahead as u32))
     }
 
     /// The fraction in microseconds.

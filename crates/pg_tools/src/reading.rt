@@ -31,6 +31,11 @@ impl Name {
         }
         len
     }
+
+    /// Its bytes as they came, without the spaces behind them: 0 to 16.
+    pub fn bytes(&self) -> &[u8] {
+        self.bytes.get(..self.len()).unwrap_or(&[])
+    }
 }
 
 impl fmt::Display for Name {
@@ -112,9 +117,68 @@ impl<'a> Reading<'a> {
         )
     }
 
+    /// The name of input i of digital word k: i is 0, the least significant bit, to 15.
+    pub fn input(&self, k: usize, i: usize) -> Name {
+        let first = usize::from(self.phasors) + usize::from(self.analogs);
+        self.channel(
+            first
+                .saturating_add(16usize.saturating_mul(k))
+                .saturating_add(i),
+        )
+    }
+
+    /// How many phasors it has.
+    pub fn phasors(&self) -> usize {
+        usize::from(self.phasors)
+    }
+
+    /// How many analog values it has.
+    pub fn analogs(&self) -> usize {
+        usize::from(self.analogs)
+    }
+
+    /// How many digital words it has.
+    pub fn digitals(&self) -> usize {
+        usize::from(self.digitals)
+    }
+
+    /// The unit of phasor k by PHUNIT: `A` for a current, `V` for all else.
+    pub fn phasor_unit(&self, k: usize) -> &'static str {
+        if is_of_current(self.unit(k)) {
+            "A"
+        } else {
+            "V"
+        }
+    }
+
+    /// What analog value k is, by the top byte of ANUNIT: `sample`, a single point on the wave; `rms`; `peak`; `user` for all else.
+    pub fn analog_unit(&self, k: usize) -> &'static str {
+        match self.unit(self.phasors().saturating_add(k)) / 0x0100_0000 {
+            0 => "sample",
+            1 => "rms",
+            2 => "peak",
+            _ => "user",
+        }
+    }
+
+    /// CFGCNT.
+    pub fn config_count(&self) -> u16 {
+        word_at(self.config, self.config.len().saturating_sub(2))
+    }
+
     /// STAT.
     pub fn stat(&self) -> u16 {
         word_at(self.block, 0)
+    }
+
+    /// Whether the data are good: bits 15 and 14 of STAT are 0.
+    pub fn is_good(&self) -> bool {
+        self.stat() / 0x4000 == 0
+    }
+
+    /// Whether it is a filler: STAT 0x8000 and FREQ 0x8000 (own rule of the gateway).
+    pub fn is_filler(&self) -> bool {
+        self.stat() == ABSENT && word_at(self.block, self.after_phasors()) == ABSENT
     }
 
     /// The nominal frequency in Hz: 50 or 60, by FNOM.
@@ -131,6 +195,18 @@ impl<'a> Reading<'a> {
     pub fn millihertz(&self) -> Option<i32> {
         let deviation = self.count_at(self.after_phasors())?;
         Some(1_000 * i32::from(self.nominal()) + i32::from(deviation))
+    }
+
+    /// The frequency in hertz, unless it is absent.
+    pub fn hertz(&self) -> Option<f64> {
+        let millihertz = self.millihertz()?;
+        Some(f64::from(millihertz) / 1_000.0)
+    }
+
+    /// The rate of change of the frequency in hertz a second, unless it is absent.
+    pub fn hertz_per_second(&self) -> Option<f64> {
+        let change = self.change()?;
+        Some(f64::from(change) / 100.0)
     }
 
     /// The rate of change of the frequency in hundredths of a hertz a second, unless it is absent.
@@ -158,7 +234,7 @@ impl<'a> Reading<'a> {
         Some(Polar {
             magnitude: magnitude * scale,
             degrees: radians * 57.295_779_513_082_32,
-            is_current: unit / 0x0100_0000 == 1,
+            is_current: is_of_current(unit),
         })
     }
 
@@ -211,6 +287,11 @@ impl<'a> Reading<'a> {
         let low = u32::from(word_at(self.config, at.saturating_add(2)));
         0x1_0000 * high + low
     }
+}
+
+/// Whether a PHUNIT is of a current.
+fn is_of_current(unit: u32) -> bool {
+    unit / 0x0100_0000 == 1
 }
 
 /// The name of sixteen bytes.

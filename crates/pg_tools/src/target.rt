@@ -1,6 +1,7 @@
 //! Where a tool connects to.
 
 use crate::settings::{BadOption, number};
+use pg_wire::PmuId;
 use std::fmt;
 use std::net::{SocketAddr, SocketAddrV4};
 
@@ -46,6 +47,17 @@ pub fn read_target<'a>(word: &'a str, option: &'static str) -> Result<Target<'a>
         Some(port) if is_name(name) => Ok(Target::Name(name, port as u16)),
         _ => Err(wrong),
     }
+}
+
+/// What `--stream` takes.
+pub const WRONG_STREAM: BadOption = BadOption {
+    option: "--stream",
+    takes: "a number of 1 to 65534",
+};
+
+/// The IDCODE of a stream, 1 to 65534, where the word is that.
+pub fn read_stream(word: &str) -> Option<PmuId> {
+    PmuId::new(number(word, 1, 65_534)? as u16)
 }
 
 /// Whether this may be a host's name.

@@ -5,9 +5,10 @@ use crate::lines::{FrameTime, NO_PMU, write_heading, write_second, write_values}
 use crate::screen::{History, LastScreen, View, draw};
 use crate::settings::{BadOption, number};
 use crate::simulate_source::output_result;
-use crate::target::{Target, read_target};
+use crate::socket::{is_connected, send_due};
+use crate::target::{Target, WRONG_STREAM, read_stream, read_target};
 use crate::unix_time::UnixTime;
-use crate::watcher::{Violation, WatchEvent, Watcher};
+use crate::watcher::{Violation, WatchEvent, Watcher, is_same};
 use mio::net::TcpStream;
 use mio::{Events, Interest, Poll, Token};
 use pg_config::SourceConfig;
@@ -41,9 +42,6 @@ const PIECE: usize = 16_384;
 
 /// The reads of a turn at most.
 const READS: u32 = 256;
-
-/// The longest delay that is shown, in milliseconds.
-const MOST_DELAY: u64 = 4_000_000_000;
 
 /// A second, in microseconds.
 const SECOND: u64 = 1_000_000;
@@ -144,15 +142,8 @@ pub struct WatchArgs<'a> {
 /// The first option that can't be taken, with what it takes.
 pub fn read_watch_options<'a>(words: &WatchArgs<'a>) -> Result<WatchOptions<'a>, BadOption> {
     let address = read_target(words.address, "ADDRESS")?;
-    let wrong = BadOption {
-        option: "--stream",
-        takes: "a number of 1 to 65534",
-    };
-    let Some(number) = number(words.stream, 1, 65_534) else {
-        return Err(wrong);
-    };
-    let Some(stream) = PmuId::new(number as u16) else {
-        return Err(wrong);
+    let Some(stream) = read_stream(words.stream) else {
+        return Err(WRONG_STREAM);
     };
     let style = if words.is_csv {
         Style::Csv
@@ -345,36 +336,25 @@ fn connect<R: Net>(
     poll.registry().register(&mut stream, Token(0), both)?;
     for _ in 0..CONNECTING {
         poll.poll(events, Some(Duration::from_millis(TURN)))?;
-        match stream.take_error() {
-            Ok(None) => {}
-            Ok(Some(error)) | Err(error) => return Err(Fault::Reach(address, error)),
-        }
-        if stream.peer_addr().is_ok() {
-            let _ = stream.set_nodelay(true);
-            return Ok(stream);
+        match is_connected(&stream) {
+            Ok(true) => return Ok(stream),
+            Ok(false) => {}
+            Err(error) => return Err(Fault::Reach(address, error)),
         }
     }
     Err(Fault::Reach(address, io::Error::from(ErrorKind::TimedOut)))
 }
 
-/// Sends the commands that are due. They are so few that the system takes them at once; a connection that does not is over.
+/// Sends the commands that are due.
 fn send_commands<R: Clock>(
     rt: &R,
     stream: &TcpStream,
     state: &mut WatchState,
 ) -> Result<(), Fault> {
     let soc = UnixTime::now(rt)?.soc();
-    for _ in 0..3 {
-        let Some(command) = state.watcher.next_out(soc) else {
-            return Ok(());
-        };
-        match (&*stream).write(&command) {
-            Ok(18) => {}
-            _ => {
-                state.watcher.note(Violation::Closed);
-                state.trouble = Some(Violation::Closed);
-            }
-        }
+    if !send_due(stream, &mut state.watcher, soc) {
+        state.watcher.note(Violation::Closed);
+        state.trouble = Some(Violation::Closed);
     }
     Ok(())
 }
@@ -699,22 +679,9 @@ impl WatchState {
     }
 }
 
-/// Whether two configurations have the same PMUs, with the same blocks, resolution and rate.
-fn is_same(one: &SourceConfig, other: &SourceConfig) -> bool {
-    one.parts.len() == other.parts.len()
-        && one
-            .parts
-            .iter()
-            .zip(other.parts.iter())
-            .all(|(part, same)| part.is_same(same))
-}
-
 /// How many milliseconds behind its stamp the latest frame came, below 0 where it came before.
 fn delay_of(frame: Option<&Arc<DataFrame>>, at: UnixTime) -> Option<i64> {
-    let stamp = FrameTime::of(&**frame?).unix_time();
-    let behind = (at.micros.saturating_sub(stamp.micros) / 1_000).min(MOST_DELAY);
-    let ahead = (stamp.micros.saturating_sub(at.micros) / 1_000).min(MOST_DELAY);
-    Some(i64::from(behind as u32).saturating_sub(i64::from(ahead as u32)))
+    Some(FrameTime::of(&**frame?).millis_behind(at))
 }
 
 /// There is no memory.

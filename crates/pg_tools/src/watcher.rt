@@ -3,7 +3,9 @@
 ghost use Rattle.std.specs.Prelude.{◌≡◌, ◌+◌, ◌≤◌, ◌<◌, length};
 ghost use Rattle.pg_wire.specs.Head.{IsFrame};
 
+use crate::reading::Reading;
 use crate::retry::Retry;
+use crate::slots::DataRate;
 use pg_command::{Word, write_command};
 use pg_config::{Announced, SourceConfig, read_config};
 use pg_data::{DataFrame, read_data};
@@ -384,7 +386,9 @@ impl Watcher {
                 self.tally.count(trouble);
                 return WatchEvent::Violation(trouble);
             }
-            let between = slot_in(&frame, stamp).saturating_sub(slot_in(&frame, last));
+            let (rate, base) = (rate_of(&frame), frame.base());
+            let slot = rate.slot(stamp.soc, stamp.frac, base);
+            let between = slot.saturating_sub(rate.slot(last.soc, last.frac, base));
             self.tally.missing = self.tally.missing.saturating_add(between.saturating_sub(1));
         }
         self.last = Some(stamp);
@@ -455,39 +459,31 @@ fn header_in(alloc: Global, frame: &[u8]) -> ReadFrame {
     }
 }
 
-/// The slot of a stamp, by the rate and the resolution of the configuration: the nearest one. With a rate below 0,
-/// seconds a frame, the slots are those of the seconds.
-fn slot_in(frame: &DataFrame, stamp: Stamp) -> u64 {
-    let soc = u64::from(stamp.soc);
-    let (rate, base) = match frame.config.parts.first() {
-        Some(part) => (part.rate, u64::from(part.base)),
-        None => (1, 1),
-    };
-    let frames = u64::from(rate.unsigned_abs());
-    if rate <= 0 {
-        return soc.checked_div(frames).unwrap_or(soc);
+/// DATA_RATE of a frame's configuration.
+pub fn rate_of(frame: &DataFrame) -> DataRate {
+    match frame.config.parts.first() {
+        Some(part) => DataRate::new(part.rate),
+        None => DataRate::Frames(1),
     }
-    let place = (2 * u64::from(stamp.frac))
-        .saturating_mul(frames)
-        .saturating_add(base);
-    soc.saturating_mul(frames)
-        .saturating_add(place.checked_div(2 * base).unwrap_or(0))
 }
 
 /// How many blocks of a frame are fillers.
-fn fillers_of(frame: &DataFrame) -> u64 {
+pub fn fillers_of(frame: &DataFrame) -> u64 {
     let mut found = 0u64;
     for (i, part) in frame.config.parts.iter().enumerate() {
-        if i < frame.count() && is_filler(frame.block(i), part.phasors) {
+        if i < frame.count() && Reading::new(part, frame.block(i)).is_filler() {
             found = found.saturating_add(1);
         }
     }
     found
 }
 
-/// Whether a block is a filler: STAT 0x8000, and FREQ 0x8000 behind that many phasors.
-fn is_filler(block: &[u8], phasors: u16) -> bool {
-    let frequency = 2 + 4 * usize::from(phasors);
-    block.get(..2) == Some([0x80, 0].as_slice())
-        && block.get(frequency..frequency + 2) == Some([0x80, 0].as_slice())
+/// Whether two configurations have the same PMUs, with the same blocks, resolution and rate.
+pub fn is_same(one: &SourceConfig, other: &SourceConfig) -> bool {
+    one.parts.len() == other.parts.len()
+        && one
+            .parts
+            .iter()
+            .zip(other.parts.iter())
+            .all(|(part, same)| part.is_same(same))
 }

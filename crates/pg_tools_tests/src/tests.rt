@@ -2,6 +2,7 @@
 
 mod ages;
 mod asserts;
+mod bridges;
 mod conversations;
 mod dialogues;
 mod ends;

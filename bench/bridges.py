@@ -1,0 +1,256 @@
+#!/usr/bin/env python3
+"""Tries `pdcgw bridge` with real brokers and databases, which are stopped and started meanwhile, as the gateway is, and a PMU that is revoked and granted.
+
+    python3 bench/bridges.py PROGRAM mosquitto|kafka|postgresql|influxdb
+
+What arrived is read back: the slots of the data lines of PMU 7 and those of the gaps have to be all slots of the stream from the first line to the last, and
+none twice, but for what a broker delivers at least once and the same again. Each line has to be one of its format. It prints what came and which gaps, and ends with status 1 where this is not so. Of Debian's packages it
+needs mosquitto and mosquitto-clients, or kafkacat (whose own mock of a broker stands for Kafka), or postgresql, or influxdb and curl. Run as root it starts
+PostgreSQL as the user postgres.
+"""
+import json
+import os
+import signal
+import subprocess
+import sys
+import tempfile
+import time
+from datetime import datetime, timezone
+
+RATE, STREAM = 30, 101
+FILES = os.path.join(os.path.dirname(os.path.abspath(__file__)), "..", "docs", "integration")
+SETUP = f"""\
+control = "FOLDER/control"
+[[pmu]]
+id = 7
+connect = "127.0.0.1:26712"
+silence = 3
+[[pmu]]
+id = 8
+source = 7
+[[subscriber]]
+id = 1
+port = 26801
+address = "127.0.0.1"
+takeover = true
+ring = 64
+grants = [7, "7/8"]
+[[subscriber.stream]]
+id = {STREAM}
+rate = {RATE}
+base = 1000000
+wait = 10
+window = 8
+members = [7, "7/8"]
+"""
+
+
+def run(*words, **keys):
+    return subprocess.Popen(words, stdin=subprocess.DEVNULL, **{"stdout": subprocess.DEVNULL, "stderr": subprocess.DEVNULL, **keys})
+
+
+def done(*words, **keys):
+    return subprocess.run(words, stdout=subprocess.PIPE, check=True, text=True, **keys).stdout
+
+
+def slot(text):
+    """The slot of a time as ISO 8601."""
+    time_of = datetime.fromisoformat(text.replace("Z", "+00:00")).astimezone(timezone.utc)
+    return int(time_of.timestamp()) * RATE + round(time_of.microsecond * RATE / 1_000_000)
+
+
+class Mosquitto:
+    """A broker that keeps what a subscriber of it has not got; the bridge's client waits where it is away."""
+    options, client, may_come_again = ["--format", "json"], "mosquitto_pub -p 26883 -q 1 -l -t pmu/101", True
+
+    def __init__(self, folder):
+        self.folder, self.seen = folder, f"{folder}/seen"
+        with open(f"{folder}/mosquitto.conf", "w", encoding="utf-8") as file:
+            file.write(f"listener 26883 127.0.0.1\nallow_anonymous true\npersistence true\npersistence_location {folder}/\nmax_queued_messages 0\nuser root\n")
+        self.begin()
+        time.sleep(1)
+        with open(self.seen, "w", encoding="utf-8") as file:
+            self.reader = run("mosquitto_sub", "-p", "26883", "-q", "1", "-c", "-i", "reader", "-t", "pmu/101", stdout=file)
+        time.sleep(1)
+
+    def begin(self):
+        self.broker = run("mosquitto", "-c", f"{self.folder}/mosquitto.conf")
+
+    def stop(self):
+        self.broker.send_signal(signal.SIGTERM)
+        self.broker.wait()
+
+    def lines(self):
+        time.sleep(3)
+        self.reader.terminate()
+        with open(self.seen, encoding="utf-8") as file:
+            return [json.loads(line) for line in file]
+
+    def end(self):
+        self.reader.kill()
+        self.broker.kill()
+
+
+class Kafka:
+    """kcat with the mock of a broker that its library has, which keeps nothing: what was sent is read where kcat prints it. kcat is frozen for a while."""
+    options, may_come_again = ["--format", "json", "--key"], False
+
+    def __init__(self, folder):
+        self.seen = f"{folder}/seen"
+        self.client = f"kcat -P -T -b mock -X test.mock.num.brokers=1 -t pmu -K '\t' -E -X message.timeout.ms=0 > {self.seen}"
+
+    def begin(self):
+        done("pkill", "-CONT", "-x", "kcat")
+
+    def stop(self):
+        done("pkill", "-STOP", "-x", "kcat")
+
+    def lines(self):
+        # kcat prints keys, tabs and lines, and nothing between them.
+        time.sleep(3)
+        with open(self.seen, encoding="utf-8") as file:
+            text, at, found, reader = file.read(), 0, [], json.JSONDecoder()
+        while "}" in text[at:at + 4096] and text.rfind("}") > at + 4096:
+            key, begin = text[at:text.index("\t", at)], text.index("\t", at) + 1
+            line, at = reader.raw_decode(text, begin)
+            if key != f"{line['stream']}/{line.get('idcode', line['stream'])}":
+                sys.exit(f"the key {key} of {line}")
+            found.append(line)
+        return found
+
+    def end(self):
+        pass
+
+
+class Postgresql:
+    options, may_come_again = ["--format", "csv"], False
+    client = f"{FILES}/in-batches.sh 60 {FILES}/to-postgresql.sh"
+    bin = "/usr/lib/postgresql/15/bin"
+
+    def __init__(self, folder):
+        self.folder = f"{folder}/data"
+        os.environ.update(PGHOST="127.0.0.1", PGPORT="26432", PGUSER="postgres", PGDATABASE="postgres")
+        os.chmod(folder, 0o755)
+        os.mkdir(self.folder)
+        done("chown", "postgres", self.folder)
+        self.asks(f"{self.bin}/initdb -A trust -D {self.folder}")
+        self.begin()
+        done("psql", "-q", "-f", f"{FILES}/pmu.sql")
+
+    def asks(self, words):
+        done("su", "postgres", "-s", "/bin/sh", "-c", words)
+
+    def begin(self):
+        self.asks(f"{self.bin}/pg_ctl -w -D {self.folder} -l {self.folder}/log -o '-p 26432 -k /tmp' start")
+
+    def stop(self):
+        self.asks(f"{self.bin}/pg_ctl -w -m fast -D {self.folder} stop")
+
+    def lines(self):
+        time.sleep(5)
+        text = done("psql", "-At", "-c", "select row_to_json(it) from pmu_line it order by time")
+        return [json.loads(line) for line in text.splitlines()]
+
+    def end(self):
+        self.stop()
+
+
+class Influxdb:
+    options, may_come_again = ["--format", "influx"], False
+    client = f"{FILES}/in-batches.sh 60 {FILES}/to-influxdb.sh"
+
+    def __init__(self, folder):
+        self.folder = folder
+        os.environ["URL"] = "http://127.0.0.1:26086/write?db=pmu"
+        with open(f"{folder}/influx.conf", "w", encoding="utf-8") as file:
+            file.write(f'reporting-disabled = true\nbind-address = "127.0.0.1:26088"\n[meta]\ndir = "{folder}/meta"\n[data]\ndir = "{folder}/data"\n'
+                       f'wal-dir = "{folder}/wal"\n[http]\nbind-address = "127.0.0.1:26086"\n')
+        self.begin()
+        time.sleep(3)
+        done("curl", "-sSf", "-XPOST", "http://127.0.0.1:26086/query", "--data-urlencode", "q=create database pmu")
+
+    def begin(self):
+        self.server = run("influxd", "-config", f"{self.folder}/influx.conf")
+
+    def stop(self):
+        self.server.terminate()
+        self.server.wait()
+
+    def rows(self, measurement):
+        found = json.loads(done("curl", "-sSfG", "http://127.0.0.1:26086/query", "--data-urlencode", "db=pmu", "--data-urlencode", f"q=select * from {measurement}"))
+        for it in found["results"][0].get("series", []):
+            for row in it["values"]:
+                yield dict(zip(it["columns"], row))
+
+    def lines(self):
+        time.sleep(5)
+        lines = [{"type": "data", **row, "idcode": int(row["idcode"])} for row in self.rows("pmu")]
+        lines += [{"type": "gap", **row} for row in self.rows("pmu_gap")]
+        return sorted(lines, key=lambda it: it["time"])
+
+    def end(self):
+        self.stop()
+
+
+def judge(lines, may_come_again):
+    """Whether the data lines and the gaps are all slots, each once; some brokers deliver a line again."""
+    wrong, seen, gaps = 0, {}, {}
+    for line in lines:
+        if line["type"] == "data" and line["idcode"] == 7:
+            before = seen.get(slot(line["time"]))
+            if before:
+                print(f"twice: {line['time']}")
+                wrong += not may_come_again or before != line
+            seen[slot(line["time"])] = line
+        elif line["type"] == "gap":
+            at = slot(line["time"])
+            gaps[at] = gaps.get(at, 0) + int(line["slots"])
+            print(f"gap before {line['time']}: {line['slots']} slots, {line['why']}")
+    slots = sorted(seen)
+    for before, after in zip(slots, slots[1:]):
+        if after - before - 1 != gaps.get(after, 0):
+            print(f"between the slots {before} and {after} are {after - before - 1}, and in gaps {gaps.get(after, 0)}")
+            wrong += 1
+    other = sum(1 for line in lines if line["type"] == "data" and line["idcode"] == 8)
+    print(f"{len(lines)} lines; {len(slots)} data lines of PMU 7, {other} of PMU 8, {sum(gaps.values())} slots in gaps, {wrong} wrong")
+    return not wrong and len(slots) > 20 * RATE
+
+
+def main():
+    kinds = {"mosquitto": Mosquitto, "kafka": Kafka, "postgresql": Postgresql, "influxdb": Influxdb}
+    if len(sys.argv) != 3 or sys.argv[2] not in kinds:
+        sys.exit(__doc__)
+    program, held = os.path.abspath(sys.argv[1]), []
+    with tempfile.TemporaryDirectory() as folder:
+        broker = kinds[sys.argv[2]](folder)
+        try:
+            with open(f"{folder}/setup.toml", "w", encoding="utf-8") as file:
+                file.write(SETUP.replace("FOLDER", folder))
+            gateway = lambda: run(program, "run", "--setup", f"{folder}/setup.toml")
+            ctl = lambda line: done(program, "ctl", "--control", f"{folder}/control", line)
+            held = [run(program, "simulate", "--listen", "127.0.0.1:26712", "--pmus", "2", "--rate", str(RATE)), gateway()]
+            time.sleep(2)
+            words = f"{program} bridge 127.0.0.1:26801 --stream {STREAM} {' '.join(broker.options)} | {broker.client}"
+            held.append(run("bash", "-o", "pipefail", "-c", words, stderr=None, start_new_session=True))
+            for what, do in (("starts", lambda: None), ("the broker stops", broker.stop), ("the broker begins", broker.begin), ("PMU 8 is revoked", lambda: ctl("revoke 1 7/8")),
+                             ("PMU 8 is granted", lambda: ctl("grant 1 7/8")), ("the gateway is stopped (SIGSTOP)", lambda: held[1].send_signal(signal.SIGSTOP)),
+                             ("the gateway goes on", lambda: held[1].send_signal(signal.SIGCONT)), ("the gateway is killed", held[1].kill)):
+                print(what, flush=True)
+                do()
+                time.sleep(6)
+            held.append(gateway())
+            print("the gateway begins", flush=True)
+            time.sleep(10)
+            is_well = judge(broker.lines(), broker.may_come_again)
+        finally:
+            for it in held:
+                try:
+                    os.killpg(it.pid, signal.SIGKILL) if it is held[2] else it.kill()
+                except (ProcessLookupError, IndexError):
+                    pass
+            broker.end()
+    sys.exit(not is_well)
+
+
+if __name__ == "__main__":
+    main()
