@@ -1,11 +1,12 @@
 #!/usr/bin/env python3
 """Tries `pdcgw bridge` with real brokers and databases, which are stopped and started meanwhile, as the gateway is, and a PMU that is revoked and granted.
 
-    python3 bench/bridges.py PROGRAM mosquitto|kafka|postgresql|influxdb
+    python3 bench/bridges.py PROGRAM mosquitto|kafka|postgresql|influxdb|redis
 
 What arrived is read back: the slots of the data lines of PMU 7 and those of the gaps have to be all slots of the stream from the first line to the last, and
 none twice, but for what a broker delivers at least once and the same again. Each line has to be one of its format. It prints what came and which gaps, and ends with status 1 where this is not so. Of Debian's packages it
-needs mosquitto and mosquitto-clients, or kafkacat (whose own mock of a broker stands for Kafka), or postgresql, or influxdb and curl. Run as root it starts
+needs mosquitto and mosquitto-clients, or kafkacat (whose own mock of a broker stands for Kafka), or postgresql, or influxdb and curl, or redis-server and
+redis-tools. Run as root it starts
 PostgreSQL as the user postgres.
 """
 import json
@@ -192,6 +193,32 @@ class Influxdb:
         self.stop()
 
 
+class Redis:
+    options, may_come_again = ["--format", "json"], False
+    client = f"{FILES}/in-batches.sh 60 {FILES}/to-redis.sh"
+
+    def __init__(self, folder):
+        self.folder = folder
+        os.environ["REDIS_URL"] = "redis://127.0.0.1:26379"
+        self.begin()
+        time.sleep(1)
+
+    def begin(self):
+        self.server = run("redis-server", "--port", "26379", "--bind", "127.0.0.1", "--dir", self.folder, "--appendonly", "yes", "--appendfsync", "always")
+
+    def stop(self):
+        self.server.terminate()
+        self.server.wait()
+
+    def lines(self):
+        time.sleep(5)
+        found = json.loads(done("redis-cli", "-u", os.environ["REDIS_URL"], "--json", "XRANGE", "pmu", "-", "+"))
+        return [json.loads(fields[1]) for _, fields in found]
+
+    def end(self):
+        self.stop()
+
+
 def judge(lines, may_come_again):
     """Whether the data lines and the gaps are all slots, each once; some brokers deliver a line again."""
     wrong, seen, gaps = 0, {}, {}
@@ -217,7 +244,7 @@ def judge(lines, may_come_again):
 
 
 def main():
-    kinds = {"mosquitto": Mosquitto, "kafka": Kafka, "postgresql": Postgresql, "influxdb": Influxdb}
+    kinds = {"mosquitto": Mosquitto, "kafka": Kafka, "postgresql": Postgresql, "influxdb": Influxdb, "redis": Redis}
     if len(sys.argv) != 3 or sys.argv[2] not in kinds:
         sys.exit(__doc__)
     program, held = os.path.abspath(sys.argv[1]), []

@@ -37,13 +37,10 @@ gzip -9n "$root/usr/share/doc/pdcgw/changelog" "$root/usr/share/man/man8/pdcgw.8
 put "$top/README.md" usr/share/doc/pdcgw/README.md
 put "$top/CHANGELOG.md" usr/share/doc/pdcgw/CHANGELOG.md
 put "$top/LICENSE" usr/share/doc/pdcgw/LICENSE
-for page in "$top"/docs/*.md "$top"/docs/*.toml "$top"/docs/*.svg "$top"/docs/*.png; do
-    [ ! -e "$page" ] || put "$page" "usr/share/doc/pdcgw/docs/$(basename "$page")"
+for file in "$top"/docs/*.* "$top"/docs/setups/* "$top"/docs/integration/*; do
+    put "$file" "usr/share/doc/pdcgw/${file#"$top"/}"
 done
-
-for setup in "$top"/docs/setups/*.toml; do
-    [ ! -e "$setup" ] || put "$setup" "usr/share/doc/pdcgw/docs/setups/$(basename "$setup")"
-done
+chmod 755 "$root"/usr/share/doc/pdcgw/docs/integration/*.sh
 
 mkdir "$root/DEBIAN"
 for script in postinst prerm postrm; do install -m 755 "$here/$script" "$root/DEBIAN/$script"; done

@@ -743,13 +743,13 @@ class Bench:
                     continue
                 return port
 
-    def source(self, idcode, host="127.0.0.1", **keys):
-        made = Source(idcode, host, self.port(), **keys)
+    def source(self, idcode, host="127.0.0.1", port=None, **keys):
+        made = Source(idcode, host, port or self.port(), **keys)
         self.made.append(made)
         return made
 
-    def live(self, idcode, host="127.0.0.1", **keys):
-        made = LiveSource(idcode, host, self.port(), **keys)
+    def live(self, idcode, host="127.0.0.1", port=None, **keys):
+        made = LiveSource(idcode, host, port or self.port(), **keys)
         self.made.append(made)
         return made
 

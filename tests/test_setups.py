@@ -7,6 +7,37 @@ from test_startup import printed
 FAULTS = r"""
 [[pmu]]
 id = 7
+connect = []
+[[pmu]]
+id = 8
+connect = ["10.0.0.1:4712", "h:1", "h:2", "h:3", "h:4"]
+[[pmu]]
+id = 9
+connect = ["10.0.0.1:4712", "10.0.0.256:4712"]
+[[pmu]]
+id = 10
+connect = 4712
+prefer_first = 1
+[[pmu]]
+id = 11
+prefer_first = true
+[[pmu]]
+id = 12
+source = 11
+prefer_first = false
+[[subscriber]]
+id = 1
+ring = 64
+=>
+3: pmu.connect: is a list with 0 items; it has to be a text "A.B.C.D:PORT" or "NAME:PORT", or a list of 1 to 4 of these
+6: pmu.connect: is a list with 5 items; it has to be a text "A.B.C.D:PORT" or "NAME:PORT", or a list of 1 to 4 of these
+9: pmu.connect: item 2 is the text "10.0.0.256:4712"; it has to be a text "A.B.C.D:PORT" or "NAME:PORT", or a list of 1 to 4 of these
+12: pmu.connect: is 4712; it has to be a text "A.B.C.D:PORT" or "NAME:PORT", or a list of 1 to 4 of these
+13: pmu.prefer_first: is 1; it has to be true or false
+20: pmu.prefer_first: differs from another table of source 11; all its tables have to agree
+----
+[[pmu]]
+id = 7
 
 [[subscriber]]
 id = 1
@@ -36,7 +67,7 @@ conect = "10.0.0.1:4712"
 id = 1
 ring = 64
 =>
-3: pmu.conect: unknown key; known keys: id, source, connect, silence, clock_ms, ahead_ms
+3: pmu.conect: unknown key; known keys: id, source, connect, prefer_first, silence, clock_ms, ahead_ms
 ----
 [[pmu]]
 id = 7
@@ -45,7 +76,7 @@ connect = "10.0.0.256:4712"
 id = 1
 ring = 64
 =>
-3: pmu.connect: is the text "10.0.0.256:4712"; it has to be a text "A.B.C.D:PORT" or "NAME:PORT"
+3: pmu.connect: is the text "10.0.0.256:4712"; it has to be a text "A.B.C.D:PORT" or "NAME:PORT", or a list of 1 to 4 of these
 ----
 [[pmu]]
 id = "7"
@@ -440,8 +471,8 @@ ring = 0
 1: serve: is 9; it has to be a whole number from 1 to 8
 2: log: is the text "[\\""; it has to be "error", "warn", "info" or "debug"
 3: ingest: is 9; it has to be a whole number from 1 to 8
-6: pmu.silenc: unknown key; known keys: id, source, connect, silence, clock_ms, ahead_ms
-7: pmu.extra: unknown key; known keys: id, source, connect, silence, clock_ms, ahead_ms
+6: pmu.silenc: unknown key; known keys: id, source, connect, prefer_first, silence, clock_ms, ahead_ms
+7: pmu.extra: unknown key; known keys: id, source, connect, prefer_first, silence, clock_ms, ahead_ms
 12: subscriber.other: unknown key; known keys: id, port, ring, bytes, grants, stream, address, allow, takeover, stall, idle, change
 13: subscriber.more: unknown key; known keys: id, port, ring, bytes, grants, stream, address, allow, takeover, stall, idle, change
 '''
@@ -533,6 +564,21 @@ port = 4800
 =>
 s.toml:3: warning: source 7: 127.0.0.1:4800 is the port of subscriber 1 of this gateway itself; give the address of the PMU or PDC
 s.toml:9: warning: source 9: 10.0.0.1:4712 is the address of source 8 too; give each source its own
+----
+[[pmu]]
+id = 7
+connect = ["10.0.0.1:4712", "b.example:1", "10.0.0.1:4712"]
+[[pmu]]
+id = 9
+prefer_first = true
+connect = ["b.example:1"]
+[[subscriber]]
+id = 1
+ring = 1
+=>
+s.toml:3: warning: source 7: 10.0.0.1:4712 is in connect twice; give each address once
+s.toml:6: warning: source 9: prefer_first without a second address in connect does nothing; add one, or leave prefer_first out
+s.toml:7: warning: source 9: b.example:1 is the address of source 7 too; give each source its own
 ----
 [[pmu]]
 id = 7
@@ -767,6 +813,10 @@ def test_what_would_run_by_a_setup(bench):
     is_checked(bench, text, 0, "1 source, 1 port; a tick every 10 ms; threads: 1 for sources, 1 for subscribers\n"
                "source 7: 1 PMU; connect h:1; silence 0 (never), clock_ms 1, ahead_ms 0 (never)\n"
                "subscriber 1: port 1 on 0.0.0.0, from any host; ring of 1 frame, 16777216 bytes\n", "")
+    text = '[[pmu]]\nid = 7\nconnect = ["10.0.0.1:1", "h:2"]\nprefer_first = true\n[[subscriber]]\nid = 1\nring = 1\n'
+    is_checked(bench, text, 0, "1 source, 0 ports; a tick every 10 ms; threads: 1 for sources, 1 for subscribers\n"
+               "source 7: 1 PMU; connect 10.0.0.1:1, h:2; prefer_first; silence 10 s, ahead_ms 200\n"
+               "subscriber 1: no port; ring of 1 frame, 16777216 bytes\n", "")
     tick = "s.toml:1: tick_ms: is 0; it has to be a whole number from 1 to 1000\n"
     is_checked(bench, "tick_ms = 0\npmu = []\nsubscriber = []\n", 1, "", tick + "pdcgw: 37 BadSetup\n")
 

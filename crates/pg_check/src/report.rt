@@ -100,7 +100,28 @@ pub(crate) fn report_of(alloc: Global, setup: &Setup) -> Result<String, AllocErr
     Ok(report)
 }
 
-/// A source: its PMUs, its address, and its rules by their keys; `clock_ms` where it is given.
+/// Adds where a source is connected to, in the order in which its addresses are tried.
+fn push_addresses(
+    alloc: Global,
+    line: &mut String,
+    source: &SourceSetup,
+) -> Result<(), AllocError> {
+    if source.connect.is_empty() {
+        return line.push_str("no connect");
+    }
+    let mut before = "connect ";
+    for address in &source.connect {
+        let connect = format!(in alloc; "{before}{address}")?;
+        line.push_str(connect.as_str())?;
+        before = ", ";
+    }
+    if source.rules.prefer_first {
+        line.push_str("; prefer_first")?;
+    }
+    Ok(())
+}
+
+/// A source: its PMUs, its addresses, and its rules by their keys; `clock_ms` where it is given.
 fn source_line(alloc: Global, setup: &Setup, source: &SourceSetup) -> Result<String, AllocError> {
     let rules = source.rules;
     let pmus = setup.pmus.iter().filter(|key| key.source == rules.source);
@@ -109,13 +130,7 @@ fn source_line(alloc: Global, setup: &Setup, source: &SourceSetup) -> Result<Str
         rules.source.get(),
         Count(pmus.count(), "PMU")
     )?;
-    match &source.connect {
-        Some(address) => {
-            let connect = format!(in alloc; "connect {address}")?;
-            line.push_str(connect.as_str())?;
-        }
-        None => line.push_str("no connect")?,
-    }
+    push_addresses(alloc, &mut line, source)?;
     let silence = match rules.silence {
         0 => format!(in alloc; "; silence 0 (never)")?,
         seconds => format!(in alloc; "; silence {seconds} s")?,

@@ -99,29 +99,55 @@ impl Search<'_> {
         for source in &setup.sources {
             let number = source.rules.source;
             let table = source_table(setup, number);
-            match &source.connect {
-                Some(address) => self.look_at_address(table, number, address)?,
-                None => {
-                    let what = format!(in self.alloc;
-                        "source {}: none of its tables has connect, so no connection is made; add connect to one",
-                        number.get()
-                    )?;
-                    self.warn(table, "connect", what.as_str())?;
-                }
+            if source.connect.is_empty() {
+                let what = format!(in self.alloc;
+                    "source {}: none of its tables has connect, so no connection is made; add connect to one",
+                    number.get()
+                )?;
+                self.warn(table, "connect", what.as_str())?;
             }
+            for (place, address) in source.connect.iter().enumerate() {
+                self.look_at_address(table, source, place, address)?;
+            }
+            self.look_at_preference(table, source)?;
             self.look_at_clock(table, &source.rules)?;
         }
         Ok(())
     }
 
-    /// Looks at the address of a source: whether a source before it, or a port of this gateway, has the same.
+    /// Looks at whether a source that goes back to its first address has another one.
+    fn look_at_preference(
+        &mut self,
+        table: SetupTable,
+        source: &SourceSetup,
+    ) -> Result<(), AllocError> {
+        if source.rules.prefer_first && source.connect.len() < 2 {
+            let what = format!(in self.alloc;
+                "source {}: prefer_first without a second address in connect does nothing; add one, or leave prefer_first out",
+                source.rules.source.get()
+            )?;
+            self.warn(table, "prefer_first", what.as_str())?;
+        }
+        Ok(())
+    }
+
+    /// Looks at an address of a source: whether it is there twice, or a source before it, or a port of this gateway, has the same.
     fn look_at_address(
         &mut self,
         table: SetupTable,
-        source: PmuId,
+        own: &SourceSetup,
+        place: usize,
         address: &SourceAddress,
     ) -> Result<(), AllocError> {
         let setup = self.setup;
+        let source = own.rules.source;
+        if own.connect.iter().take(place).any(|it| it == address) {
+            let what = format!(in self.alloc;
+                "source {}: {address} is in connect twice; give each address once",
+                source.get()
+            )?;
+            self.warn(table, "connect", what.as_str())?;
+        }
         let mut same = setup.sources.iter().filter(|it| has_address(it, address));
         let first = same.next().map(|it| it.rules.source);
         if let Some(other) = first.filter(|first| *first != source) {
@@ -320,10 +346,7 @@ fn meet(one: Ipv4Addr, other: Ipv4Addr) -> bool {
 
 /// Whether a source is connected to at this address.
 fn has_address(source: &SourceSetup, address: &SourceAddress) -> bool {
-    match &source.connect {
-        Some(own) => own == address,
-        None => false,
-    }
+    source.connect.iter().any(|own| own == address)
 }
 
 /// Whether this is the address of the subscriber's own port, on this host.

@@ -20,7 +20,7 @@ next f [] i x lt is = absurd (omega arith)
 next f (y ∷ ys) zero x lt is = ap (λ z. f z ∷ map f ys) (sym is)
 next f (y ∷ ys) (suc i) x lt is = next f ys i x (omega arith) is
 
-next-one : {A : Type 0} (f : A → Part) (xs : List A) (i : ℕ) (x : A) → i < length xs → x ≡ get_or xs i x → drop i (map f xs) ≡ f x ∷ drop (i + 1) (map f xs)
+pub next-one : {A : Type 0} (f : A → Part) (xs : List A) (i : ℕ) (x : A) → i < length xs → x ≡ get_or xs i x → drop i (map f xs) ≡ f x ∷ drop (i + 1) (map f xs)
 next-one f xs i x lt is = next f xs i x lt is ∙ ap (λ n. f x ∷ drop n (map f xs)) (let one : suc i ≡ i + 1 = omega arith in one)
 
 -- no PMU is left

@@ -9,3 +9,4 @@ pub mod Spells
 pub mod Copying
 pub mod Written
 pub mod Owned
+pub mod Sourcing

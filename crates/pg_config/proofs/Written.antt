@@ -20,7 +20,7 @@ use Rattle.pg_config.proofs.Spells.{spelled-read}
 
 -- ---- bytes
 
-both-in_bytes : (front rest : List ℕ) → InBytes front → InBytes rest → InBytes (front ++ rest)
+pub both-in_bytes : (front rest : List ℕ) → InBytes front → InBytes rest → InBytes (front ++ rest)
 both-in_bytes front rest low range i = elim (cases_lt i (length front)) [
   | inl there ↦ subst (λ n. n < 256) (sym (get_or_append_left front rest 0 i there)) (low i)
   | inr past ↦ subst (λ n. n < 256) (sym (get_or-append_right front rest (length front) i 0 refl past)) (range (i - length front))
@@ -29,12 +29,12 @@ both-in_bytes front rest low range i = elim (cases_lt i (length front)) [
 last_byte : (n : ℕ) → n % 256 < 256
 last_byte n = omega arith
 
-two-in_bytes : (n : ℕ) → InBytes (to_be_bytes w16 n)
+pub two-in_bytes : (n : ℕ) → InBytes (to_be_bytes w16 n)
 two-in_bytes n zero = last_byte (n / 256)
 two-in_bytes n (suc zero) = last_byte n
 two-in_bytes n (suc (suc i)) = lit< tt
 
-four-in_bytes : (n : ℕ) → InBytes (to_be_bytes w32 n)
+pub four-in_bytes : (n : ℕ) → InBytes (to_be_bytes w32 n)
 four-in_bytes n zero = last_byte (n / 16777216)
 four-in_bytes n (suc zero) = last_byte (n / 65536)
 four-in_bytes n (suc (suc zero)) = last_byte (n / 256)
@@ -46,7 +46,7 @@ joined-in_bytes [] range = λ i. lit< tt
 joined-in_bytes (b ∷ bs) range = both-in_bytes b (joined bs) (All-head InBytes b bs range) (joined-in_bytes bs (All-tail InBytes b bs range))
 
 -- blocks that a reader takes are not long
-joined-short : (blocks : List (List ℕ)) → All IsBlock blocks → length (joined blocks) ≤ 2000 * length blocks
+pub joined-short : (blocks : List (List ℕ)) → All IsBlock blocks → length (joined blocks) ≤ 2000 * length blocks
 joined-short [] is = omega arith
 joined-short (b ∷ bs) is =
     let first : length b ≤ 2000 = (All-head IsBlock b bs is).bounded in

@@ -7,5 +7,7 @@ pub mod Reading
 pub mod Writing
 -- One PMU's own block among those of a frame.
 pub mod Own
+-- What a writer gives of a source's own configuration.
+pub mod Sourced
 -- Only private contracts and proofs use this.
 pub mod Looking

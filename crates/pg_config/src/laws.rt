@@ -1,12 +1,14 @@
 //! Laws of configuration frames, as contracts of functions that do nothing.
 
-ghost use Rattle.std.specs.Prelude.{◌≡◌, ℕ, ◌<◌, pos, List, ◌++◌, length, map, All, Ok};
+ghost use Rattle.std.specs.Prelude.{◌≡◌, ℕ, ◌<◌, ◌^◌, pos, List, ◌++◌, length, map, All, Ok, slice_index};
 ghost use Rattle.std.specs.Int.{w16, to_be_bytes};
 ghost use Rattle.pg_wire.specs.declared.kind.Kind.{Kind};
+ghost use Rattle.pg_wire.specs.Head.{IsFrame};
 ghost use Rattle.pg_wire.specs.Heads.{ended};
 ghost use Rattle.pg_wire.specs.Stream.{joined};
 ghost use Rattle.pg_config.specs.declared.source.Announced.{Announced};
-ghost use Rattle.pg_config.specs.Parts.{Part, IsSource};
+ghost use Rattle.pg_config.specs.Parts.{Part, Source, IsSource};
+ghost use Rattle.pg_config.specs.Sourced.{source_frame, IsOfRate};
 ghost use Rattle.pg_config.specs.Reading.{base_at, rate_at, frame_blocks, config_of};
 ghost use Rattle.pg_config.specs.Spelling.{SpellsConfig};
 ghost use Rattle.pg_config.specs.Writing.{CanWrite, IsReadable, ReadsAsWritten, ReadsBack, block_with_count, config_start, config_frame, written_part, announced_with};
@@ -52,4 +54,13 @@ pub fn own_block_alone()
         → frame_blocks f ≡ Ok blocks → frame_blocks g ≡ Ok others
         → base_at f ≡ base_at g → rate_at f ≡ rate_at g → own_block pmu blocks ≡ own_block pmu others
         → own_part pmu a.config.parts ≡ own_part pmu b.config.parts }
+{}
+
+/// What is written of a source's own configuration, each block with its own CFGCNT, is a frame, and is read as that
+/// configuration, whatever its rate.
+pub fn source_is_read()
+    ensures read { (base rate : ℕ) (s : Source) → IsSource s → s.source < 2 ^ 16 → IsOfRate base rate s
+        → config_of (source_frame base rate s) ≡ Ok (announced_with Kind.CfgTwo s.source s.parts) }
+    ensures frame { (base rate : ℕ) (s : Source) → IsSource s → s.source < 2 ^ 16
+        → All (λ p. (i : ℕ) → slice_index p.block i < 256) s.parts → IsFrame (source_frame base rate s) }
 {}

@@ -8,8 +8,9 @@ mod source;
 mod write;
 
 pub use laws::{
-    filled_is_frame, output_is_read, own_block_alone, written_is_read, written_is_spelled,
+    filled_is_frame, output_is_read, own_block_alone, source_is_read, written_is_read,
+    written_is_spelled,
 };
 pub use read::read_config;
 pub use source::{Announced, PmuConfig, SourceConfig};
-pub use write::{end_config, start_config, write_config, write_header};
+pub use write::{end_config, start_config, write_config, write_header, write_source};

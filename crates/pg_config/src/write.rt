@@ -1,17 +1,19 @@
 //! The writers of configuration frames and header frames.
 
-ghost use Rattle.std.specs.Prelude.{◌≡◌, ◌⊎◌, ℕ, ◌+◌, ◌^◌, ◌<◌, ◌≤◌, ◌++◌, length, map, All, IfOk, IfErr, vec_len, vec_capacity};
+ghost use Rattle.std.specs.Prelude.{◌≡◌, ◌⊎◌, ℕ, ◌+◌, ◌^◌, ◌<◌, ◌≤◌, ◌++◌, length, map, All, IfOk, IfErr, OnOk, Ok, slice_index, vec_len, vec_capacity};
 ghost use Rattle.std.specs.Arc.{arc_value};
 ghost use Rattle.std.specs.Int.{w16, to_be_bytes};
-ghost use Rattle.pg_wire.specs.Head.{frame_of};
+ghost use Rattle.pg_wire.specs.Head.{IsFrame, frame_of};
 ghost use Rattle.pg_wire.specs.Heads.{heading_of, ended};
 ghost use Rattle.pg_wire.specs.Stream.{joined};
+ghost use Rattle.pg_config.specs.Reading.{config_of};
+ghost use Rattle.pg_config.specs.Sourced.{source_frame, IsOfRate};
 ghost use Rattle.pg_config.specs.Spelling.{SpellsHeader};
-ghost use Rattle.pg_config.specs.Writing.{reply_heading, block_with_count, config_start, config_frame};
+ghost use Rattle.pg_config.specs.Writing.{reply_heading, block_with_count, config_start, config_frame, announced_with};
 
-use crate::source::PmuConfig;
-use pg_wire::{Head, Kind, Refusal, StreamId, end_frame, start_frame};
-use std::alloc::Global;
+use crate::source::{PmuConfig, SourceConfig};
+use pg_wire::{Head, Kind, Refusal, StreamId, check, end_frame, start_frame};
+use std::alloc::{AllocError, Global};
 use std::sync::Arc;
 
 /// How many bytes a frame has beside its body.
@@ -147,5 +149,58 @@ pub fn write_header(alloc: Global, id: StreamId, soc: u32, text: &[u8]) -> Resul
     let mut frame = start_frame(alloc, &reply_head(Kind::Header, id, soc, size))?;
     frame.extend_from_slice(text)?;
     end_frame(&mut frame);
+    Ok(frame)
+}
+
+/// Adds the blocks of these PMUs as they are.
+fn push_blocks(frame: &mut Vec<u8>, parts: &[Arc<PmuConfig>]) -> Result<(), AllocError>
+    ensures bytes { OnOk result (frame.new.items ≡ frame.old.items ++ joined (map (λ p. p.block) (map arc_value parts.now))) }
+{
+    for part in parts {
+        frame.extend_from_slice(part.block.as_slice())?;
+    }
+    Ok(())
+}
+
+/// Ends a frame: adds CHK over all bytes that are there, each of which is below 256.
+fn add_check(frame: &mut Vec<u8>) -> Result<(), AllocError>
+    ensures bytes { OnOk result (frame.new.items ≡ ended frame.old.items) }
+    ensures octets { (i : ℕ) → slice_index frame.old.items i < 256 }
+{
+    let sum = check(frame);
+    frame.extend_from_slice(&sum.to_be_bytes())
+}
+
+/// The CFG-2 frame by which a source's own configuration is read again (C37.118.2, 6.4): of version 2 with SOC 0 and FRACSEC
+/// 0x0F000000, at its resolution and DATA_RATE, each block as it is, with its CFGCNT. The one refusal is `NoMemory`.
+pub fn write_source(alloc: Global, config: &SourceConfig) -> Result<Vec<u8>, Refusal>
+    ensures frame { IfOk result (λ v. (base rate : ℕ) × IsOfRate base rate config.now × (v.items ≡ source_frame base rate config.now)) }
+    // A link does not skip it.
+    ensures whole { IfOk result (λ v. IsFrame v.items) }
+    ensures read { IfOk result (λ v. config_of v.items ≡ Ok (announced_with Kind.CfgTwo config.now.source config.now.parts)) }
+    ensures memory { IfErr result (λ refusal. refusal ≡ Refusal.NoMemory) }
+{
+    let _count = config.count();
+    let parts = config.parts.as_slice();
+    let size = AROUND_BLOCKS + blocks_len(parts);
+    let Some(first) = parts.first() else {
+        unreachable!();
+    };
+    let rate = first.rate.cast_unsigned();
+    let head = Head {
+        kind: Kind::CfgTwo,
+        version: 2,
+        size,
+        id: config.source.get(),
+        soc: 0,
+        quality: UNLOCKED,
+        frac: 0,
+    };
+    let mut frame = start_frame(alloc, &head)?;
+    frame.extend_from_slice(&first.base.to_be_bytes())?;
+    frame.extend_from_slice(&(parts.len() as u16).to_be_bytes())?;
+    push_blocks(&mut frame, parts)?;
+    frame.extend_from_slice(&rate.to_be_bytes())?;
+    add_check(&mut frame)?;
     Ok(frame)
 }

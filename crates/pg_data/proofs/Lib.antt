@@ -5,3 +5,4 @@ pub mod Spellings
 pub mod Shares
 pub mod Sources
 pub mod Setting
+pub mod Framing

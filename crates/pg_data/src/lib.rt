@@ -7,6 +7,7 @@ mod frame;
 mod laws;
 mod read;
 mod shared;
+mod write;
 
 pub use filler::filler_into;
 pub use frame::DataFrame;
@@ -15,3 +16,4 @@ pub use laws::{
 };
 pub use read::{read_data, read_data_over};
 pub use shared::SharedBlock;
+pub use write::write_data;

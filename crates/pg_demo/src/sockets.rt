@@ -89,9 +89,12 @@ fn simulator<R: Net + Clock>(rt: &R, alloc: Global, place: u8) -> Result<(Simula
         Ok(simulator) => simulator,
         Err(error) => return Err(Fault::Tool(pg_tools::Fault::Bind(free, error))),
     };
+    let mut addresses = Vec::new(alloc);
+    addresses.push(Address::Known(simulator.address()?))?;
     let dial = Dial {
         source: source_id(settings.numbers.first)?,
-        address: Address::Known(simulator.address()?),
+        addresses,
+        prefer_first: false,
         silence: None,
         guards: Guards::none(),
     };

@@ -22,3 +22,5 @@ mod queue;
 mod rows;
 #[cfg(test)]
 mod stream;
+#[cfg(test)]
+mod writers;

@@ -125,3 +125,14 @@ fn one_seat_calls_twice(rt: HostRuntime) -> Result<(), Fail> {
     assert!(rt; counter.step(Add(5)) == u64::MAX && counter.step(Add(0)) == u64::MAX);
     Ok(())
 }
+
+// Each call tells how many came before it, also those that did not ask.
+#[test]
+fn calls_tell_their_places(rt: HostRuntime) -> Result<(), Fail> {
+    let (turns, seat) = Turnstile::new(rt.alloc(), Counter::new())?;
+    let (seat, three, first) = turns.call_placed(&rt, seat, Add(3));
+    let (seat, _) = turns.call(&rt, seat, Add(1));
+    let (_seat, eight, third) = turns.call_placed(&rt, seat, Add(4));
+    assert!(rt; three == 3 && first == 0 && eight == 8 && third == 2);
+    Ok(())
+}

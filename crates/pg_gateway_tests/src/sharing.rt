@@ -2,6 +2,7 @@
 ghost use Rattle.std.specs.Prelude.{◌≡◌};
 
 use crate::fixtures::{play, play_at_seat, shared};
+use pg_gateway::{Event, Gate};
 use pg_shared::{Named, Seat, Shared, SharedGate};
 use std::alloc::Global;
 use std::marker::Brand;
@@ -101,4 +102,27 @@ fn ticks_at_a_gate(rt: HostRuntime) {
     let alloc = rt.alloc();
     let (gateway, seat) = shared(&rt, alloc);
     ticks_by::<_, Brand>(&rt, alloc, &gateway, seat);
+}
+
+/// Posts at two gates in turn. Each gate tells the place of its own last post among all.
+fn places_by<R: Abort + Wait, N: Named>(rt: &R, gateway: &Shared, seat: Seat)
+    requires shared { gateway.now ≡ N.table }
+    requires seat { seat.table ≡ N.table }
+{
+    let (first, second) = gateway.split(seat);
+    let mut first = SharedGate::<R, N>::new(rt, gateway, first);
+    let mut second = SharedGate::<R, N>::new(rt, gateway, second);
+    assert!(rt; first.last_place().is_none());
+    let _ = first.post(Event::Tick(1));
+    assert!(rt; first.last_place() == Some(0) && second.last_place().is_none());
+    let _ = second.post(Event::Tick(2));
+    let _ = first.post(Event::Tick(3));
+    assert!(rt; first.last_place() == Some(2) && second.last_place() == Some(1));
+}
+
+#[test]
+fn gates_tell_places(rt: HostRuntime) {
+    let alloc = rt.alloc();
+    let (gateway, seat) = shared(&rt, alloc);
+    places_by::<_, Brand>(&rt, &gateway, seat);
 }

@@ -1,5 +1,5 @@
--- When a source is called, asked again and called anew. Times are nanoseconds of the monotonic clock.
-use Rattle.std.specs.Prelude.{ℕ, zero, suc, ◌-◌, ◌*◌, ◌/◌, min, max, ℤ, pos, negsuc, Bool, false, nat_le, nat_eq, if◌then◌else◌, Option, Some, None, option_map}
+-- When a source is called, and at which of its addresses; when it is asked again and called anew. Times are nanoseconds of the monotonic clock.
+use Rattle.std.specs.Prelude.{ℕ, zero, suc, ◌-◌, ◌*◌, ◌/◌, min, max, ℤ, pos, negsuc, Bool, false, nat_le, nat_lt, nat_eq, if◌then◌else◌, Option, Some, None, option_map}
 use Rattle.std.specs.Option.{option_map_or}
 use Rattle.std.specs.Duration.{max_nanos}
 use Rattle.pg_limits.specs.Calling.{longer}
@@ -32,7 +32,8 @@ pub record Span : Type 0 where
 
 -- a source's plan: what its line does, the pause in seconds, when it was called last, how long it may be silent, three periods of its
 -- frames, and what is waited for. Of its connection: the measurement for which it is asked again, when a byte came last, and the first
--- and the last measurement.
+-- and the last measurement. Of its addresses: how many it has, the place of the one that is called, and how many were tried since the
+-- last pause.
 pub record Plan : Type 0 where
   pub phase : Phase
   pub pause : ℕ
@@ -43,6 +44,9 @@ pub record Plan : Type 0 where
   pub ask : Awaited
   pub byte : ℕ
   pub measured : Option Span
+  pub addresses : ℕ
+  pub at : ℕ
+  pub tried : ℕ
 
 abbrev pub seconds : ℕ → ℕ
 seconds n = n * 1000000000
@@ -76,7 +80,7 @@ resting now p = awaiting now (max (seconds p.pause) (apart now p.called)) (recor
 
 -- ---- what happens
 
--- the plan of a source that is to be called at once
+-- the plan of a source with one address that is to be called at once
 abbrev pub begun : ℕ → Option ℕ → Plan
 begun now silence = record {
   phase = Resting;
@@ -88,7 +92,14 @@ begun now silence = record {
   ask = record { since = now; limit = seconds 3 };
   byte = now;
   measured = None;
+  addresses = 1;
+  at = 0;
+  tried = 0;
 }
+
+-- so many addresses, of which this one is called
+abbrev pub addressed : ℕ → ℕ → Plan → Plan
+addressed count at p = record p { addresses = count; at = at }
 
 abbrev pub calling : ℕ → ℕ → Plan → Plan
 calling limit now p = awaiting now (seconds limit) (record p { phase = Calling; called = Some now; measured = None })
@@ -134,8 +145,24 @@ abbrev pub is_proven : Option Span → Bool
 is_proven None = false
 is_proven (Some s) = nat_le (seconds 10) (s.last - s.first)
 
+-- a connection to the first address, in place of the one that stood
+abbrev pub first_made : ℕ → Plan → Plan
+first_made now p = made now (record p { called = Some now; at = 0; tried = 0 })
+
+-- the next address; the first one behind the last
+abbrev pub next_address : Plan → ℕ
+next_address p = if nat_lt p.at (p.addresses - 1) then suc p.at else 0
+
+-- Of the addresses so many were tried since the last pause, before this one.
+abbrev pub tried_before : Plan → ℕ
+tried_before p = if is_proven p.measured then 0 else p.tried
+
+-- Where others are not tried yet, the next one is called at once; else behind a pause.
 abbrev pub ended : ℕ → Plan → Plan
-ended now p = resting now (record p { pause = if is_proven p.measured then 0 else longer p.pause })
+ended now p =
+    if nat_lt (tried_before p) (p.addresses - 1)
+    then awaiting now 0 (record p { phase = Resting; pause = if is_proven p.measured then 0 else p.pause; at = next_address p; tried = suc (tried_before p) })
+    else resting now (record p { pause = if is_proven p.measured then 0 else longer p.pause; at = next_address p; tried = 0 })
 
 abbrev pub renewed : ℕ → Plan → Plan
 renewed now p = resting now (record p { pause = 0 })

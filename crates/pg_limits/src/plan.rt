@@ -1,9 +1,9 @@
-//! When a source is called, asked again and called anew.
+//! When a source is called, and at which of its addresses; when it is asked again and called anew.
 
 ghost use Rattle.std.specs.Prelude.{◌≡◌, option_map};
 ghost use Rattle.std.specs.Duration.{as_nanos};
 ghost use Rattle.std.specs.Time.{instant_nanos};
-ghost use Rattle.pg_limits.specs.Plans.{announced, apart, ask_in, ask_left, asked, asking, begun, called, calling, due_by, ended, is_proven, left_by, listening, made, measured, received, renewed, rested, resting, sought, three_periods};
+ghost use Rattle.pg_limits.specs.Plans.{addressed, announced, apart, ask_in, ask_left, asked, asking, begun, called, calling, due_by, ended, first_made, is_proven, left_by, listening, made, measured, next_address, received, renewed, rested, resting, sought, three_periods};
 
 use crate::deadline::Deadline;
 use crate::pause::Pause;
@@ -65,9 +65,9 @@ struct Span {
 ///   after 6, 12 seconds and so on. Where three periods of the source's DATA_RATE are longer than 3 seconds, they stand in their place.
 /// - After `silence` without a measurement, or three periods where these are longer, the source is called anew. An announcement counts as a
 ///   measurement only where it has no rate.
-/// - Behind a call that failed and a connection that ended comes a pause of 1 second, then 2, 4 and so on up to 30. A connection whose
-///   measurements lasted 10 seconds sets it back to none.
-/// - Two calls are a second apart at least.
+/// - Behind a call that failed and a connection that ended the next address is called at once, until all were tried. Then comes a pause of 1
+///   second, and of 2, 4 and so on up to 30 the next times. A connection whose measurements lasted 10 seconds sets it back to none.
+/// - Two calls of an address are a second apart at least.
 #[derive(Drop)]
 pub struct CallPlan {
     phase: Phase,
@@ -79,6 +79,10 @@ pub struct CallPlan {
     ask: Deadline,
     byte: Instant,
     measured: Option<Span>,
+    // How many addresses the source has, the place of the one that is called, and how many were tried since the last pause.
+    addresses: usize,
+    at: usize,
+    tried: usize,
 }
 
 impl Model for CallPlan {
@@ -89,7 +93,7 @@ impl Model for CallPlan {
 
     ghost Value = { Plan };
 
-    ghost view = { λ p. record { phase = p.phase; pause = p.pause; called = option_map instant_nanos p.called; silence = option_map as_nanos p.silence; periods = as_nanos p.periods; wait = option_map (λ d. record { since = instant_nanos d.last; limit = as_nanos d.limit }) p.wait; ask = record { since = instant_nanos p.ask.last; limit = as_nanos p.ask.limit }; byte = instant_nanos p.byte; measured = option_map (λ s. record { first = instant_nanos s.first; last = instant_nanos s.last }) p.measured } };
+    ghost view = { λ p. record { phase = p.phase; pause = p.pause; called = option_map instant_nanos p.called; silence = option_map as_nanos p.silence; periods = as_nanos p.periods; wait = option_map (λ d. record { since = instant_nanos d.last; limit = as_nanos d.limit }) p.wait; ask = record { since = instant_nanos p.ask.last; limit = as_nanos p.ask.limit }; byte = instant_nanos p.byte; measured = option_map (λ s. record { first = instant_nanos s.first; last = instant_nanos s.last }) p.measured; addresses = p.addresses; at = p.at; tried = p.tried } };
 }
 
 /// Three times the time from frame to frame of a DATA_RATE (C37.118.2, 6.4): frames per second where positive, seconds per
@@ -108,7 +112,7 @@ fn three_periods(rate: i16) -> Duration
 }
 
 impl CallPlan {
-    /// The plan of a source that is to be called at once. A connection may be silent for `silence`; `None` for ever.
+    /// The plan of a source with one address that is to be called at once. A connection may be silent for `silence`; `None` for ever.
     pub fn new(now: Instant, silence: Option<Duration>) -> CallPlan
         ensures { result ≡ begun (instant_nanos now) (option_map as_nanos silence) }
     {
@@ -128,7 +132,25 @@ impl CallPlan {
             },
             byte: now,
             measured: None,
+            addresses: 1,
+            at: 0,
+            tried: 0,
         }
+    }
+
+    /// The source has so many addresses, and this one is called, or is to be called next.
+    pub fn set_addresses(&mut self, count: usize, at: usize)
+        ensures { self.new ≡ addressed count at self.old }
+    {
+        self.addresses = count;
+        self.at = at;
+    }
+
+    /// The place of the address that is called, or is to be called next, among those of the source.
+    pub fn at(&self) -> usize
+        ensures { result ≡ self.now.at }
+    {
+        self.at
     }
 
     /// What the line is doing.
@@ -266,17 +288,53 @@ impl CallPlan {
         self.ask.limit = self.ask.limit.saturating_mul(2);
     }
 
-    /// The call failed or was given up, or the connection ended. There is no pause where its measurements lasted 10 seconds, and a longer
-    /// one else.
+    /// A connection to the first address was made, which takes the place of the one that stood.
+    pub fn first_made(&mut self, now: Instant)
+        ensures { self.new ≡ first_made (instant_nanos now) self.old }
+    {
+        self.called = Some(now);
+        self.at = 0;
+        self.tried = 0;
+        self.made(now);
+    }
+
+    /// The call failed or was given up, or the connection ended: the next address is to be called, at once where not all were tried since the
+    /// last pause. Else there is no pause where the connection's measurements lasted 10 seconds, and a longer one where they did not.
     pub fn ended(&mut self, now: Instant)
         ensures { self.new ≡ ended (instant_nanos now) self.old }
     {
-        self.pause = if self.is_proven() {
-            Pause::none()
+        let is_proven = self.is_proven();
+        let tried = if is_proven { 0 } else { self.tried };
+        let others = self.addresses.saturating_sub(1);
+        self.at = self.next_address();
+        if is_proven {
+            self.pause = Pause::none();
+        }
+        if tried < others {
+            self.tried = tried + 1;
+            self.phase = Phase::Resting;
+            self.wait = Some(Deadline {
+                last: now,
+                limit: Duration::ZERO,
+            });
         } else {
-            self.pause.longer()
-        };
-        self.pause_from(now);
+            self.tried = 0;
+            if !is_proven {
+                self.pause = self.pause.longer();
+            }
+            self.pause_from(now);
+        }
+    }
+
+    /// The place of the next address: the first behind the last.
+    fn next_address(&self) -> usize
+        ensures { result ≡ next_address self.now }
+    {
+        if self.at < self.addresses.saturating_sub(1) {
+            self.at + 1
+        } else {
+            0
+        }
     }
 
     /// The source is to be called anew, a second after it was called last.

@@ -142,13 +142,19 @@ pub enum LogEvent {
     Late = 61,
     /// They come in time again.
     Timely = 62,
+    /// The first address of a source sends its configuration again, and takes the place of another one.
+    FirstPreferred = 63,
+    /// A connection to the first address of a source could not be made, or ended before its configuration.
+    FirstNotMade = 64,
+    /// The first address of a source sent no configuration in time.
+    FirstSilent = 65,
 }
 
 /// The PMUs of a configuration at most.
 pub const MOST_PMUS: usize = 16;
 
 /// How many kinds of notices there are.
-const KINDS: usize = 63;
+const KINDS: usize = 66;
 
 impl LogEvent {
     /// The kinds that are counted without an entry; the log has their counts.
@@ -204,6 +210,8 @@ impl LogEvent {
             | LogEvent::DataError
             | LogEvent::Incomplete
             | LogEvent::Late
+            | LogEvent::FirstNotMade
+            | LogEvent::FirstSilent
             | LogEvent::Warned => Level::Warn,
             LogEvent::Called
             | LogEvent::Made
@@ -225,6 +233,7 @@ impl LogEvent {
             | LogEvent::DataGood
             | LogEvent::Complete
             | LogEvent::Timely
+            | LogEvent::FirstPreferred
             | LogEvent::Quit
             | LogEvent::Reloaded => Level::Info,
         }
@@ -324,11 +333,13 @@ impl Entry {
     }
 
     /// Whether both are of the same kind, concern the same and have the same reason, so that one line may report both. Addresses and times are
-    /// no reasons.
+    /// no reasons, but for the addresses at which a source is called.
     pub fn is_like(&self, other: &Entry) -> bool {
+        let is_address_apart = self.event == LogEvent::Called;
         self.event == other.event
             && self.subject == other.subject
-            && (self.detail == other.detail || self.detail.is_of_kind(&other.detail))
+            && (self.detail == other.detail
+                || (!is_address_apart && self.detail.is_of_kind(&other.detail)))
     }
 }
 

@@ -126,6 +126,10 @@ fn said(event: LogEvent) -> &'static str {
         LogEvent::Complete => "data frames come again:",
         LogEvent::Late => "data come later than `wait` allows:",
         LogEvent::Timely => "data come within `wait` again:",
+        LogEvent::FirstPreferred => "the first address answers again, and is used from now on",
+        LogEvent::FirstNotMade => "can't go back",
+        LogEvent::FirstSilent =>
+            "can't go back: the first address sent no configuration within 10 s; retrying in 60 s",
     }
 }
 
@@ -133,6 +137,7 @@ fn said(event: LogEvent) -> &'static str {
 fn after(event: LogEvent) -> &'static str {
     match event {
         LogEvent::NotMade => "; retrying",
+        LogEvent::FirstNotMade => "; retrying in 60 s",
         LogEvent::SocketFault => "; the connection is closed",
         LogEvent::SourceEnded => "; connecting again",
         LogEvent::NotAccepted => "; retrying in 1 s",

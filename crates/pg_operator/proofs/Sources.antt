@@ -2,12 +2,12 @@
 use Rattle.std.proofs.Common.{◌≡◌, ◌∙◌, sym, ap, refl, rules, eqb-true, ℕ, Bool, true, false, not, List, [], ◌∷◌, ◌++◌, Option, Some, None, option_map, append-nil}
 use Rattle.std.specs.Prelude.{◌==◌, ◌&&◌, ◌||◌, filter, option_and_then, option_to_list}
 use Rattle.std.specs.List.{list_any}
-use Rattle.std.specs.Option.{unwrap_or}
+use Rattle.std.specs.Option.{option_map_or, unwrap_or}
 use Rattle.std.proofs.lemmas.List.Folds.{list_any-append}
 use Rattle.pg_operator.proofs.Lists.{pushed, same_option}
 use Rattle.pg_operator.specs.declared.source.SourceRules.{SourceRules}
 use Rattle.pg_operator.specs.Addresses.{AddressValue}
-use Rattle.pg_operator.specs.Setups.{Pmu, SourceValue, agreed, every, once, rules_of, said, single, source_by}
+use Rattle.pg_operator.specs.Setups.{Pmu, SourceValue, agreed, bit, every, once, rules_of, said, single, source_by}
 
 -- ---- what two tables say together, and those that are left
 
@@ -59,27 +59,56 @@ none_left key source (Some v) = refl
 pub no_silence : (pmus : List Pmu) (source : ℕ) → agreed (said (λ p. p.silence) source pmus) ≡ None → rules_of pmus source ≡ None
 no_silence pmus source h = rw h refl
 
-clock_none : (f : Option ℕ → Option ℕ → Option SourceRules) (o : Option (Option ℕ)) → option_and_then (λ silence. option_and_then (f silence) None) o ≡ None
-clock_none f None = refl
-clock_none f (Some s) = refl
+-- what the four values make
+abbrev pub ruled : ℕ → Option ℕ → Option ℕ → Option ℕ → Option ℕ → SourceRules
+ruled source silence clock ahead first = record { source = source; silence = unwrap_or silence 10; clock_ms = clock; ahead_ms = unwrap_or ahead 200; prefer_first = option_map_or (λ b. b == 1) first false }
 
-pub no_clock : (pmus : List Pmu) (source : ℕ) → agreed (said (λ p. p.clock_ms) source pmus) ≡ None → rules_of pmus source ≡ None
+abbrev pub by_four : ℕ → Option (Option ℕ) → Option (Option ℕ) → Option (Option ℕ) → Option (Option ℕ) → Option SourceRules
+by_four source s c a f =
+    option_and_then (λ silence. option_and_then (λ clock. option_and_then (λ ahead. option_map (ruled source silence clock ahead) f) a) c) s
+
+clock_none : (source : ℕ) (s a f : Option (Option ℕ)) → by_four source s None a f ≡ None
+clock_none source None a f = refl
+clock_none source (Some s) a f = refl
+
+ahead_none : (source : ℕ) (s c f : Option (Option ℕ)) → by_four source s c None f ≡ None
+ahead_none source None c f = refl
+ahead_none source (Some s) None f = refl
+ahead_none source (Some s) (Some c) f = refl
+
+first_none : (source : ℕ) (s c a : Option (Option ℕ)) → by_four source s c a None ≡ None
+first_none source None c a = refl
+first_none source (Some s) None a = refl
+first_none source (Some s) (Some c) None = refl
+first_none source (Some s) (Some c) (Some a) = refl
+
+-- what the tables of a source say of each
+abbrev pub silence_of : List Pmu → ℕ → Option (Option ℕ)
+silence_of pmus source = agreed (said (λ p. p.silence) source pmus)
+
+abbrev pub clock_of : List Pmu → ℕ → Option (Option ℕ)
+clock_of pmus source = agreed (said (λ p. p.clock_ms) source pmus)
+
+abbrev pub ahead_of : List Pmu → ℕ → Option (Option ℕ)
+ahead_of pmus source = agreed (said (λ p. p.ahead_ms) source pmus)
+
+abbrev pub first_of : List Pmu → ℕ → Option (Option ℕ)
+first_of pmus source = agreed (said (λ p. option_map bit p.prefer_first) source pmus)
+
+pub no_clock : (pmus : List Pmu) (source : ℕ) → clock_of pmus source ≡ None → rules_of pmus source ≡ None
 no_clock pmus source h =
-    rw h (clock_none
-    (λ silence clock. option_map (λ ahead. record { source = source; silence = unwrap_or silence 10; clock_ms = clock; ahead_ms = unwrap_or ahead 200 })
-    (agreed (said (λ p. p.ahead_ms) source pmus)))
-    (agreed (said (λ p. p.silence) source pmus)))
+    ap (λ o. by_four source (silence_of pmus source) o (ahead_of pmus source) (first_of pmus source)) h
+    ∙ clock_none source (silence_of pmus source) (ahead_of pmus source) (first_of pmus source)
 
-ahead_none : (f : Option ℕ → Option ℕ → Option ℕ → SourceRules) (o q : Option (Option ℕ))
-    → option_and_then (λ silence. option_and_then (λ clock. option_map (f silence clock) None) q) o ≡ None
-ahead_none f None q = refl
-ahead_none f (Some s) None = refl
-ahead_none f (Some s) (Some c) = refl
-
-pub no_ahead : (pmus : List Pmu) (source : ℕ) → agreed (said (λ p. p.ahead_ms) source pmus) ≡ None → rules_of pmus source ≡ None
+pub no_ahead : (pmus : List Pmu) (source : ℕ) → ahead_of pmus source ≡ None → rules_of pmus source ≡ None
 no_ahead pmus source h =
-    rw h (ahead_none (λ silence clock ahead. record { source = source; silence = unwrap_or silence 10; clock_ms = clock; ahead_ms = unwrap_or ahead 200 })
-    (agreed (said (λ p. p.silence) source pmus)) (agreed (said (λ p. p.clock_ms) source pmus)))
+    ap (λ o. by_four source (silence_of pmus source) (clock_of pmus source) o (first_of pmus source)) h
+    ∙ ahead_none source (silence_of pmus source) (clock_of pmus source) (first_of pmus source)
+
+pub no_first : (pmus : List Pmu) (source : ℕ) → first_of pmus source ≡ None → rules_of pmus source ≡ None
+no_first pmus source h =
+    ap (λ o. by_four source (silence_of pmus source) (clock_of pmus source) (ahead_of pmus source) o) h
+    ∙ first_none source (silence_of pmus source) (clock_of pmus source) (ahead_of pmus source)
 
 -- ---- one address at most
 
@@ -98,22 +127,22 @@ both (Some a) None vs h = absurd (search (rules, h))
 both (Some a) (Some b) vs h = refl
 
 -- the address so far, and those of the tables that are left
-abbrev pub with_left : ℕ → Option AddressValue → List Pmu → Option (Option AddressValue)
+abbrev pub with_left : ℕ → Option (List AddressValue) → List Pmu → Option (Option (List AddressValue))
 with_left source seen ps = single (option_to_list seen ++ said (λ p. p.connect) source ps)
 
-pub own_address : (source : ℕ) (a c : Option AddressValue) (p : Pmu) (ps : List Pmu) → (p.key.source == source) ≡ true
+pub own_address : (source : ℕ) (a c : Option (List AddressValue)) (p : Pmu) (ps : List Pmu) → (p.key.source == source) ≡ true
     → single (option_to_list a ++ option_to_list p.connect) ≡ Some c → with_left source a (p ∷ ps) ≡ with_left source c ps
 own_address source a c p ps own h = rw own (one_or_other a p.connect c (said (λ q. q.connect) source ps) h)
 
-pub second_address : (source : ℕ) (a : Option AddressValue) (p : Pmu) (ps : List Pmu) → (p.key.source == source) ≡ true
+pub second_address : (source : ℕ) (a : Option (List AddressValue)) (p : Pmu) (ps : List Pmu) → (p.key.source == source) ≡ true
     → single (option_to_list a ++ option_to_list p.connect) ≡ None → with_left source a (p ∷ ps) ≡ None
 second_address source a p ps own h = rw own (both a p.connect (said (λ q. q.connect) source ps) h)
 
-pub other_address : (source : ℕ) (a : Option AddressValue) (p : Pmu) (ps : List Pmu) → (p.key.source == source) ≡ false
+pub other_address : (source : ℕ) (a : Option (List AddressValue)) (p : Pmu) (ps : List Pmu) → (p.key.source == source) ≡ false
     → with_left source a (p ∷ ps) ≡ with_left source a ps
 other_address source a p ps other = rw other refl
 
-pub no_address_left : (source : ℕ) (a : Option AddressValue) → with_left source a [] ≡ Some a
+pub no_address_left : (source : ℕ) (a : Option (List AddressValue)) → with_left source a [] ≡ Some a
 no_address_left source None = refl
 no_address_left source (Some v) = refl
 
@@ -166,23 +195,21 @@ own_source : (all : List Pmu) (s : ℕ) (r : SourceValue) → source_by all s �
 own_source all s r h = go (single (said (λ p. p.connect) s all)) (rules_of all s) refl h
   where
     of_rules : (q : SourceRules) → rules_of all s ≡ Some q → q.source ≡ s
-    of_rules q k = by (agreed (said (λ p. p.silence) s all)) (agreed (said (λ p. p.clock_ms) s all)) (agreed (said (λ p. p.ahead_ms) s all)) k
+    of_rules q k = by (silence_of all s) (clock_of all s) (ahead_of all s) (first_of all s) k
       where
-        by : (x y z : Option (Option ℕ))
-            → option_and_then (λ silence. option_and_then (λ clock. option_map (λ ahead. record { source = s; silence = unwrap_or silence 10; clock_ms = clock; ahead_ms = unwrap_or ahead 200 }) z) y) x ≡ Some q
-            → q.source ≡ s
-        by None y z k = absurd (search (rules, k))
-        by (Some a) None z k = absurd (search (rules, k))
-        by (Some a) (Some b) None k = absurd (search (rules, k))
-        by (Some a) (Some b) (Some c) k =
-            let e : record { source = s; silence = unwrap_or a 10; clock_ms = b; ahead_ms = unwrap_or c 200 } ≡ q = search (rules, k) in sym (ap (λ t. t.source) e)
+        by : (x y z v : Option (Option ℕ)) → by_four s x y z v ≡ Some q → q.source ≡ s
+        by None y z v k = absurd (search (rules, k))
+        by (Some a) None z v k = absurd (search (rules, k))
+        by (Some a) (Some b) None v k = absurd (search (rules, k))
+        by (Some a) (Some b) (Some c) None k = absurd (search (rules, k))
+        by (Some a) (Some b) (Some c) (Some d) k = let e : ruled s a b c d ≡ q = search (rules, k) in sym (ap (λ t. t.source) e)
 
-    go : (x : Option (Option AddressValue)) (y : Option SourceRules) → rules_of all s ≡ y
-        → option_and_then (λ connect. option_map (λ rules. record { connect = connect; rules = rules }) y) x ≡ Some r → r.rules.source ≡ s
+    go : (x : Option (Option (List AddressValue))) (y : Option SourceRules) → rules_of all s ≡ y
+        → option_and_then (λ connect. option_map (λ rules. record { connect = unwrap_or connect []; rules = rules }) y) x ≡ Some r → r.rules.source ≡ s
     go None y e k = absurd (search (rules, k))
     go (Some a) None e k = absurd (search (rules, k))
     go (Some a) (Some q) e k =
-        let same : record { connect = a; rules = q } ≡ r = search (rules, k) in sym (ap (λ t. t.rules.source) same) ∙ of_rules q e
+        let same : record { connect = unwrap_or a []; rules = q } ≡ r = search (rules, k) in sym (ap (λ t. t.rules.source) same) ∙ of_rules q e
 
 not_either : (a b : Bool) → (not a && not b) ≡ not (a || (b || false))
 not_either true b = refl

@@ -1,11 +1,12 @@
 -- What a setup file asks for, by its table.
 use Rattle.std.specs.Prelude.{ℕ, ◌==◌, ◌&&◌, ◌++◌, Bool, true, false, not, pos, List, [], ◌∷◌, length, map, filter, find, Option, Some, None, option_map, option_and_then, option_to_list, if◌then◌else◌, nat_lt, nat_le, codes, string_bytes}
-use Rattle.std.specs.List.{list_all, list_any}
+use Rattle.std.specs.List.{filter_map, list_all, list_any}
 use Rattle.std.specs.Net.Addr.{ipv4_bits}
 use Rattle.std.specs.Option.{option_map_or, unwrap_or}
 use Rattle.std.specs.Str.{bytes_eq}
 use Rattle.toml.specs.Data.{Data, string, integer, boolean, array, table, Items, no_items, item, Members, no_members, member, get_member}
 use Rattle.toml.specs.Parse.{parse_document}
+use Rattle.toml.specs.View.{view}
 use Rattle.pg_wire.specs.declared.ids.PmuKey.{PmuKey}
 use Rattle.pg_stream.specs.declared.definition.Definition.{Definition}
 use Rattle.pg_gateway.specs.declared.edit.Edit.{Edit}
@@ -13,6 +14,8 @@ use Rattle.pg_gateway.specs.declared.edit.Edit.TheVariants.{AddPmu, AddSub, Gran
 use Rattle.pg_limits.specs.Hosts.{Net}
 use Rattle.pg_limits.specs.declared.layouts.OnChange.{OnChange}
 use Rattle.pg_limits.specs.declared.layouts.OnChange.TheVariants as on_change
+use Rattle.pg_operator.specs.declared.address.CalledAddresses.{CalledAddresses}
+use Rattle.pg_operator.specs.declared.address.CalledAddresses.TheVariants as called_at
 use Rattle.pg_operator.specs.declared.port_rules.PortRules.{PortRules}
 use Rattle.pg_operator.specs.declared.port_rules.PortSetup.{PortSetup}
 use Rattle.pg_operator.specs.declared.general.GeneralKeys.{GeneralKeys}
@@ -76,6 +79,20 @@ abbrev pub address_in : Data → Option AddressValue
 address_in (string s) = address_of s
 address_in _ = None
 
+-- 1 to 4 addresses
+abbrev pub few_in : Items → Option (List AddressValue)
+few_in ds = option_and_then (λ many. if nat_le 1 (length many) && nat_le (length many) 4 then Some many else None) (each address_in ds)
+
+-- the addresses of a source: one, or a list of 1 to 4
+abbrev pub addresses_in : Data → Option (List AddressValue)
+addresses_in (array ds) = few_in ds
+addresses_in d = option_map (λ a. a ∷ []) (address_in d)
+
+-- the same, of addresses that were read
+abbrev pub called_values : CalledAddresses → List AddressValue
+called_values (called_at.One a) = called_value a ∷ []
+called_values (called_at.List vs) = filter_map (λ v. address_in (view v)) vs.now
+
 abbrev pub host_text_in : Data → Option ℕ
 host_text_in (string s) = host_in s
 host_text_in _ = None
@@ -96,32 +113,34 @@ abbrev pub boolean_in : Data → Option Bool
 boolean_in (boolean b) = Some b
 boolean_in _ = None
 
--- ---- `[[pmu]]`: its key, the address of its source, and what it says of its source
+-- ---- `[[pmu]]`: its key, the addresses of its source, and what it says of its source
 
 pub record Pmu : Type 0 where
   pub key : PmuKey
-  pub connect : Option AddressValue
+  pub connect : Option (List AddressValue)
+  pub prefer_first : Option Bool
   pub silence : Option ℕ
   pub clock_ms : Option ℕ
   pub ahead_ms : Option ℕ
 
 -- the same, of a table that was read
 abbrev pub told : PmuTable → Pmu
-told p = record { key = p.key; connect = option_map called_value p.connect; silence = p.silence; clock_ms = p.clock_ms; ahead_ms = p.ahead_ms }
+told p = record { key = p.key; connect = option_map called_values p.connect; prefer_first = p.prefer_first; silence = p.silence; clock_ms = p.clock_ms; ahead_ms = p.ahead_ms }
 
 abbrev pub pmu_by : Members → Option Pmu
 pmu_by ms =
-    option_and_then (λ id. option_and_then (λ source. option_and_then (λ connect. option_and_then (λ silence. option_and_then (λ clock. option_map
-    (λ ahead. record { key = key_of source id; connect = connect; silence = silence; clock_ms = clock; ahead_ms = ahead })
+    option_and_then (λ id. option_and_then (λ source. option_and_then (λ connect. option_and_then (λ first. option_and_then (λ silence. option_and_then (λ clock. option_map
+    (λ ahead. record { key = key_of source id; connect = connect; prefer_first = first; silence = silence; clock_ms = clock; ahead_ms = ahead })
     (absent_or (whole_in 0 30000) (codes "ahead_ms") ms))
     (absent_or (whole_in 1 30000) (codes "clock_ms") ms))
     (absent_or (whole_in 0 3600) (codes "silence") ms))
-    (absent_or address_in (codes "connect") ms))
+    (absent_or boolean_in (codes "prefer_first") ms))
+    (absent_or addresses_in (codes "connect") ms))
     (optional id (whole_in 1 65534) (codes "source") ms))
     (required (whole_in 1 65534) (codes "id") ms)
 
 abbrev pub pmu_names : List Text
-pmu_names = codes "id" ∷ codes "source" ∷ codes "connect" ∷ codes "silence" ∷ codes "clock_ms" ∷ codes "ahead_ms" ∷ []
+pmu_names = codes "id" ∷ codes "source" ∷ codes "connect" ∷ codes "prefer_first" ∷ codes "silence" ∷ codes "clock_ms" ∷ codes "ahead_ms" ∷ []
 
 abbrev pub pmu_in : Data → Option Pmu
 pmu_in (table ms) = only pmu_names pmu_by ms
@@ -144,11 +163,18 @@ abbrev pub agreed : List ℕ → Option (Option ℕ)
 agreed [] = Some None
 agreed (v ∷ vs) = if list_all (λ w. w == v) vs then Some (Some v) else None
 
--- a source is silent after 10 seconds, has no clock guard, and may be 200 milliseconds ahead, where its tables say nothing of it
+-- a truth value as a number
+abbrev pub bit : Bool → ℕ
+bit true = 1
+bit false = 0
+
+-- a source is silent after 10 seconds, has no clock guard, may be 200 milliseconds ahead, and does not go back to its first address, where
+-- its tables say nothing of it
 abbrev pub rules_of : List Pmu → ℕ → Option SourceRules
 rules_of pmus source =
-    option_and_then (λ silence. option_and_then (λ clock. option_map
-    (λ ahead. record { source = source; silence = unwrap_or silence 10; clock_ms = clock; ahead_ms = unwrap_or ahead 200 })
+    option_and_then (λ silence. option_and_then (λ clock. option_and_then (λ ahead. option_map
+    (λ first. record { source = source; silence = unwrap_or silence 10; clock_ms = clock; ahead_ms = unwrap_or ahead 200; prefer_first = option_map_or (λ b. b == 1) first false })
+    (agreed (said (λ p. option_map bit p.prefer_first) source pmus)))
     (agreed (said (λ p. p.ahead_ms) source pmus)))
     (agreed (said (λ p. p.clock_ms) source pmus)))
     (agreed (said (λ p. p.silence) source pmus))
@@ -157,14 +183,14 @@ abbrev pub every : {X Y : Type 0} → (X → Option Y) → List X → Option (Li
 every read [] = Some []
 every read (x ∷ xs) = option_and_then (λ y. option_map (λ ys. y ∷ ys) (every read xs)) (read x)
 
--- where a source is connected to, if it is, and how it is watched
+-- where a source is connected to, which is nowhere where there is no address, and how it is watched
 pub record SourceValue : Type 0 where
-  pub connect : Option AddressValue
+  pub connect : List AddressValue
   pub rules : SourceRules
 
 -- the same, of a source that was read
 abbrev pub source_value : SourceSetup → SourceValue
-source_value s = record { connect = option_map address_value s.connect; rules = s.rules }
+source_value s = record { connect = map address_value s.connect.items; rules = s.rules }
 
 -- the one value that there is, or nothing where there is none; there may not be two
 abbrev pub single : {X : Type 0} → List X → Option (Option X)
@@ -174,7 +200,7 @@ single (x ∷ y ∷ ys) = None
 
 abbrev pub source_by : List Pmu → ℕ → Option SourceValue
 source_by pmus source =
-    option_and_then (λ connect. option_map (λ rules. record { connect = connect; rules = rules }) (rules_of pmus source)) (single (said (λ p. p.connect) source pmus))
+    option_and_then (λ connect. option_map (λ rules. record { connect = unwrap_or connect []; rules = rules }) (rules_of pmus source)) (single (said (λ p. p.connect) source pmus))
 
 -- in the order in which the PMUs first name them
 abbrev pub sources_of : List Pmu → Option (List SourceValue)

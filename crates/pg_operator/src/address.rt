@@ -1,13 +1,14 @@
 //! Names of hosts, addresses and networks, as the setup file writes them.
-ghost use Rattle.std.specs.Prelude.{◌≡◌, Some, None, IfOk, IfErr, option_map};
+ghost use Rattle.std.specs.Prelude.{◌≡◌, Some, None, IfOk, IfErr, is_some, map, option_map};
 ghost use Rattle.std.specs.Char.{is_ascii_digit};
 ghost use Rattle.std.specs.List.{list_all};
 ghost use Rattle.std.specs.Net.Addr.{ipv4_bits};
-ghost use Rattle.toml.specs.View.{view};
+ghost use Rattle.toml.specs.View.{items_view, view};
 ghost use Rattle.pg_lines.specs.Addresses.{endpoint};
 ghost use Rattle.pg_operator.specs.Addresses.{address_of, address_value, called_value, is_label, is_label_byte, is_name, labels_of, last_of, named_in, network_by, network_in};
-ghost use Rattle.pg_operator.specs.Setups.{address_in, endpoint_text_in, host_text_in, network_text_in};
+ghost use Rattle.pg_operator.specs.Setups.{address_in, addresses_in, called_values, endpoint_text_in, few_in, host_text_in, network_text_in};
 
+use crate::kind::CONNECT_LIMIT;
 use pg_limits::Network;
 use pg_lines::address::{endpoint, host, port};
 use pg_lines::words;
@@ -93,6 +94,15 @@ pub(crate) enum CalledAddress<'a> {
     Name(&'a str),
 }
 
+/// The addresses of a source, as the setup file writes them.
+#[derive(Clone, Copy)]
+pub(crate) enum CalledAddresses<'a> {
+    /// One.
+    One(CalledAddress<'a>),
+    /// A list of 1 to 4.
+    List(&'a [Value]),
+}
+
 /// Where a source is connected to.
 #[derive(Debug, Drop, PartialEq, Eq)]
 pub enum SourceAddress {
@@ -161,6 +171,66 @@ pub(crate) fn called(value: &Value) -> Option<CalledAddress<'_>>
         Value::String(text) => address_of(text.as_str()),
         _ => None,
     }
+}
+
+/// Whether this is an address.
+fn is_called(value: &Value) -> bool
+    ensures { result ≡ is_some (address_in (view value.now)) }
+{
+    called(value).is_some()
+}
+
+/// Whether each of these is an address.
+fn all_called(values: &[Value]) -> bool
+    ensures { result ≡ list_all (λ v. is_some (address_in (view v))) values.now }
+{
+    values.iter().all(|value| is_called(value))
+}
+
+/// A list of 1 to 4 addresses.
+fn called_list(values: &[Value]) -> Option<CalledAddresses<'_>>
+    ensures { option_map called_values result ≡ few_in (items_view values.now) }
+{
+    let count = values.len();
+    if count == 0 || count > CONNECT_LIMIT {
+        return None;
+    }
+    if !all_called(values) {
+        return None;
+    }
+    Some(CalledAddresses::List(values))
+}
+
+/// The addresses of a source: one, or a list of 1 to 4.
+pub(crate) fn called_all(value: &Value) -> Option<CalledAddresses<'_>>
+    ensures { option_map called_values result ≡ addresses_in (view value.now) }
+{
+    match value {
+        Value::Array(values) => called_list(values.as_slice()),
+        _ => Some(CalledAddresses::One(called(value)?)),
+    }
+}
+
+/// Addresses of its own.
+pub(crate) fn owned_all(
+    alloc: Global,
+    addresses: CalledAddresses<'_>,
+) -> Result<Vec<SourceAddress>, Refusal>
+    ensures ok { IfOk result (λ own. map address_value own.items ≡ called_values addresses.entry) }
+    ensures err { IfErr result (λ r. r ≡ Refusal.NoMemory) }
+{
+    let mut own = Vec::new(alloc);
+    match addresses {
+        CalledAddresses::One(address) => own.push(owned(alloc, address)?)?,
+        CalledAddresses::List(values) => {
+            'values: for value in values {
+                if let Some(address) = called(value) {
+                    own.push(owned(alloc, address)?)?;
+                }
+            }
+        }
+    }
+    Ok(own)
 }
 
 /// The address of this machine that a port is bound on.

@@ -227,6 +227,9 @@ impl Search<'_> {
         if before.is_called && own.is_called {
             self.tell(place, SetupKey::CONNECT.name, Wrong::Twice(source))?;
         }
+        if before.prefers_otherwise(own) {
+            self.tell(place, SetupKey::PREFER_FIRST.name, Wrong::Differs(source))?;
+        }
         if differ(before.silence, own.silence) {
             self.tell(place, SetupKey::SILENCE.name, Wrong::Differs(source))?;
         }
@@ -276,6 +279,7 @@ impl Search<'_> {
 #[derive(Clone, Copy)]
 struct Said {
     is_called: bool,
+    prefer_first: Option<bool>,
     silence: Option<u16>,
     clock_ms: Option<u16>,
     ahead_ms: Option<u16>,
@@ -284,6 +288,7 @@ struct Said {
 impl Said {
     const NOTHING: Said = Said {
         is_called: false,
+        prefer_first: None,
         silence: None,
         clock_ms: None,
         ahead_ms: None,
@@ -293,9 +298,18 @@ impl Said {
     fn by(pmu: &PmuTable<'_>) -> Said {
         Said {
             is_called: pmu.connect.is_some(),
+            prefer_first: pmu.prefer_first,
             silence: pmu.silence,
             clock_ms: pmu.clock_ms,
             ahead_ms: pmu.ahead_ms,
+        }
+    }
+
+    /// Whether both say something of `prefer_first`, and not the same.
+    fn prefers_otherwise(self, later: Said) -> bool {
+        match (self.prefer_first, later.prefer_first) {
+            (Some(one), Some(other)) => one != other,
+            _ => false,
         }
     }
 
@@ -303,6 +317,7 @@ impl Said {
     fn and(self, later: Said) -> Said {
         Said {
             is_called: self.is_called || later.is_called,
+            prefer_first: self.prefer_first.or(later.prefer_first),
             silence: self.silence.or(later.silence),
             clock_ms: self.clock_ms.or(later.clock_ms),
             ahead_ms: self.ahead_ms.or(later.ahead_ms),

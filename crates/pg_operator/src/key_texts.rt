@@ -29,10 +29,12 @@ const FILE_TEXTS: [KeyText; 7] = [
 ];
 
 #[rattlefmt::skip]
-const PMU_TEXTS: [KeyText; 6] = [
+const PMU_TEXTS: [KeyText; 7] = [
     KeyText { key: SetupKey::PMU_ID, example: "7", meaning: "IDCODE of the PMU in its source's configuration" },
     KeyText { key: SetupKey::SOURCE, example: "300", meaning: "IDCODE of the source's frames; behind a PDC the PDC's" },
-    KeyText { key: SetupKey::CONNECT, example: "\"10.0.0.1:4712\"", meaning: "address of the source, in one table of each source" },
+    KeyText { key: SetupKey::CONNECT, example: "\"10.0.0.1:4712\"", meaning: "address of the source, or a list of 1 to 4 that are tried in turn, in one table of each source" },
+    KeyText { key: SetupKey::PREFER_FIRST, example: "true",
+        meaning: "go back to the first address of `connect` once it answers: it is tried once a minute" },
     KeyText { key: SetupKey::SILENCE, example: "5",
         meaning: "connect again after this many seconds without data, and three periods of its DATA_RATE at least; 0 never" },
     KeyText { key: SetupKey::CLOCK_MS, example: "500",

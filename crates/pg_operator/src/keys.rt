@@ -68,11 +68,12 @@ impl SetupKey {
     pub(crate) const PMU_ID: SetupKey = SetupKey { name: "id", kind: Kind::Whole(1, 65534), absent: Absent::Required };
     pub(crate) const SOURCE: SetupKey = SetupKey { name: "source", kind: Kind::Whole(1, 65534), absent: Absent::Words("`id`") };
     pub(crate) const CONNECT: SetupKey = SetupKey { name: "connect", kind: Kind::Called, absent: Absent::Words("no connection") };
+    pub(crate) const PREFER_FIRST: SetupKey = SetupKey { name: "prefer_first", kind: Kind::Truth, absent: Absent::Words("false") };
     pub(crate) const SILENCE: SetupKey = SetupKey { name: "silence", kind: Kind::Whole(0, 3600), absent: Absent::Number(SILENCE as u32) };
     pub(crate) const CLOCK_MS: SetupKey = SetupKey { name: "clock_ms", kind: Kind::Whole(1, 30000), absent: Absent::Words("30 seconds") };
     pub(crate) const AHEAD_MS: SetupKey = SetupKey { name: "ahead_ms", kind: Kind::Whole(0, 30000), absent: Absent::Number(AHEAD_MS as u32) };
-    pub(crate) const PMU_KEYS: [SetupKey; 6] = [
-        SetupKey::PMU_ID, SetupKey::SOURCE, SetupKey::CONNECT, SetupKey::SILENCE, SetupKey::CLOCK_MS, SetupKey::AHEAD_MS,
+    pub(crate) const PMU_KEYS: [SetupKey; 7] = [
+        SetupKey::PMU_ID, SetupKey::SOURCE, SetupKey::CONNECT, SetupKey::PREFER_FIRST, SetupKey::SILENCE, SetupKey::CLOCK_MS, SetupKey::AHEAD_MS,
     ];
 
     pub(crate) const SUBSCRIBER_ID: SetupKey = SetupKey { name: "id", kind: Kind::Whole(1, 65535), absent: Absent::Required };

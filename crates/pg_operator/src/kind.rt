@@ -28,6 +28,9 @@ pub(crate) const PATH_LIMIT: usize = 107;
 /// The most characters of a gateway's name.
 pub(crate) const NAME_LIMIT: usize = 64;
 
+/// The most addresses of a source.
+pub(crate) const CONNECT_LIMIT: usize = 4;
+
 /// The most members of a stream.
 pub(crate) const MEMBER_LIMIT: usize = 32;
 
@@ -38,7 +41,7 @@ pub enum Kind {
     Whole(u32, u32),
     /// True or false.
     Truth,
-    /// An address that is called.
+    /// An address that is called, or a list of them.
     Called,
     /// An address of this machine.
     Bound,
@@ -69,7 +72,11 @@ impl fmt::Display for Kind {
         match self {
             Kind::Whole(least, most) => write!(f, "a whole number from {least} to {most}"),
             Kind::Truth => f.write_str("true or false"),
-            Kind::Called => f.write_str("a text \"A.B.C.D:PORT\" or \"NAME:PORT\""),
+            Kind::Called => write!(
+                f,
+                "a text \"A.B.C.D:PORT\" or \"NAME:PORT\", or a list of 1 to {} of these",
+                CONNECT_LIMIT
+            ),
             Kind::Bound => f.write_str("a text \"A.B.C.D\""),
             Kind::Served => f.write_str("a text \"A.B.C.D:PORT\""),
             Kind::Level => f.write_str("\"error\", \"warn\", \"info\" or \"debug\""),
@@ -162,7 +169,10 @@ impl Kind {
         let fits = match self {
             Kind::Whole(least, most) => table::whole(value, least, most).is_some(),
             Kind::Truth => matches!(value, Value::Boolean(_)),
-            Kind::Called => address::called(value).is_some(),
+            Kind::Called => match value {
+                Value::Array(_) => return self.misfit_of_list(alloc, value),
+                _ => address::called(value).is_some(),
+            },
             Kind::Bound => address::bound(value).is_some(),
             Kind::Served => address::served(value).is_some(),
             Kind::Level => general::level(value).is_some(),
@@ -187,12 +197,20 @@ impl Kind {
         let Value::Array(items) = value else {
             return Ok(Some(Misfit::Value(what_is(alloc, value)?)));
         };
-        if self == Kind::Members && (items.is_empty() || items.len() > MEMBER_LIMIT) {
-            return Ok(Some(Misfit::Value(Found::List(items.len()))));
+        let limit = match self {
+            Kind::Members => Some(MEMBER_LIMIT),
+            Kind::Called => Some(CONNECT_LIMIT),
+            _ => None,
+        };
+        if let Some(limit) = limit {
+            if items.is_empty() || items.len() > limit {
+                return Ok(Some(Misfit::Value(Found::List(items.len()))));
+            }
         }
         for (number, item) in items.iter().enumerate() {
             let fits = match self {
                 Kind::Networks => address::network(item).is_some(),
+                Kind::Called => address::called(item).is_some(),
                 Kind::Tables(_) => item.as_table().is_some(),
                 _ => table::key(item).is_some(),
             };

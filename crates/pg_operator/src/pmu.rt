@@ -1,10 +1,9 @@
 //! The tables `[[pmu]]` of the setup file.
 ghost use Rattle.std.specs.Prelude.{◌≡◌, ◌⊎◌, IfOk, IfErr, map, option_map, codes, Some, None};
 ghost use Rattle.toml.specs.View.{view, table_view};
-ghost use Rattle.pg_operator.specs.Addresses.{called_value};
-ghost use Rattle.pg_operator.specs.Setups.{absent_or, address_in, list_of, only, optional, pmu_by, pmu_in, pmu_names, required, told, whole_in};
+ghost use Rattle.pg_operator.specs.Setups.{absent_or, addresses_in, called_values, list_of, only, optional, pmu_by, pmu_in, pmu_names, required, told, whole_in};
 
-use crate::address::CalledAddress;
+use crate::address::CalledAddresses;
 use crate::keys::SetupKey;
 use crate::{address, table};
 use pg_wire::{PmuId, PmuKey, Refusal};
@@ -15,7 +14,8 @@ use toml::{Table, Value};
 #[derive(Clone, Copy)]
 pub(crate) struct PmuTable<'a> {
     pub(crate) key: PmuKey,
-    pub(crate) connect: Option<CalledAddress<'a>>,
+    pub(crate) connect: Option<CalledAddresses<'a>>,
+    pub(crate) prefer_first: Option<bool>,
     pub(crate) silence: Option<u16>,
     pub(crate) clock_ms: Option<u16>,
     pub(crate) ahead_ms: Option<u16>,
@@ -69,12 +69,14 @@ fn pmu_by(table: &Table) -> Option<PmuTable<'_>>
     let pmu = pmu_id(table)?;
     let source = source_of(table, pmu)?;
     let connect = connect_at(table)?;
+    let prefer_first = table::truth_or_none(table, SetupKey::PREFER_FIRST.name)?;
     let silence = table::number_or_none(table, &SetupKey::SILENCE)?;
     let clock_ms = table::number_or_none(table, &SetupKey::CLOCK_MS)?;
     let ahead_ms = table::number_or_none(table, &SetupKey::AHEAD_MS)?;
     Some(PmuTable {
         key: PmuKey { source, pmu },
         connect,
+        prefer_first,
         silence,
         clock_ms,
         ahead_ms,
@@ -98,12 +100,12 @@ fn source_of(table: &Table, pmu: PmuId) -> Option<PmuId>
     }
 }
 
-/// The address of a source, or none where it is left out.
-fn connect_at(table: &Table) -> Option<Option<CalledAddress<'_>>>
-    ensures { option_map (λ o. option_map called_value o) result ≡ absent_or address_in (codes "connect") (table_view table.now) }
+/// The addresses of a source, or none where they are left out.
+fn connect_at(table: &Table) -> Option<Option<CalledAddresses<'_>>>
+    ensures { option_map (λ o. option_map called_values o) result ≡ absent_or addresses_in (codes "connect") (table_view table.now) }
 {
     match table::value_at(table, SetupKey::CONNECT.name) {
-        Some(value) => Some(Some(address::called(value)?)),
+        Some(value) => Some(Some(address::called_all(value)?)),
         None => Some(None),
     }
 }

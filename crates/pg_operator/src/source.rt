@@ -1,10 +1,11 @@
 //! The rules of sources, as the tables of their PMUs say them.
-ghost use Rattle.std.specs.Prelude.{◌≡◌, ◌==◌, ◌⊎◌, ◌++◌, IfOk, IfErr, map, option_map, option_to_list, Some, None};
+ghost use Rattle.std.specs.Prelude.{◌≡◌, ◌==◌, ◌⊎◌, ◌++◌, false, IfOk, IfErr, map, option_map, option_to_list, Some, None};
 ghost use Rattle.std.specs.List.{list_any};
-ghost use Rattle.pg_operator.specs.Addresses.{address_value, called_value};
-ghost use Rattle.pg_operator.specs.Setups.{agreed, rules_of, said, single, source_by, source_value, sources_of, told};
+ghost use Rattle.std.specs.Option.{option_map_or};
+ghost use Rattle.pg_operator.specs.Addresses.{address_value};
+ghost use Rattle.pg_operator.specs.Setups.{agreed, bit, called_values, rules_of, said, single, source_by, source_value, sources_of, told};
 
-use crate::address::{CalledAddress, SourceAddress, owned};
+use crate::address::{CalledAddresses, SourceAddress, owned_all};
 use crate::keys::{AHEAD_MS, SILENCE};
 use crate::pmu::PmuTable;
 use pg_wire::{PmuId, Refusal};
@@ -22,18 +23,21 @@ pub struct SourceRules {
     /// Its measurements may be so many milliseconds ahead of the reference, the later of this machine's clock and the lower median of the
     /// newest times of all connected sources: 1 to 30000, or 0 for no such guard.
     pub ahead_ms: u16,
+    /// Whether the first of its addresses is gone back to, once it can be reached and announces a configuration.
+    pub prefer_first: bool,
 }
 
 impl SourceRules {
     /// Those of a source of which a setup says nothing.
     pub fn default_of(source: PmuId) -> SourceRules
-        ensures { result ≡ record { source = source; silence = 10; clock_ms = None; ahead_ms = 200 } }
+        ensures { result ≡ record { source = source; silence = 10; clock_ms = None; ahead_ms = 200; prefer_first = false } }
     {
         SourceRules {
             source,
             silence: SILENCE,
             clock_ms: None,
             ahead_ms: AHEAD_MS,
+            prefer_first: false,
         }
     }
 }
@@ -41,8 +45,8 @@ impl SourceRules {
 /// A source of a setup's PMUs.
 #[derive(Debug, Drop)]
 pub struct SourceSetup {
-    /// Where it is connected to; `None` where no connection is made.
-    pub connect: Option<SourceAddress>,
+    /// Where it is connected to: its addresses, which are called one after another, 4 at most. Without one no connection is made.
+    pub connect: Vec<SourceAddress>,
     /// How it is watched.
     pub rules: SourceRules,
 }
@@ -57,21 +61,30 @@ impl SourceSetup {
         ensures ok { IfOk result (λ copy. source_value copy ≡ source_value self.now) }
         ensures err { IfErr result (λ r. r ≡ Refusal.NoMemory) }
     {
-        let rules = self.rules;
-        match &self.connect {
-            Some(address) => match address.try_clone(alloc) {
-                Ok(address) => Ok(SourceSetup {
-                    connect: Some(address),
-                    rules,
-                }),
-                Err(refusal) => Err(refusal),
-            },
-            None => Ok(SourceSetup {
-                connect: None,
-                rules,
+        match copies_of(alloc, self.connect.as_slice()) {
+            Ok(connect) => Ok(SourceSetup {
+                connect,
+                rules: self.rules,
             }),
+            Err(refusal) => Err(refusal),
         }
     }
+}
+
+/// The same addresses.
+fn copies_of(alloc: Global, addresses: &[SourceAddress]) -> Result<Vec<SourceAddress>, Refusal>
+    ensures ok { IfOk result (λ copies. map address_value copies.items ≡ map address_value addresses.now) }
+    ensures err { IfErr result (λ r. r ≡ Refusal.NoMemory) }
+{
+    let mut copies = Vec::new(alloc);
+    'addresses: for address in addresses {
+        let copy = match address.try_clone(alloc) {
+            Ok(copy) => copy,
+            Err(refusal) => return Err(refusal),
+        };
+        copies.push(copy)?;
+    }
+    Ok(copies)
 }
 
 /// Each source of the PMUs, in the order in which they first name it.
@@ -104,46 +117,43 @@ fn source_by(alloc: Global, pmus: &[PmuTable<'_>], source: PmuId) -> Result<Sour
     ensures ok { IfOk result (λ s. source_by (map told pmus.now) source ≡ Some (source_value s)) }
     ensures err { IfErr result (λ r. (r ≡ Refusal.NoMemory) ⊎ ((r ≡ Refusal.BadSetup) × (source_by (map told pmus.now) source ≡ None))) }
 {
-    let Some(address) = address_of(pmus, source) else {
+    let Some(addresses) = addresses_of(pmus, source) else {
         return Err(Refusal::BadSetup);
     };
     let Some(rules) = rules_of(pmus, source) else {
         return Err(Refusal::BadSetup);
     };
-    match address {
-        Some(address) => match owned(alloc, address) {
-            Ok(address) => Ok(SourceSetup {
-                connect: Some(address),
-                rules,
-            }),
+    match addresses {
+        Some(addresses) => match owned_all(alloc, addresses) {
+            Ok(connect) => Ok(SourceSetup { connect, rules }),
             Err(refusal) => Err(refusal),
         },
         None => Ok(SourceSetup {
-            connect: None,
+            connect: Vec::new(alloc),
             rules,
         }),
     }
 }
 
-/// The address of a source, or nothing where two of its tables have one.
-fn address_of<'a>(pmus: &[PmuTable<'a>], source: PmuId) -> Option<Option<CalledAddress<'a>>>
-    ensures { option_map (λ o. option_map called_value o) result ≡ single (said (λ p. p.connect) source (map told pmus.now)) }
+/// The addresses of a source, or nothing where two of its tables have some.
+fn addresses_of<'a>(pmus: &[PmuTable<'a>], source: PmuId) -> Option<Option<CalledAddresses<'a>>>
+    ensures { option_map (λ o. option_map called_values o) result ≡ single (said (λ p. p.connect) source (map told pmus.now)) }
 {
-    let mut address = None;
+    let mut addresses = None;
     'pmus: for pmu in pmus {
         if pmu.key.source == source {
-            address = only_one(address, pmu.connect)?;
+            addresses = only_one(addresses, pmu.connect)?;
         }
     }
-    Some(address)
+    Some(addresses)
 }
 
-/// The address that is there; nothing where both are.
+/// The addresses that are there; nothing where both are.
 fn only_one<'a>(
-    one: Option<CalledAddress<'a>>,
-    other: Option<CalledAddress<'a>>,
-) -> Option<Option<CalledAddress<'a>>>
-    ensures { option_map (λ o. option_map called_value o) result ≡ single (option_to_list (option_map called_value one.entry) ++ option_to_list (option_map called_value other.entry)) }
+    one: Option<CalledAddresses<'a>>,
+    other: Option<CalledAddresses<'a>>,
+) -> Option<Option<CalledAddresses<'a>>>
+    ensures { option_map (λ o. option_map called_values o) result ≡ single (option_to_list (option_map called_values one.entry) ++ option_to_list (option_map called_values other.entry)) }
 {
     match (one, other) {
         (Some(_), Some(_)) => None,
@@ -159,11 +169,13 @@ fn rules_of(pmus: &[PmuTable<'_>], source: PmuId) -> Option<SourceRules>
     let mut silence = None;
     let mut clock_ms = None;
     let mut ahead_ms = None;
+    let mut first = None;
     'pmus: for pmu in pmus {
         if pmu.key.source == source {
             silence = together(silence, pmu.silence)?;
             clock_ms = together(clock_ms, pmu.clock_ms)?;
             ahead_ms = together(ahead_ms, pmu.ahead_ms)?;
+            first = together(first, bit_of(pmu.prefer_first))?;
         }
     }
     Some(SourceRules {
@@ -171,7 +183,29 @@ fn rules_of(pmus: &[PmuTable<'_>], source: PmuId) -> Option<SourceRules>
         silence: silence.unwrap_or(SILENCE),
         clock_ms,
         ahead_ms: ahead_ms.unwrap_or(AHEAD_MS),
+        prefer_first: is_true(first),
     })
+}
+
+/// A truth value as a number: 1 for true, 0 for false.
+fn bit_of(truth: Option<bool>) -> Option<u16>
+    ensures { result ≡ option_map bit truth }
+{
+    match truth {
+        Some(true) => Some(1),
+        Some(false) => Some(0),
+        None => None,
+    }
+}
+
+/// Whether this number says true.
+fn is_true(bit: Option<u16>) -> bool
+    ensures { result ≡ option_map_or (λ b. b == 1) bit false }
+{
+    match bit {
+        Some(bit) => bit == 1,
+        None => false,
+    }
 }
 
 /// What two tables say together: nothing where they say different values.

@@ -82,6 +82,17 @@ pub(crate) fn truth(table: &Table, key: &str, otherwise: bool) -> Option<bool>
     }
 }
 
+/// The truth value at a key that has no value where it is left out.
+pub(crate) fn truth_or_none(table: &Table, key: &str) -> Option<Option<bool>>
+    ensures { result ≡ absent_or boolean_in key.now (table_view table.now) }
+{
+    match value_at(table, key) {
+        Some(Value::Boolean(truth)) => Some(Some(*truth)),
+        Some(_) => None,
+        None => Some(None),
+    }
+}
+
 /// Whether this is the name of one of the keys.
 fn is_among(keys: &[SetupKey], name: &str) -> bool
     ensures { result ≡ is_among (map (λ k. k.name.now) keys.now) name.now }

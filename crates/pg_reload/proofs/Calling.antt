@@ -3,6 +3,7 @@ use Rattle.std.proofs.Common.{◌≡◌, ◌∙◌, sym, ap, refl, ℕ, Bool, tr
 use Rattle.std.proofs.lemmas.Bool.{false≢true}
 use Rattle.std.proofs.lemmas.List.Folds.{list_any-append}
 use Rattle.std.specs.Prelude.{if◌then◌else◌, ◌==◌, ◌&&◌, ◌||◌, nat_eq}
+use Rattle.std.specs.Cmp.Lexicographic.{pointwise}
 use Rattle.std.specs.Option.{option_eq}
 use Rattle.std.specs.List.{cons_option, filter_map, list_any}
 use Rattle.pg_operator.specs.Addresses.{AddressValue, at, named}
@@ -58,14 +59,17 @@ address_same : (a : AddressValue) → address_eq a a ≡ true
 address_same (at e) = λ i. number_same e.0 i && number_same e.1 i
 address_same (named w) = all_same nat_eq nat_same w
 
-connect_same : (o : Option AddressValue) → option_eq address_eq o o ≡ true
-connect_same None = refl
-connect_same (Some a) = address_same a
+connect_same : (list : List AddressValue) → pointwise address_eq list list ≡ true
+connect_same list = all_same address_eq address_same list
+
+truth_same : (b : Bool) → is_same_bool b b ≡ true
+truth_same true = refl
+truth_same false = refl
 
 called_same : (c : SourceValue) → called_eq c c ≡ true
 called_same c =
     λ i. connect_same c.connect i
-    && (((number_same c.rules.source i && number_same c.rules.silence i) && clock_same c.rules.clock_ms i) && number_same c.rules.ahead_ms i)
+    && ((((number_same c.rules.source i && number_same c.rules.silence i) && clock_same c.rules.clock_ms i) && number_same c.rules.ahead_ms i) && truth_same c.rules.prefer_first i)
 
 abbrev some_told : (OrderValue → Bool) → Option OrderValue → Bool
 some_told p None = false
@@ -87,10 +91,6 @@ port_same o =
     change_same on_change.Safe = refl
     change_same on_change.HangUp = refl
     change_same on_change.Keep = refl
-
-    truth_same : (b : Bool) → is_same_bool b b ≡ true
-    truth_same true = refl
-    truth_same false = refl
 
 -- an order is given only where the other setup has the thing not, which it has where it is one of these
 unsaid : (p : OrderValue → Bool) (t : OrderValue) (there mine : Bool) → p t ≡ mine → (mine ≡ true → there ≡ true) → some_told p (if there then None else Some t) ≡ false

@@ -1,5 +1,6 @@
 -- Sources that are connected to, and ports that are open, by one setup and not, or otherwise, by another.
-use Rattle.std.specs.Prelude.{◌≡◌, true, false, ℕ, ◌==◌, ◌&&◌, ◌++◌, Bool, List, map, filter, Option, Some, None, is_some, if◌then◌else◌, nat_eq}
+use Rattle.std.specs.Prelude.{◌≡◌, true, false, ℕ, ◌==◌, ◌&&◌, ◌++◌, Bool, List, length, map, filter, Option, Some, None, if◌then◌else◌, nat_eq, nat_lt}
+use Rattle.std.specs.Cmp.Lexicographic.{pointwise}
 use Rattle.std.specs.List.{list_any, filter_map}
 use Rattle.std.specs.Option.{option_eq}
 use Rattle.std.specs.Str.{bytes_eq}
@@ -7,21 +8,21 @@ use Rattle.pg_operator.specs.Addresses.{AddressValue, at, named}
 use Rattle.pg_operator.specs.Setups.{PortValue, SourceValue, port_value, source_value}
 use Rattle.pg_operator.specs.declared.setup.Setup.{Setup}
 use Rattle.pg_operator.specs.declared.source.SourceRules.{SourceRules}
-use Rattle.pg_reload.specs.Ports.{is_open}
+use Rattle.pg_reload.specs.Ports.{is_open, is_same_bool}
 use Rattle.pg_reload.specs.Restarts.{endpoint_eq}
 use Rattle.pg_reload.specs.declared.orders.Order.{Order}
 use Rattle.pg_reload.specs.declared.orders.Order.TheVariants as order
 
--- those of the sources that are connected to
+-- those of the sources that are connected to: that have an address
 abbrev pub calls_of : List SourceValue → List SourceValue
-calls_of sources = filter (λ s. is_some s.connect) sources
+calls_of sources = filter (λ s. nat_lt 0 (length s.connect)) sources
 
 abbrev pub connected : Setup → List SourceValue
 connected setup = calls_of (map source_value setup.sources.items)
 
 -- every field is the same
 abbrev pub rules_eq : SourceRules → SourceRules → Bool
-rules_eq r q = ((r.source == q.source && r.silence == q.silence) && option_eq nat_eq r.clock_ms q.clock_ms) && r.ahead_ms == q.ahead_ms
+rules_eq r q = (((r.source == q.source && r.silence == q.silence) && option_eq nat_eq r.clock_ms q.clock_ms) && r.ahead_ms == q.ahead_ms) && is_same_bool r.prefer_first q.prefer_first
 
 abbrev pub address_eq : AddressValue → AddressValue → Bool
 address_eq (at a) (at b) = endpoint_eq a b
@@ -29,7 +30,7 @@ address_eq (named a) (named b) = bytes_eq a b
 address_eq a b = false
 
 abbrev pub called_eq : SourceValue → SourceValue → Bool
-called_eq c d = option_eq address_eq c.connect d.connect && rules_eq c.rules d.rules
+called_eq c d = pointwise address_eq c.connect d.connect && rules_eq c.rules d.rules
 
 -- one of the calls is this one
 abbrev pub is_called : List SourceValue → SourceValue → Bool

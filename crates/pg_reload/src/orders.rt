@@ -1,7 +1,7 @@
 //! Sources that are connected to by one setup and not, or otherwise, by another.
-ghost use Rattle.std.specs.Prelude.{◌≡◌, ◌++◌, IfOk, IfErr, OnOk, map, option_map};
+ghost use Rattle.std.specs.Prelude.{◌≡◌, ◌++◌, IfOk, IfErr, OnOk, map};
 ghost use Rattle.std.specs.List.{filter_map, list_any};
-ghost use Rattle.std.specs.Option.{option_eq};
+ghost use Rattle.std.specs.Cmp.Lexicographic.{pointwise};
 ghost use Rattle.pg_operator.specs.Addresses.{address_value};
 ghost use Rattle.pg_operator.specs.Setups.{source_value};
 ghost use Rattle.pg_reload.specs.Orders.{address_eq, begun, called_eq, calls_of, connected, ended, orders_between, order_value, rules_eq};
@@ -31,7 +31,7 @@ fn calls_of(alloc: Global, sources: &[SourceSetup]) -> Result<Vec<SourceSetup>, 
 {
     let mut calls = Vec::new(alloc);
     'sources: for source in sources {
-        if source.connect.is_some() {
+        if !source.connect.is_empty() {
             let call = match source.try_clone(alloc) {
                 Ok(call) => call,
                 Err(refusal) => return Err(refusal),
@@ -50,6 +50,7 @@ fn are_rules_alike(one: &SourceRules, other: &SourceRules) -> bool
         && one.silence == other.silence
         && one.clock_ms == other.clock_ms
         && one.ahead_ms == other.ahead_ms
+        && one.prefer_first == other.prefer_first
 }
 
 /// Whether both are one address.
@@ -65,22 +66,29 @@ fn is_same_address(one: &SourceAddress, other: &SourceAddress) -> bool
     }
 }
 
-/// Whether both are connected to at one address, or neither is connected to.
-fn is_same_connect(one: &Option<SourceAddress>, other: &Option<SourceAddress>) -> bool
-    ensures { result ≡ option_eq address_eq (option_map address_value one.now) (option_map address_value other.now) }
+/// Whether both are the same addresses in the same order.
+fn is_same_connect(one: &[SourceAddress], other: &[SourceAddress]) -> bool
+    ensures { result ≡ pointwise address_eq (map address_value one.now) (map address_value other.now) }
 {
-    match (one, other) {
-        (None, None) => true,
-        (Some(one), Some(other)) => is_same_address(one, other),
-        _ => false,
+    let mut rest = other;
+    'addresses: for address in one {
+        let Some((beside, behind)) = rest.split_first() else {
+            return false;
+        };
+        if !is_same_address(address, beside) {
+            return false;
+        }
+        rest = behind;
     }
+    rest.is_empty()
 }
 
 /// Whether both are one source, connected to and watched alike.
 fn is_same_call(one: &SourceSetup, other: &SourceSetup) -> bool
     ensures { result ≡ called_eq (source_value one.now) (source_value other.now) }
 {
-    is_same_connect(&one.connect, &other.connect) && are_rules_alike(&one.rules, &other.rules)
+    is_same_connect(one.connect.as_slice(), other.connect.as_slice())
+        && are_rules_alike(&one.rules, &other.rules)
 }
 
 /// Whether one of the calls is this one.

@@ -158,7 +158,7 @@ impl<R: Net + Clock> SetupManager<'_, R> {
             if service.is_over() {
                 break;
             }
-            self.carry_out(rt, service, order, &mut report);
+            self.carry_out(rt, alloc, service, order, &mut report);
         }
         for restart in restarts {
             report.restarted(restart);
@@ -261,17 +261,21 @@ impl<R: Net + Clock> SetupManager<'_, R> {
     fn carry_out<Q: Wait + Clock>(
         &self,
         rt: &Q,
+        alloc: Global,
         service: ServiceHandle<'_>,
         order: Order,
         report: &mut Report,
     ) {
         match order {
             Order::Undial(source) => service.undial(rt, source),
-            Order::Dial(source) => {
-                if let Some(dial) = dial_of(source) {
-                    service.dial(rt, dial);
+            Order::Dial(source) => match dial_of(alloc, source) {
+                Ok(Some(dial)) => service.dial(rt, dial),
+                Ok(None) => {}
+                Err(refusal) => {
+                    report.refused(Ok(()), refusal);
+                    return;
                 }
-            }
+            },
             Order::Unlisten(sub) => service.close(rt, sub),
             Order::Listen(port) => {
                 let PortSetup { port, rules } = port;

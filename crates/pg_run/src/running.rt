@@ -1,9 +1,10 @@
 //! `pdcgw run`: the gateway, served over sockets.
 
-ghost use Rattle.std.specs.Prelude.{◌≡◌, IfOk, IfSome, map, option_map};
+ghost use Rattle.std.specs.Prelude.{◌≡◌, IfOk, IfSome, Some, map, option_map};
 ghost use Rattle.std.specs.Duration.{as_nanos};
+ghost use Rattle.pg_operator.specs.Addresses.{address_value};
 ghost use Rattle.pg_operator.specs.Setups.{port_rules_of, source_value, subscriber_value};
-ghost use Rattle.pg_run.specs.OpenedPorts.{dial_value, dialled_by, dialled_of, opened_by, opened_of};
+ghost use Rattle.pg_run.specs.OpenedPorts.{dial_value, dialled_by, dialled_of, opened_by, opened_of, target_value};
 ghost use Rattle.pg_run.specs.Limits.{guards_by, limit_of};
 
 use crate::admin_listeners::admin_listeners;
@@ -290,40 +291,62 @@ pub(crate) fn port_rules_of(subscribers: &[SubscriberSetup], sub: SubId) -> Opti
     None
 }
 
-/// The sources that are connected to, in their order, each at its address and by its rules.
+/// The sources that are connected to, in their order, each at its addresses and by its rules.
 fn dials_of(alloc: Global, sources: &[SourceSetup]) -> Result<Vec<Dial>, Refusal>
     ensures { IfOk result (λ dials. map dial_value dials.items ≡ dialled_of (map source_value sources.now)) }
 {
     let mut dials = Vec::new(alloc);
     'sources: for source in sources {
-        if let Some(dial) = dial_of(source.try_clone(alloc)?) {
+        if let Some(dial) = dial_of(alloc, source.try_clone(alloc)?)? {
             dials.push(dial)?;
         }
     }
     Ok(dials)
 }
 
-/// A source that is connected to, at its address and by its rules; `None` where it is not.
-pub(crate) fn dial_of(source: SourceSetup) -> Option<Dial>
-    ensures { option_map dial_value result ≡ dialled_by (source_value source) }
+/// A source that is connected to, at its addresses and by its rules; `None` where it is not.
+///
+/// # Errors
+///
+/// `NoMemory`.
+pub(crate) fn dial_of(alloc: Global, source: SourceSetup) -> Result<Option<Dial>, Refusal>
+    ensures { IfOk result (λ dial. option_map dial_value dial ≡ dialled_by (source_value source)) }
 {
     let SourceSetup { connect, rules } = source;
-    let address = match connect? {
-        SourceAddress::Endpoint(address) => Address::Known(SocketAddr::V4(address)),
-        SourceAddress::Name(name) => Address::Name(name),
-    };
-    Some(dial_to(address, &rules))
+    if connect.is_empty() {
+        return Ok(None);
+    }
+    let addresses = targets_of(alloc, connect.as_slice())?;
+    Ok(Some(dial_to(addresses, &rules)))
 }
 
-/// A source that is connected to at this address and by its rules.
-pub(crate) fn dial_to(address: Address, rules: &SourceRules) -> Dial
+/// The addresses of a source.
+fn targets_of(alloc: Global, connect: &[SourceAddress]) -> Result<Vec<Address>, Refusal>
+    ensures { IfOk result (λ targets. map target_value targets.items ≡ map (λ a. Some a) (map address_value connect.now)) }
+{
+    let mut targets = Vec::new(alloc);
+    'connect: for address in connect {
+        let target = match address {
+            SourceAddress::Endpoint(address) => Address::Known(SocketAddr::V4(*address)),
+            SourceAddress::Name(name) => Address::Name(String::from_str(alloc, name.as_str())?),
+        };
+        targets.push(target)?;
+    }
+    Ok(targets)
+}
+
+/// A source that is connected to at these addresses and by its rules.
+pub(crate) fn dial_to(addresses: Vec<Address>, rules: &SourceRules) -> Dial
     ensures source { result.source ≡ rules.now.source }
+    ensures addresses { result.addresses ≡ addresses }
+    ensures first { result.prefer_first ≡ rules.now.prefer_first }
     ensures silence { option_map as_nanos result.silence ≡ limit_of rules.now.silence }
     ensures guards { result.guards ≡ guards_by rules.now }
 {
     Dial {
         source: rules.source,
-        address,
+        addresses,
+        prefer_first: rules.prefer_first,
         silence: limit_of(rules.silence),
         guards: guards_by(rules),
     }

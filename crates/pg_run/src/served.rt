@@ -26,7 +26,7 @@ impl<'a> Served<'a> {
             sources: setup
                 .sources
                 .iter()
-                .filter(|it| it.connect.is_some())
+                .filter(|it| !it.connect.is_empty())
                 .count(),
             subscribers: setup.subscribers.len(),
             streams: streams.fold(0, usize::saturating_add),

@@ -47,7 +47,7 @@ pub(crate) fn serve_all<'a, R: Runtime, N: Named + Send>(
     ensures begins { IfOk result (λ joined. Begins seat joined) }
 {
     let (mailboxes, pollers) = mailboxes_of(rt, alloc, &plan)?;
-    mailboxes.resolver.start(rt)?;
+    mailboxes.resolver.start(rt, alloc)?;
     log_ports(rt, &state.journal, &plan.service.ports);
     serve_with::<R, N>(
         rt, alloc, shared, seat, context, plan, &mailboxes, pollers, state, lines,

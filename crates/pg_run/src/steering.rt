@@ -28,10 +28,11 @@ impl<R: Net + Clock> SetupManager<'_, R> {
         if !console.has_source(rt, source) {
             return Err(Refusal::NoSuchPmu);
         }
-        let address = Address::Known(SocketAddr::V4(address));
+        let mut addresses = Vec::new(console.alloc());
+        addresses.push(Address::Known(SocketAddr::V4(address)))?;
         let service = console.service();
         service.undial(rt, source);
-        service.dial(rt, dial_to(address, &self.rules_of(rt, source)));
+        service.dial(rt, dial_to(addresses, &self.rules_of(rt, source)));
         Ok(())
     }
 

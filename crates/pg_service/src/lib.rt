@@ -39,5 +39,5 @@ pub use reasons::{REASONS, ended};
 pub use resolver::{Lookup, Resolver, ResolverWorker};
 pub use rules::ConnectionRules;
 pub use status_collector::{LinkState, PortReport, Reports, SourceReport, StatusCollector};
-pub use targets::{Address, Dial};
+pub use targets::{Address, Dial, Target, Targets};
 pub use worker_handles::WorkerHandles;

@@ -32,8 +32,10 @@ pub enum SourceOrder {
         source: PmuId,
         /// The dial for which it was.
         dial: u64,
-        /// The address that was found; `None` where the name has none, or no server answered.
-        address: Option<SocketAddr>,
+        /// The place of the name among the targets of the dial.
+        place: usize,
+        /// The addresses that were found; none where the name has none, or no server answered.
+        addresses: Vec<SocketAddr>,
     },
     /// Its worker reports how its sources stand, in answer to this asking.
     Report(u64),

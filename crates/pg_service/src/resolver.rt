@@ -17,6 +17,9 @@ use std::{mem, thread};
 /// How many names are looked up at a time.
 const LOOKUPS: usize = 4;
 
+/// How many addresses of a name are called.
+const FOUND: usize = 8;
+
 /// How often it is looked for addresses while names are looked up, in milliseconds.
 const LOOK_MS: u64 = 20;
 
@@ -29,6 +32,8 @@ pub struct Lookup {
     pub source: PmuId,
     /// The number of its dial.
     pub dial: u64,
+    /// The place of the name among the targets of the dial.
+    pub place: usize,
     /// Its name and port, `NAME:PORT`.
     pub name: String,
 }
@@ -39,8 +44,9 @@ struct Found {
     worker: usize,
     source: PmuId,
     dial: u64,
-    // Its address, if it has one.
-    address: Option<SocketAddr>,
+    place: usize,
+    // Its addresses, if it has any.
+    addresses: Vec<SocketAddr>,
 }
 
 /// The names that wait to be looked up, and those that were. The threads that look names up hold this and nothing else of the service: the
@@ -51,7 +57,7 @@ struct Names {
     // A name waits.
     come: Condvar,
     found: Mutex<Vec<Found>>,
-    // How many addresses there was no memory for.
+    // How many names there was no memory for.
     lost: AtomicUsize,
 }
 
@@ -69,19 +75,21 @@ impl Names {
         }
     }
 
-    /// Looks a name up, and leaves its address.
-    fn look_up<R: Wait + Net>(&self, rt: &R, lookup: Lookup) {
+    /// Looks a name up, and leaves its addresses.
+    fn look_up<R: Wait + Net>(&self, rt: &R, alloc: Global, lookup: Lookup) {
         let Lookup {
             worker,
             source,
             dial,
+            place,
             name,
         } = lookup;
         let found = Found {
             worker,
             source,
             dial,
-            address: address_of(rt, name.as_str()),
+            place,
+            addresses: addresses_of(rt, alloc, name.as_str()),
         };
         if self.found.lock(rt).push(found).is_err() {
             self.lost.fetch_add(1, Ordering::SeqCst);
@@ -124,12 +132,12 @@ impl Resolver {
     /// # Errors
     ///
     /// There is no memory, or a thread can't be started.
-    pub fn start<R>(&self, rt: &R) -> Result<(), AllocError>
+    pub fn start<R>(&self, rt: &R, alloc: Global) -> Result<(), AllocError>
     where
         R: Wait + Net<Listener = TcpListener, Stream = TcpStream> + Threads + Copy + Send + 'static,
     {
         for _ in 0..LOOKUPS {
-            start_thread(rt, self.names.clone()?)?;
+            start_thread(rt, alloc, self.names.clone()?)?;
         }
         Ok(())
     }
@@ -168,7 +176,7 @@ impl Resolver {
 }
 
 /// Starts a thread that looks these names up, one after another.
-fn start_thread<R>(rt: &R, names: Arc<Names>) -> Result<(), AllocError>
+fn start_thread<R>(rt: &R, alloc: Global, names: Arc<Names>) -> Result<(), AllocError>
 where
     R: Wait + Net<Listener = TcpListener, Stream = TcpStream> + Threads + Copy + Send + 'static,
 {
@@ -177,7 +185,7 @@ where
     let _left = thread::spawn(rt, move || {
         for _ in 0..u64::MAX {
             if let Some(lookup) = names.next(&own) {
-                names.look_up(&own, lookup);
+                names.look_up(&own, alloc, lookup);
             }
         }
     })?;
@@ -215,19 +223,21 @@ impl<'a, R: Wait + Clock> ResolverWorker<'a, R> {
         }
     }
 
-    /// Reports an address to the worker that asked for it.
+    /// Reports addresses to the worker that asked for them.
     fn report(&self, found: Found) {
         let Found {
             worker,
             source,
             dial,
-            address,
+            place,
+            addresses,
         } = found;
         if let Some(mailbox) = self.sources.get(worker) {
             let found = SourceOrder::Found {
                 source,
                 dial,
-                address,
+                place,
+                addresses,
             };
             mailbox.send(self.rt, self.journal, found);
         }
@@ -244,16 +254,25 @@ impl<'a, R: Wait + Clock> ResolverWorker<'a, R> {
     }
 }
 
-/// The address of a name: the first one of four numbers, else the first.
-fn address_of<R: Net>(rt: &R, name: &str) -> Option<SocketAddr> {
-    let mut first = None;
-    for address in name.to_socket_addrs(rt).ok()? {
-        if address.is_ipv4() {
-            return Some(address);
+/// The addresses of a name, 8 at most: those of four numbers, or the others where there is none of these. Without memory for all, those that
+/// there is memory for.
+fn addresses_of<R: Net>(rt: &R, alloc: Global, name: &str) -> Vec<SocketAddr> {
+    let mut found = Vec::new(alloc);
+    let mut others = Vec::new(alloc);
+    if let Ok(all) = name.to_socket_addrs(rt) {
+        for address in all {
+            let list = if address.is_ipv4() {
+                &mut found
+            } else {
+                &mut others
+            };
+            if list.len() < FOUND && !list.contains(&address) {
+                // The addresses before it are enough to call.
+                let _ = list.push(address);
+            }
         }
-        first = first.or(Some(address));
     }
-    first
+    if found.is_empty() { others } else { found }
 }
 
 impl<R: Wait + Clock> Work for ResolverWorker<'_, R> {

@@ -11,4 +11,5 @@ mod registering;
 mod reloads;
 mod sources;
 mod stamping;
+mod targets;
 mod waking;

@@ -1,8 +1,9 @@
 -- The calls of a shared gateway as a legal history, and what is handed out in it.
-use Rattle.std.proofs.Common.{◌≡◌, List, [], ◌∷◌, ◌++◌, Some, sym, ap, ◌∙◌, subst, append_assoc}
+use Rattle.std.proofs.Common.{◌≡◌, ℕ, List, [], ◌∷◌, ◌++◌, length, Some, sym, ap, ◌∙◌, subst, append_assoc}
 use Rattle.std.proofs.lemmas.List.{append-nil, map-append}
 use Rattle.pg_turn.specs.Known.{Known}
 use Rattle.pg_turn.specs.Turns.{IsLegalAfter, IsLegal, Called}
+use Rattle.pg_turn.specs.Placed.{PlacedCall}
 use Rattle.pg_gateway.specs.declared.event.Event.{Event}
 use Rattle.pg_gateway.specs.declared.event.Reply.{Reply}
 use Rattle.pg_gateway.specs.GatewayEvents.{GatewayEvent, gateway_event, asks, Answer, told}
@@ -13,7 +14,7 @@ use Rattle.pg_gateway.specs.Views.{Lossless, AllLossless, handed_to, full_answer
 use Rattle.pg_gateway.proofs.ViewLaws.{own-run}
 use Rattle.pg_gateway.proofs.AnswerLaws.{handed-run, lossless_full}
 use Rattle.pg_gateway.proofs.RunLaws.{full_history, own_reply}
-use Rattle.pg_shared.specs.Sharing.{Call, AreAnswered, history_of, PostedCall, HandsByViews, AnswersByView}
+use Rattle.pg_shared.specs.Sharing.{Call, AreAnswered, history_of, PostedCall, IsLastPlace, HandsByViews, AnswersByView}
 use Rattle.pg_shared.proofs.Opening.{state_after-append}
 
 -- the state after one call more
@@ -62,6 +63,13 @@ posts v e r w called =
       answers = last.answers;
       between_answers = answered_behind [] v.seen called.0 (e, r) (subst (λ h. IsLegal MayCall h) called.1 called.3);
     }
+
+-- and so with a call that tells its place
+pub posts_placed : (v : Known Event Reply) (e : Event) (r : Reply) (number : ℕ) (w : Known Event Reply) → PlacedCall MayCall v e r number w → PostedCall v e r w
+posts_placed v e r number w placed = posts v e r w (placed.between, placed.seen, placed.own, placed.legal, placed.others)
+
+pub placed_last : (v : Known Event Reply) (e : Event) (r : Reply) (number : ℕ) (w : Known Event Reply) → PlacedCall MayCall v e r number w → IsLastPlace number w.own
+placed_last v e r number w placed = (v.own, length (v.seen ++ placed.between), placed.own, placed.place)
 
 pub hands_by_views : (h : List (GatewayEvent × Answer)) → Legal opening h → HandsByViews h
 hands_by_views h legal full u = ap (λ answers. handed_to u (events_of h) answers) (full_history opening h legal full).0

@@ -4,6 +4,7 @@ use mathlib.Core.List.{IsPrefix}
 use Rattle.pg_session.specs.Events.{SubscriberEvent}
 use Rattle.pg_session.specs.Shown.{Model}
 use Rattle.pg_turn.specs.Known.{Known, StandsIn}
+use Rattle.pg_turn.specs.Counting.{capped}
 use Rattle.pg_gateway.specs.declared.event.Event.{Event}
 use Rattle.pg_gateway.specs.declared.event.Reply.{Reply}
 use Rattle.pg_gateway.specs.GatewayEvents.{GatewayEvent, gateway_event, asks, Answer, told, tells}
@@ -39,6 +40,10 @@ pub record PostedCall (v : Known Event Reply) (e : Event) (r : Reply) (w : Known
   pub may : May (state_after opening (history_of (v.seen ++ between))) (gateway_event e) (told r)
   pub answers : Answers e r
   pub between_answers : AreAnswered between
+
+-- the number is the last of these places, as a u64
+abbrev pub IsLastPlace : ℕ → List ℕ → Type 0
+IsLastPlace number own = (before : List ℕ) × (place : ℕ) × (own ≡ before ++ place ∷ []) × (number ≡ capped place)
 
 -- Where no answer of the history tells a loss or want of memory, its drains hand to each subscriber, all told, what a private
 -- gateway of that subscriber's view hands out: bytes, frames begun, gaps

@@ -1,13 +1,13 @@
 //! The gates of workers, whose seats are of one shared gateway.
 
-ghost use Rattle.std.specs.Prelude.{◌≡◌, Bool, true, false, [], ◌∷◌, Some};
+ghost use Rattle.std.specs.Prelude.{◌≡◌, Bool, true, false, [], ◌∷◌, Some, IfSome};
 ghost use Rattle.atomic_table.specs.Seated.{TableId};
 ghost use Rattle.pg_gateway.specs.GatewayEvents.{GatewayEvent, gateway_event, told};
 ghost use Rattle.pg_gateway.specs.Posting.{Answers, Notes};
 ghost use Rattle.pg_shared.specs.Gates.{said_at};
 ghost use Rattle.pg_shared.specs.Continuing.{goes_on_same, goes_on_more};
 ghost use Rattle.pg_shared.specs.Onward.{GoesOn};
-ghost use Rattle.pg_shared.specs.Sharing.{history_of, PostedCall, HandsByViews, AnswersByView};
+ghost use Rattle.pg_shared.specs.Sharing.{history_of, PostedCall, IsLastPlace, HandsByViews, AnswersByView};
 
 use crate::seat_gate::SeatGate;
 use crate::shared::{Seat, Shared};
@@ -58,6 +58,14 @@ impl<'a, R: Wait, N: Named> SharedGate<'a, R, N> {
             gate: SeatGate::new(rt, shared, seat),
             of: PhantomData,
         }
+    }
+
+    /// The place of its last post in the history: how many calls came before it, of all threads, and `u64::MAX` where it is no less.
+    /// `None` before its first post.
+    pub fn last_place(&self) -> Option<u64>
+        ensures place { IfSome result (λ n. IsLastPlace n self.now.own) }
+    {
+        self.gate.last_place()
     }
 
     /// Gives its seat back, which is one of the gateway that N names.

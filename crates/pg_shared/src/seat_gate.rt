@@ -1,12 +1,12 @@
 //! A gate that posts to a shared gateway.
 
-ghost use Rattle.std.specs.Prelude.{◌≡◌, Bool, true, false, [], ◌∷◌, Some};
+ghost use Rattle.std.specs.Prelude.{◌≡◌, Bool, true, false, [], ◌∷◌, Some, IfSome};
 ghost use Rattle.pg_gateway.specs.GatewayEvents.{GatewayEvent, gateway_event, told};
 ghost use Rattle.pg_gateway.specs.Posting.{Answers, Notes};
 ghost use Rattle.pg_shared.specs.Gates.{said_at};
 ghost use Rattle.pg_shared.specs.Continuing.{goes_on_same, goes_on_more};
 ghost use Rattle.pg_shared.specs.Onward.{GoesOn};
-ghost use Rattle.pg_shared.specs.Sharing.{history_of, PostedCall, HandsByViews, AnswersByView};
+ghost use Rattle.pg_shared.specs.Sharing.{history_of, PostedCall, IsLastPlace, HandsByViews, AnswersByView};
 
 use crate::shared::{Seat, Shared};
 use pg_gateway::{Event, Gate, Reply};
@@ -22,19 +22,23 @@ pub struct SeatGate<'a, R: Wait> {
     rt: &'a R,
     gateway: &'a Shared,
     seat: Option<Seat>,
+    // The place of its last post.
+    last: Option<u64>,
 }
 
 impl<'a, R: Wait> Model for SeatGate<'a, R> {
+    ghost use Rattle.std.specs.Prelude.{IfSome};
     ghost use Rattle.pg_gateway.specs.declared.event.Event.{Event};
     ghost use Rattle.pg_gateway.specs.declared.event.Reply.{Reply};
     ghost use Rattle.pg_turn.specs.Known.{Known};
     ghost use Rattle.pg_shared.specs.Gates.{seat_in, IsHeld};
+    ghost use Rattle.pg_shared.specs.Sharing.{IsLastPlace};
 
     ghost Value = { Known Event Reply };
 
     ghost view = { λ g. seat_in g.gateway.now g.seat };
 
-    ghost invariant = { λ g. IsHeld g.gateway.now g.seat };
+    ghost invariant = { λ g. IsHeld g.gateway.now g.seat × IfSome g.last (λ n. IsLastPlace n (seat_in g.gateway.now g.seat).own) };
 }
 
 impl<'a, R: Wait> SeatGate<'a, R> {
@@ -47,6 +51,7 @@ impl<'a, R: Wait> SeatGate<'a, R> {
             rt,
             gateway,
             seat: Some(seat),
+            last: None,
         }
     }
 
@@ -55,6 +60,14 @@ impl<'a, R: Wait> SeatGate<'a, R> {
         ensures table { self.now.table ≡ result.now }
     {
         self.gateway
+    }
+
+    /// The place of its last post in the history: how many calls came before it, of all threads, and `u64::MAX` where it is no less.
+    /// `None` before its first post.
+    pub fn last_place(&self) -> Option<u64>
+        ensures place { IfSome result (λ n. IsLastPlace n self.now.own) }
+    {
+        self.last
     }
 
     /// Gives its seat back.
@@ -97,8 +110,9 @@ impl<R: Wait> Gate for SeatGate<'_, R> {
         let Some(seat) = self.seat.take() else {
             unreachable!();
         };
-        let (seat, reply) = self.gateway.post(self.rt, seat, event);
+        let (seat, reply, place) = self.gateway.post_placed(self.rt, seat, event);
         self.seat = Some(seat);
+        self.last = Some(place);
         reply
     }
 }

@@ -5,7 +5,7 @@ ghost use Rattle.pg_turn.specs.Known.{times};
 ghost use Rattle.pg_turn.specs.Turns.{IsLonger};
 ghost use Rattle.pg_gateway.specs.State.{opening};
 ghost use Rattle.pg_gateway.specs.Shown.{GatewayShows};
-ghost use Rattle.pg_shared.specs.Sharing.{history_of, PostedCall, HandsByViews, AnswersByView, Closed};
+ghost use Rattle.pg_shared.specs.Sharing.{history_of, PostedCall, IsLastPlace, HandsByViews, AnswersByView, Closed};
 
 use pg_gateway::{Event, Gateway, Reply};
 use pg_turn::Turnstile;
@@ -67,6 +67,20 @@ impl Shared {
         ensures own { AnswersByView (history_of result.0.seen) }
     {
         self.turns.call(rt, seat, event)
+    }
+
+    /// The same, and the call's place in the history: how many calls came before it, of all threads. It is the last of the seat's own
+    /// places, and stays at `u64::MAX` once it has come there.
+    #[inline(always)]
+    pub fn post_placed<R: Wait>(&self, rt: &R, seat: Seat, event: Event) -> (Seat, Reply, u64)
+        requires table { seat.table ≡ self.now }
+        ensures seat { result.0.table ≡ seat.table }
+        ensures posted { PostedCall seat event result.1 result.0 }
+        ensures place { IsLastPlace result.2 result.0.own }
+        ensures handed { HandsByViews (history_of result.0.seen) }
+        ensures own { AnswersByView (history_of result.0.seen) }
+    {
+        self.turns.call_placed(rt, seat, event)
     }
 
     /// The seat as it was, and a second one of this gateway, which has seen what the first has and has made no call. It takes no

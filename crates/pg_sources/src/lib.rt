@@ -11,6 +11,7 @@ mod source;
 mod source_entry;
 mod source_worker;
 mod ticker;
+mod trial;
 
 pub use counted_announcements::CountedAnnouncements;
 pub use measures::Measures;

@@ -8,7 +8,7 @@ ghost use Rattle.pg_ingest.specs.Linking.{unfed};
 ghost use Rattle.pg_ingest.specs.Runs.{wires};
 ghost use Rattle.pg_ingest.specs.Served.{IsCall};
 ghost use Rattle.pg_sources.specs.Connections.{Turned, check, hearing, questioned, settled, turn_after, unlinked, with_plan};
-ghost use Rattle.pg_limits.specs.Plans.{asked, begun, called, due_by, ended, made, received, renewed, rested, sought};
+ghost use Rattle.pg_limits.specs.Plans.{addressed, asked, begun, called, due_by, ended, first_made, made, received, renewed, rested, sought};
 ghost use Rattle.pg_service.specs.Posts.{passes};
 
 use crate::quality_gate::QualityGate;
@@ -125,6 +125,21 @@ impl SourceConnection {
         self.plan.made(now);
     }
 
+    /// A connection to its first address was made, in place of the one that stood: the link starts anew.
+    pub fn first_made(&mut self, now: Instant)
+        ensures { self.new ≡ with_plan (first_made (instant_nanos now) self.old.plan) (unlinked self.old) }
+    {
+        self.link.reset();
+        self.plan.first_made(now);
+    }
+
+    /// It has so many addresses, and this one is called, or is to be called next.
+    pub fn set_addresses(&mut self, count: usize, at: usize)
+        ensures { self.new ≡ with_plan (addressed count at self.old.plan) self.old }
+    {
+        self.plan.set_addresses(count, at);
+    }
+
     /// Bytes of it came.
     pub fn received(&mut self, now: Instant)
         ensures { self.new ≡ with_plan (received (instant_nanos now) self.old.plan) self.old }
@@ -140,7 +155,7 @@ impl SourceConnection {
         self.plan.asked();
     }
 
-    /// The call failed or was given up, or the connection ended: the link starts anew.
+    /// The call failed or was given up, or the connection ended: the link starts anew, and the next address is to be called.
     pub fn ended(&mut self, now: Instant)
         ensures { self.new ≡ with_plan (ended (instant_nanos now) self.old.plan) (unlinked self.old) }
     {

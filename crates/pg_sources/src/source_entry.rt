@@ -2,6 +2,7 @@
 
 use crate::quality_gate::QualityGate;
 use crate::source::{SourceConnection, Turn};
+use crate::trial::{Trial, Tried};
 use mio::net::TcpStream;
 use mio::{Interest, Poll, Token};
 use pg_audit::PmuStats;
@@ -11,30 +12,40 @@ use pg_limits::{Budget, Phase, Portion, StopAfterShortRead};
 use pg_log::{ConfigChange, Detail, Entry, Journal, LogEvent, MOST_PMUS, Subject};
 use pg_quality::{PmuQuality, PmuSummary, SourceQuality};
 use pg_service::{
-    Address, GateStats, LinkState, Lookup, MeteredGate, REASONS, SourceReport, WorkerHandles, ended,
+    Address, GateStats, LinkState, Lookup, MeteredGate, REASONS, SourceReport, Targets,
+    WorkerHandles, ended,
 };
 use std::alloc::{AllocError, Global};
 use std::io::ErrorKind;
 use std::net::{Net, SocketAddr};
 use std::rt::Clock;
 use std::sync::{Arc, Wait};
-use std::time::Instant;
+use std::time::{Duration, Instant};
 
 /// The bytes of the shortest data frame: one PMU without phasors, analogs and digitals (C37.118.2, 6.3).
 const SHORTEST: usize = 22;
+
+/// How often the first address is tried, where another one is connected to and the first is to be gone back to, in seconds.
+const TRIALS_SECONDS: u64 = 60;
+
+/// How often a trial is looked at, in milliseconds.
+const TRIAL_MS: u64 = 100;
 
 /// A source with its connection, if there is one.
 #[derive(Drop)]
 pub(crate) struct SourceEntry {
     pub(crate) connection: SourceConnection,
-    pub(crate) address: Option<Address>,
-    // The number of its last dial, the address of its name that was found since, and whether the name is being looked up.
+    // Its addresses, and whether the first of them is gone back to.
+    pub(crate) targets: Targets,
+    prefer_first: bool,
+    // The number of its last dial.
     pub(crate) dial: u64,
-    pub(crate) found: Option<SocketAddr>,
-    pub(crate) is_looked_up: bool,
     // Where it was called last.
     called: Option<SocketAddr>,
     stream: Option<TcpStream>,
+    // A trial of its first address, and when the next one is begun, or this one is looked at.
+    trial: Option<Trial>,
+    trial_at: Option<Instant>,
     pub(crate) is_ready: bool,
     // Whether its connection has failed or it sends no more: then it is read until it has ended.
     pub(crate) is_ending: bool,
@@ -57,16 +68,24 @@ pub(crate) struct SourceEntry {
 }
 
 impl SourceEntry {
-    /// A source that is to be connected to at this address, which has this number of a dial.
-    pub(crate) fn new(connection: SourceConnection, address: Address, dial: u64) -> SourceEntry {
+    /// A source that is to be connected to at these addresses, which has this number of a dial. The first address is gone back to where it is
+    /// preferred.
+    pub(crate) fn new(
+        mut connection: SourceConnection,
+        targets: Targets,
+        prefer_first: bool,
+        dial: u64,
+    ) -> SourceEntry {
+        connection.set_addresses(targets.count(), 0);
         SourceEntry {
             connection,
-            address: Some(address),
+            targets,
+            prefer_first,
             dial,
-            found: None,
-            is_looked_up: false,
             called: None,
             stream: None,
+            trial: None,
+            trial_at: None,
             is_ready: false,
             is_ending: false,
             has_announced: false,
@@ -81,14 +100,20 @@ impl SourceEntry {
         }
     }
 
-    /// From now on it is connected to at this address. Its last configuration stays, to find out what a new one changes.
-    pub(crate) fn dial_again(&mut self, connection: SourceConnection, address: Address, dial: u64) {
+    /// From now on it is connected to at these addresses. Its last configuration stays, to find out what a new one changes.
+    pub(crate) fn dial_again(
+        &mut self,
+        connection: SourceConnection,
+        targets: Targets,
+        prefer_first: bool,
+        dial: u64,
+    ) {
         self.connection = connection;
-        self.address = Some(address);
+        self.connection.set_addresses(targets.count(), 0);
+        self.targets = targets;
+        self.prefer_first = prefer_first;
         self.dial = dial;
-        self.found = None;
-        self.is_looked_up = false;
-        self.stream = None;
+        self.close();
         self.reported = PmuStats::new();
         self.far = 0;
         self.measured_at = None;
@@ -109,11 +134,7 @@ impl SourceEntry {
         quality: &SourceQuality,
         second: u64,
     ) -> Result<SourceReport, AllocError> {
-        let address = match &self.address {
-            Some(Address::Known(address)) => Some(format!(in alloc; "{address}")?),
-            Some(Address::Name(name)) => Some(String::from_str(alloc, name.as_str())?),
-            None => None,
-        };
+        let address = self.address_text(alloc)?;
         let reach = match self.connection.plan().phase() {
             Phase::Up if self.has_measured => LinkState::Up,
             Phase::Up => LinkState::Connected,
@@ -138,6 +159,24 @@ impl SourceEntry {
             delays: quality.delays().last_minute(second),
             pmus: summaries_of(alloc, quality.pmus())?,
         })
+    }
+
+    /// The address that is called, or is to be called next: a name as its setup has it, unless several of its addresses are called.
+    fn address_text(&self, alloc: Global) -> Result<Option<String>, AllocError> {
+        let Some((place, _)) = self.targets.place(self.connection.plan().at()) else {
+            return Ok(None);
+        };
+        let Some(target) = self.targets.target(place) else {
+            return Ok(None);
+        };
+        let text = match (&target.address, self.called) {
+            (Address::Known(address), _) => format!(in alloc; "{address}")?,
+            (Address::Name(_), Some(called)) if target.found.len() > 1 && self.stream.is_some() => {
+                format!(in alloc; "{called}")?
+            }
+            (Address::Name(name), _) => String::from_str(alloc, name.as_str())?,
+        };
+        Ok(Some(text))
     }
 
     /// Keeps when it sent data and how far its clock is off, and returns whether its data are refused for that from now on, or no longer.
@@ -258,19 +297,26 @@ impl SourceEntry {
         match turn {
             Turn::More if budget.reader.reader.has_stopped => Some((Turn::Waits, seen)),
             Turn::Ended(_) => {
-                self.stream = None;
+                self.close();
                 Some((turn, seen))
             }
             _ => Some((turn, seen)),
         }
     }
 
-    /// Whether its name is being looked up.
+    /// Whether its call waits for an address of this target.
+    pub(crate) fn awaits_address_of(&self, place: usize) -> bool {
+        let called = self.targets.place(self.connection.plan().at());
+        self.awaits_address() && called.map(|it| it.0) == Some(place)
+    }
+
+    /// Whether its call waits for an address.
     pub(crate) fn awaits_address(&self) -> bool {
         self.stream.is_none() && self.connection.plan().phase() == Phase::Calling
     }
 
-    /// Begins a call. A name is looked up for it; where its address was found before, that is called meanwhile.
+    /// Begins a call of the address whose turn it is. A name is looked up for it; where its addresses were found before, one of these is called
+    /// meanwhile.
     pub(crate) fn call<R: Net + Wait>(
         &mut self,
         rt: &R,
@@ -281,22 +327,17 @@ impl SourceEntry {
         handles: WorkerHandles<'_>,
         now: Instant,
     ) -> Option<Entry> {
-        let known = match &self.address {
-            Some(Address::Known(address)) => Some(*address),
-            Some(Address::Name(_)) => {
-                if self.look_up(rt, alloc, worker, handles).is_err() {
-                    self.connection.ended(now);
-                    let detail = Detail::System(ErrorKind::OutOfMemory);
-                    return Some(self.entry(LogEvent::NotMade, detail));
-                }
-                self.found
-            }
-            None => {
-                self.connection.rest();
-                return None;
-            }
+        let at = self.connection.plan().at();
+        let Some((target, _)) = self.targets.place(at) else {
+            self.connection.rest();
+            return None;
         };
-        match known {
+        if self.look_up(rt, alloc, worker, target, handles).is_err() {
+            self.connection.ended(now);
+            let detail = Detail::System(ErrorKind::OutOfMemory);
+            return Some(self.entry(LogEvent::NotMade, detail));
+        }
+        match self.targets.address(at) {
             Some(address) => Some(self.connect(rt, poll, place, address, now)),
             None => {
                 self.connection.sought(now);
@@ -305,28 +346,38 @@ impl SourceEntry {
         }
     }
 
-    /// Has its name looked up, unless it is being looked up.
+    /// Has the name of this target looked up, if it is one, unless it is being looked up.
     fn look_up<R: Wait>(
         &mut self,
         rt: &R,
         alloc: Global,
         worker: usize,
+        place: usize,
         handles: WorkerHandles<'_>,
     ) -> Result<(), AllocError> {
-        let Some(Address::Name(name)) = &self.address else {
+        let source = self.connection.source();
+        let Some(target) = self.targets.target_mut(place) else {
             return Ok(());
         };
-        if self.is_looked_up {
+        let (Address::Name(name), false) = (&target.address, target.is_looked_up) else {
             return Ok(());
-        }
+        };
         let lookup = Lookup {
             worker,
-            source: self.connection.source(),
+            source,
             dial: self.dial,
+            place,
             name: String::from_str(alloc, name.as_str())?,
         };
-        self.is_looked_up = handles.look_up(rt, lookup);
+        target.is_looked_up = handles.look_up(rt, lookup);
         Ok(())
+    }
+
+    /// The name of this target was looked up.
+    pub(crate) fn found(&mut self, place: usize, addresses: Vec<SocketAddr>) {
+        let at = self.connection.plan().at();
+        let at = self.targets.found(place, addresses, at);
+        self.connection.set_addresses(self.targets.count(), at);
     }
 
     /// Begins a connection to this address.
@@ -339,10 +390,7 @@ impl SourceEntry {
         now: Instant,
     ) -> Entry {
         let both = Interest::READABLE | Interest::WRITABLE;
-        self.has_announced = false;
-        self.has_measured = false;
-        self.newest = None;
-        self.called = Some(address);
+        self.begin(address);
         let mut stream = match TcpStream::connect(rt, address) {
             Ok(stream) => stream,
             Err(error) => {
@@ -356,10 +404,123 @@ impl SourceEntry {
             return self.entry(LogEvent::SocketFault, Detail::of_error(&error));
         }
         self.stream = Some(stream);
-        self.is_ending = false;
-        self.size = SHORTEST;
         self.connection.called(now);
         self.entry(LogEvent::Called, Detail::At(address))
+    }
+
+    /// Nothing is known yet of the connection to this address.
+    fn begin(&mut self, address: SocketAddr) {
+        self.has_announced = false;
+        self.has_measured = false;
+        self.newest = None;
+        self.called = Some(address);
+        self.is_ending = false;
+        self.size = SHORTEST;
+    }
+
+    /// When the next trial of its first address is begun, or the one that runs is looked at.
+    pub(crate) fn trial_due(&self) -> Option<Instant> {
+        if self.is_to_go_back() {
+            self.trial_at
+        } else {
+            None
+        }
+    }
+
+    /// Whether its first target is to be gone back to: another one is connected to.
+    fn is_to_go_back(&self) -> bool {
+        if !self.prefer_first || self.connection.plan().phase() != Phase::Up {
+            return false;
+        }
+        match self.targets.place(self.connection.plan().at()) {
+            Some((place, _)) => place > 0,
+            None => false,
+        }
+    }
+
+    /// Begins a trial of its first address, or looks at the one that runs, where this is due.
+    pub(crate) fn do_trial<R: Net + Wait>(
+        &mut self,
+        rt: &R,
+        alloc: Global,
+        poll: &Poll,
+        worker: usize,
+        place: usize,
+        handles: WorkerHandles<'_>,
+        now: Instant,
+    ) -> Option<Entry> {
+        let due = self.trial_due()?;
+        if due > now {
+            return None;
+        }
+        let Some(mut trial) = self.trial.take() else {
+            return self.begin_trial(rt, alloc, worker, handles, now);
+        };
+        match trial.step(now) {
+            Tried::Waits => {
+                self.trial = Some(trial);
+                self.trial_at = now.checked_add(Duration::from_millis(TRIAL_MS));
+                None
+            }
+            Tried::Announced => Some(self.go_back(poll, place, trial, now)),
+            Tried::Failed(detail) => Some(self.not_back(LogEvent::FirstNotMade, detail, now)),
+            Tried::Silent => Some(self.not_back(LogEvent::FirstSilent, Detail::Nothing, now)),
+        }
+    }
+
+    /// Begins a trial of its first address. A name is looked up; where its addresses were found before, the first of these is tried meanwhile.
+    fn begin_trial<R: Net + Wait>(
+        &mut self,
+        rt: &R,
+        alloc: Global,
+        worker: usize,
+        handles: WorkerHandles<'_>,
+        now: Instant,
+    ) -> Option<Entry> {
+        self.trial_at = now.checked_add(Duration::from_secs(TRIALS_SECONDS));
+        if self.look_up(rt, alloc, worker, 0, handles).is_err() {
+            let detail = Detail::System(ErrorKind::OutOfMemory);
+            return Some(self.not_back(LogEvent::FirstNotMade, detail, now));
+        }
+        let address = self.targets.address(0)?;
+        match Trial::begin(rt, alloc, self.connection.source(), address, now) {
+            Ok(trial) => {
+                self.trial = Some(trial);
+                self.trial_at = now.checked_add(Duration::from_millis(TRIAL_MS));
+                None
+            }
+            Err(detail) => Some(self.not_back(LogEvent::FirstNotMade, detail, now)),
+        }
+    }
+
+    /// The trial failed: the next one comes in a minute.
+    fn not_back(&mut self, event: LogEvent, detail: Detail, now: Instant) -> Entry {
+        self.trial_at = now.checked_add(Duration::from_secs(TRIALS_SECONDS));
+        self.entry(event, detail)
+    }
+
+    /// The connection of the trial takes the place of the one that stands.
+    fn go_back(&mut self, poll: &Poll, place: usize, trial: Trial, now: Instant) -> Entry {
+        let both = Interest::READABLE | Interest::WRITABLE;
+        let (address, mut stream) = trial.into_parts();
+        let mut ready = stream.set_nodelay(true);
+        if ready.is_ok() {
+            ready = poll.registry().register(&mut stream, Token(place), both);
+        }
+        if let Err(error) = ready {
+            return self.not_back(LogEvent::FirstNotMade, Detail::of_error(&error), now);
+        }
+        self.begin(address);
+        self.stream = Some(stream);
+        self.connection.first_made(now);
+        self.entry(LogEvent::FirstPreferred, Detail::At(address))
+    }
+
+    /// Closes its sockets.
+    fn close(&mut self) {
+        self.stream = None;
+        self.trial = None;
+        self.trial_at = None;
     }
 
     /// Finds out whether the connection that was begun is made by now, or has failed.
@@ -380,6 +541,7 @@ impl SourceEntry {
         }
         let option = stream.set_nodelay(true);
         self.connection.made(now);
+        self.trial_at = now.checked_add(Duration::from_secs(TRIALS_SECONDS));
         Some(match option {
             Ok(()) => self.entry(LogEvent::Made, Detail::Nothing),
             Err(error) => self.entry(LogEvent::NoDelayFault, Detail::of_error(&error)),
@@ -388,19 +550,19 @@ impl SourceEntry {
 
     /// Ends the connection, or the call.
     pub(crate) fn end(&mut self, now: Instant) {
-        self.stream = None;
+        self.close();
         self.connection.ended(now);
     }
 
     /// Ends the connection, and calls no more.
     pub(crate) fn rest(&mut self) {
-        self.stream = None;
+        self.close();
         self.connection.rest();
     }
 
     /// Ends the connection, and calls anew.
     pub(crate) fn renew(&mut self, now: Instant) {
-        self.stream = None;
+        self.close();
         self.connection.renew(now);
     }
 }

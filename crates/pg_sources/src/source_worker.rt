@@ -13,8 +13,8 @@ use pg_limits::{Action, Clocks, Phase, reference};
 use pg_log::{Detail, Entry, LogEvent, MOST_PMUS, Subject};
 use pg_quality::PmuChanges;
 use pg_service::{
-    Dial, Mailbox, MeteredGate, Poller, READS, ReadyQueue, SourceOrder, WorkerHandles, ended,
-    sooner,
+    Dial, Mailbox, MeteredGate, Poller, READS, ReadyQueue, SourceOrder, Targets, WorkerHandles,
+    ended, sooner,
 };
 use pg_shared::{Named, SharedGate, Work};
 use pg_wire::{PmuId, PmuKey, Refusal};
@@ -125,10 +125,12 @@ impl<'a, R: Wait + Net + Clock, N: Named> SourceWorker<'a, R, N> {
     pub fn dial(&mut self, dial: Dial) -> Result<(), Refusal> {
         let Dial {
             source,
-            address,
+            addresses,
+            prefer_first,
             silence,
             guards,
         } = dial;
+        let targets = Targets::new(self.alloc, addresses)?;
         let connection = SourceConnection::new(
             self.alloc,
             source,
@@ -142,14 +144,14 @@ impl<'a, R: Wait + Net + Clock, N: Named> SourceWorker<'a, R, N> {
         self.dials = self.dials.wrapping_add(1);
         let dial = self.dials;
         if let Some(old) = self.source_mut(source) {
-            old.dial_again(connection, address, dial);
+            old.dial_again(connection, targets, prefer_first, dial);
             return Ok(());
         }
         // Each source has its measures at its own place.
         self.sources.try_reserve(1)?;
         self.gate.measures.add_source()?;
         self.sources
-            .push(SourceEntry::new(connection, address, dial))?;
+            .push(SourceEntry::new(connection, targets, prefer_first, dial))?;
         Ok(())
     }
 
@@ -268,8 +270,9 @@ impl<'a, R: Wait + Net + Clock, N: Named> SourceWorker<'a, R, N> {
             SourceOrder::Found {
                 source,
                 dial,
-                address,
-            } => self.connect_found(source, dial, address),
+                place,
+                addresses,
+            } => self.connect_found(source, dial, place, addresses),
             SourceOrder::Report(asking) => self.report(asking),
             SourceOrder::Room(events) => self.pace.resize(events),
         }
@@ -281,7 +284,8 @@ impl<'a, R: Wait + Net + Clock, N: Named> SourceWorker<'a, R, N> {
             return;
         };
         source.rest();
-        if source.address.take().is_some() {
+        if !source.targets.is_empty() {
+            source.targets.clear();
             let entry = source.entry(LogEvent::Undialed, Detail::Nothing);
             self.handles.journal.log(self.rt, entry);
         }
@@ -292,7 +296,7 @@ impl<'a, R: Wait + Net + Clock, N: Named> SourceWorker<'a, R, N> {
         let mut reports = Vec::new(self.alloc);
         let second = self.clock / 1_000;
         for (place, source) in self.sources.iter().enumerate() {
-            let (true, Some(quality)) = (source.address.is_some(), self.gate.measures.of(place))
+            let (false, Some(quality)) = (source.targets.is_empty(), self.gate.measures.of(place))
             else {
                 continue;
             };
@@ -312,9 +316,9 @@ impl<'a, R: Wait + Net + Clock, N: Named> SourceWorker<'a, R, N> {
         collector.report_sources(self.rt, journal, asking, reports);
     }
 
-    /// A source's name was looked up: the source is called there, if its call waits for the address. It is passed over where the source was
+    /// A name of a source was looked up: the source is called there, if its call waits for the address. It is passed over where the source was
     /// dialed anew meanwhile.
-    fn connect_found(&mut self, id: PmuId, dial: u64, address: Option<SocketAddr>) {
+    fn connect_found(&mut self, id: PmuId, dial: u64, target: usize, addresses: Vec<SocketAddr>) {
         let Some(place) = place_of(&self.sources, id) else {
             return;
         };
@@ -324,19 +328,21 @@ impl<'a, R: Wait + Net + Clock, N: Named> SourceWorker<'a, R, N> {
         if source.dial != dial {
             return;
         }
-        source.is_looked_up = false;
-        source.found = address.or(source.found);
+        let is_found = !addresses.is_empty();
+        let is_awaited = source.awaits_address_of(target);
+        source.found(target, addresses);
+        let address = source.targets.address(source.connection.plan().at());
         let entry = match address {
-            Some(address) if source.awaits_address() => source.connect(
+            Some(address) if is_found && is_awaited => source.connect(
                 self.rt,
                 self.waiting.poll(),
                 place,
                 address,
                 self.queue.now,
             ),
-            Some(_) => return,
-            None => {
-                if source.awaits_address() {
+            _ if is_found => return,
+            _ => {
+                if is_awaited {
                     source.connection.ended(self.queue.now);
                 }
                 source.entry(LogEvent::NoAddress, Detail::Nothing)
@@ -396,7 +402,6 @@ impl<'a, R: Wait + Net + Clock, N: Named> SourceWorker<'a, R, N> {
                 Some(source.entry(LogEvent::AskedAgain, Detail::Nothing))
             }
         };
-        let left = source.connection.plan().left(self.queue.now);
         if let Some(entry) = entry {
             self.handles.journal.log(self.rt, entry);
         }
@@ -404,7 +409,37 @@ impl<'a, R: Wait + Net + Clock, N: Named> SourceWorker<'a, R, N> {
             // Its commands are written where it is served.
             self.mark(place);
         }
-        self.queue.now.checked_add(left?)
+        self.do_trial_of(place);
+        let source = self.sources.get(place)?;
+        let next = match source.connection.plan().left(self.queue.now) {
+            Some(left) => self.queue.now.checked_add(left),
+            None => None,
+        };
+        sooner(next, source.trial_due())
+    }
+
+    /// Tries the first address of the source at this place, where this is due. Where it announces, its connection is served from now on.
+    fn do_trial_of(&mut self, place: usize) {
+        let Some(source) = self.sources.get_mut(place) else {
+            return;
+        };
+        let tried = source.do_trial(
+            self.rt,
+            self.alloc,
+            self.waiting.poll(),
+            self.number,
+            place,
+            self.handles,
+            self.queue.now,
+        );
+        let Some(entry) = tried else {
+            return;
+        };
+        if entry.event == LogEvent::FirstPreferred {
+            self.gate.measures.connect(place);
+            self.mark(place);
+        }
+        self.handles.journal.log(self.rt, entry);
     }
 
     /// Puts up at the board how the clocks of its sources stand, and reports where this machine's clock is probably the wrong one.

@@ -79,6 +79,27 @@ lost_then (Some config) lost entries = lost
 lost_then None lost [] = lost
 lost_then None lost (entry ∷ entries) = lost_behind lost entry.content
 
+-- the last configuration that was dropped, with one more entry
+abbrev pub kept_by : Option Entry → Entry → Content → Option Entry
+kept_by config entry (Frame time gap) = config
+kept_by config entry Config = Some entry
+kept_by config entry State = config
+
+-- the lines that wait behind the oldest entry
+abbrev pub lines_behind : ℕ → List Entry → ℕ
+lines_behind lines [] = lines
+lines_behind lines (entry ∷ entries) = lines - entry.lines
+
+abbrev pub lines_then : Option Entry → ℕ → List Entry → ℕ
+lines_then (Some config) lines entries = lines
+lines_then None lines entries = lines_behind lines entries
+
+-- what waits once no more lines wait than may, or one entry: the oldest entries are dropped, and no more than have to be
+abbrev pub fitting : ℕ → ℕ → List Entry → List Entry
+fitting most lines [] = []
+fitting most lines (entry ∷ []) = entry ∷ []
+fitting most lines (entry ∷ next ∷ entries) = if nat_le lines most then entry ∷ next ∷ entries else fitting most (lines - entry.lines) (next ∷ entries)
+
 -- whether what is done each so many milliseconds is due
 abbrev pub is_over : ℕ → ℕ → ℕ → Bool
 is_over since period now = nat_le period (now - since)

@@ -1,7 +1,7 @@
 //! The lines that wait for standard output. Where too many wait the oldest are dropped, and the slots of dropped frames are reported as a gap.
 
-ghost use Rattle.std.specs.Prelude.{◌≡◌, ◌≤◌, ◌⊎◌, ◌++◌, ◌∷◌, [], None, OnOk, IfErr, drop, length};
-ghost use Rattle.pg_tools.specs.Queueing.{gap_with, handed, is_nothing, joined, lost_then, nothing_waits, lost_with, slots_of, standing, waiting_behind};
+ghost use Rattle.std.specs.Prelude.{◌≡◌, ◌≤◌, ◌⊎◌, ◌+◌, ◌++◌, ◌∷◌, [], None, OnOk, IfErr, drop, length};
+ghost use Rattle.pg_tools.specs.Queueing.{fitting, gap_with, handed, is_nothing, joined, kept_by, lines_behind, lines_then, lost_then, nothing_waits, lost_with, saturated, slots_of, standing, waiting_behind};
 
 use crate::lines::FrameTime;
 use std::alloc::{AllocError, Global};
@@ -158,13 +158,14 @@ impl LineQueue {
         self.entries.is_empty() && self.config.is_none()
     }
 
-    /// Adds an entry, and then drops the oldest ones until at most so many lines wait as may, or one entry.
+    /// Adds an entry, and then drops the oldest ones until at most so many lines wait as may, or one entry; no more than has to be.
     ///
     /// # Errors
     ///
     /// There is no memory; nothing has changed.
     pub fn push(&mut self, entry: Entry) -> Result<(), AllocError>
         ensures slots { OnOk result (standing self.new.lost self.new.entries ≡ standing self.old.lost (self.old.entries ++ entry ∷ [])) }
+        ensures entries { OnOk result (self.new.entries ≡ fitting self.old.most (saturated (self.old.lines + entry.lines)) (self.old.entries ++ entry ∷ [])) }
         ensures room { OnOk result ((self.new.lines ≤ self.new.most) ⊎ (length self.new.entries ≤ 1)) }
         ensures most { self.new.most ≡ self.old.most }
         ensures memory { IfErr result (λ _. self.new ≡ self.old) }
@@ -185,6 +186,7 @@ impl LineQueue {
     fn drop_first(&mut self)
         ensures slots { standing self.new.lost self.new.entries ≡ standing self.old.lost self.old.entries }
         ensures entries { self.new.entries ≡ drop 1 self.old.entries }
+        ensures lines { self.new.lines ≡ lines_behind self.old.lines self.old.entries }
         ensures most { self.new.most ≡ self.old.most }
     {
         let Some(entry) = self.entries.pop_front() else {
@@ -196,9 +198,7 @@ impl LineQueue {
 
     /// Drops an entry that was the oldest one: of a frame its slots are counted, a configuration is kept for what follows.
     pub fn lose(&mut self, entry: Entry)
-        ensures lost { self.new.lost ≡ lost_with self.old.lost entry.content }
-        ensures entries { self.new.entries ≡ self.old.entries }
-        ensures most { self.new.most ≡ self.old.most }
+        ensures state { self.new ≡ record self.old { lost = lost_with self.old.lost entry.content; dropped = lost_with self.old.dropped entry.content; config = kept_by self.old.config entry entry.content } }
     {
         let slots = slots_of_content(entry.content);
         self.lost = self.lost.saturating_add(slots);
@@ -214,6 +214,9 @@ impl LineQueue {
         ensures entries { self.new.entries ≡ waiting_behind self.old.config self.old.entries }
         ensures lost { self.new.lost ≡ lost_then self.old.config self.old.lost self.old.entries }
         ensures config { self.new.config ≡ None }
+        ensures lines { self.new.lines ≡ lines_then self.old.config self.old.lines self.old.entries }
+        ensures dropped { self.new.dropped ≡ self.old.dropped }
+        ensures most { self.new.most ≡ self.old.most }
     {
         if let Some(config) = self.config.take() {
             return Some(config);

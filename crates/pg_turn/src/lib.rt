@@ -4,6 +4,7 @@
 //! rule of this project; no standard speaks of it.
 #![tactic(auto)]
 
+mod counted;
 mod machine;
 mod plays;
 mod seat;

@@ -4,16 +4,18 @@
 //! Making the table and parking and waking are the base crate's own; the steps here are take, give back, split, join, and
 //! the load after a join that compares two histories.
 ghost use Rattle.std.specs.Prelude.{[], false};
+ghost use Rattle.pg_turn.specs.Counting.{CountedShows};
 ghost use Rattle.pg_turn.specs.Steps.{Kept, took, gave, settled, newcomer, told, both};
 
+use crate::counted::Counted;
 use crate::machine::Machine;
 use crate::view::{Telling, View};
 use atomic_table::{Join, Play, Seat, Split, Table, TableRule};
 use std::alloc::Global;
 use std::marker::PhantomData;
 
-/// What lies in the slot: the machine, or none while a seat has it in hand.
-pub type Slot<M> = Option<M>;
+/// What lies in the slot: the machine with the count of its calls, or none while a seat has it in hand.
+pub type Slot<M> = Option<Counted<M>>;
 
 /// A view over the events and replies of a machine.
 pub type Seen<M> = View<<M as Machine>::Event, <M as Machine>::Reply>;
@@ -30,7 +32,7 @@ pub struct OneHistory<M> {
 }
 
 impl<M: Machine> TableRule<Slot<M>, Seen<M>, ()> for OneHistory<M> {
-    ghost holds = { λ _. Kept M.shows M.may };
+    ghost holds = { λ _. Kept (CountedShows M.shows) M.may };
 
     ghost first = { λ _. newcomer [] };
 }
@@ -41,7 +43,7 @@ pub(crate) struct Take<M> {
 }
 
 impl<M: Machine> Play<Slot<M>, Seen<M>> for Take<M> {
-    ghost then = { took M.shows M.may };
+    ghost then = { took (CountedShows M.shows) M.may };
 }
 
 /// The word goes from 1 to 0, the value goes home, and the history and the own places are longer by one.

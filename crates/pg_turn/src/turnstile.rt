@@ -2,9 +2,12 @@
 ghost use Rattle.std.specs.Prelude.{◌≡◌, ◌+◌, ◌≤◌, ℕ, true, false, [], ◌∷◌, ◌++◌, IfOk, IfSome, List, length};
 ghost use mathlib.Core.List.{IsPrefix};
 ghost use Rattle.pg_turn.specs.Known.{times};
+ghost use Rattle.pg_turn.specs.Counting.{capped, CountedShows};
 ghost use Rattle.pg_turn.specs.Turns.{Called, IsLonger, IsLegal};
+ghost use Rattle.pg_turn.specs.Placed.{PlacedCall};
 ghost use Rattle.pg_turn.specs.Steps.{view_of};
 
+use crate::counted::Counted;
 use crate::machine::Machine;
 use crate::plays::{Board, GiveBack, OneHistory, Place, Seen, Settle, Slot, Take, Tell};
 use crate::seat::Seat;
@@ -23,7 +26,7 @@ type Top<M> = Shared<Slot<M>, Seen<M>, (), OneHistory<M>>;
 fn take<M: Machine, R: Wait>(rt: &R, top: &Top<M>, waiting: &AtomicUsize, place: &mut Place<M>)
     requires table { (place.old.table_id ≡ top.now.table_id) × (top.now.table_id.words ≡ 1) }
     ensures table { place.new.table_id ≡ place.old.table_id }
-    ensures taken { (x : M) × (place.new.me.1 ≡ (0, Some x) ∷ place.old.me.1) × M.shows x place.new.me.0.seen }
+    ensures taken { (x : Counted M) × (place.new.me.1 ≡ (0, Some x) ∷ place.old.me.1) × CountedShows M.shows x place.new.me.0.seen }
     ensures seen { IsPrefix place.old.me.0.seen place.new.me.0.seen × IsLegal M.may place.new.me.0.seen }
     ensures own { (place.new.me.0.own ≡ place.old.me.0.own) × (place.new.me.0.holds ≡ true) }
 {
@@ -45,15 +48,34 @@ fn take<M: Machine, R: Wait>(rt: &R, top: &Top<M>, waiting: &AtomicUsize, place:
 #[inline(always)]
 fn step_held<M: Machine>(top: &Top<M>, place: &mut Place<M>, event: M::Event) -> M::Reply
     requires table { place.old.table_id ≡ top.now.table_id }
-    requires taken { (x : M) × (place.old.me.1 ≡ (0, Some x) ∷ []) × M.shows x place.old.me.0.seen }
+    requires taken { (x : Counted M) × (place.old.me.1 ≡ (0, Some x) ∷ []) × CountedShows M.shows x place.old.me.0.seen }
     ensures table { place.new.table_id ≡ place.old.table_id }
     ensures view { place.new.me.0 ≡ place.old.me.0 }
     ensures legal { M.may place.old.me.0.seen event result }
-    ensures stepped { (y : M) × (place.new.me.1 ≡ (0, Some y) ∷ []) × M.shows y (place.old.me.0.seen ++ (event, result) ∷ []) }
+    ensures stepped { (y : Counted M) × (place.new.me.1 ≡ (0, Some y) ∷ []) × CountedShows M.shows y (place.old.me.0.seen ++ (event, result) ∷ []) }
 {
     let slot = place.slot_mut(top, 0);
     match slot {
-        Some(machine) => machine.step(event),
+        Some(counted) => {
+            counted.calls = counted.calls.saturating_add(1);
+            counted.machine.step(event)
+        }
+        None => unreachable!(),
+    }
+}
+
+// The place that the next call will have: how many calls the value has answered.
+#[inline(always)]
+fn next_place<M: Machine>(top: &Top<M>, place: &mut Place<M>) -> u64
+    requires table { place.old.table_id ≡ top.now.table_id }
+    requires taken { (x : Counted M) × (place.old.me.1 ≡ (0, Some x) ∷ []) × CountedShows M.shows x place.old.me.0.seen }
+    ensures table { place.new.table_id ≡ place.old.table_id }
+    ensures same { place.new.me ≡ place.old.me }
+    ensures value { result ≡ capped (length place.old.me.0.seen) }
+{
+    let slot = place.slot_mut(top, 0);
+    match slot {
+        Some(counted) => counted.calls,
         None => unreachable!(),
     }
 }
@@ -71,7 +93,7 @@ fn give_back<M: Machine, J: Telling<M::Event, M::Reply>>(
     requires holds { place.old.me.0.holds ≡ true }
     requires told { J.calls ≡ (event.value, reply.now) ∷ [] }
     requires legal { M.may place.old.me.0.seen event.value reply.now }
-    requires stepped { (y : M) × (place.old.me.1 ≡ (0, Some y) ∷ []) × M.shows y (place.old.me.0.seen ++ (event.value, reply.now) ∷ []) }
+    requires stepped { (y : Counted M) × (place.old.me.1 ≡ (0, Some y) ∷ []) × CountedShows M.shows y (place.old.me.0.seen ++ (event.value, reply.now) ∷ []) }
     ensures table { place.new.table_id ≡ place.old.table_id }
     ensures told { place.new.me ≡ (view_of (place.old.me.0.seen ++ (event.value, reply.now) ∷ []) [] (place.old.me.0.own ++ length place.old.me.0.seen ∷ []) false, []) }
 {
@@ -115,7 +137,7 @@ impl<M: Machine> Turnstile<M> {
         ensures seat { IfOk result (λ t. (t.1.table ≡ t.0) × (t.1.seen ≡ []) × (t.1.own ≡ [])) }
     {
         let mut slots = Vec::new(alloc);
-        slots.push(Some(machine))?;
+        slots.push(Some(Counted { machine, calls: 0 }))?;
         let Ok((board, place)) = Table::new(alloc, &[0], slots, &()) else {
             return Err(AllocError);
         };
@@ -148,6 +170,29 @@ impl<M: Machine> Turnstile<M> {
         let reply = step_held(top, &mut place, event);
         give_back::<M, Brand>(top, &self.waiting, &mut place, asked, &reply);
         (Seat { place }, reply)
+    }
+
+    /// The same, and the call's place in the history: how many calls came before it, of all threads. It is the last of the
+    /// seat's own places, and stays at `u64::MAX` once it has come there.
+    #[inline(always)]
+    pub fn call_placed<R: Wait>(
+        &self,
+        rt: &R,
+        seat: Seat<M>,
+        event: M::Event,
+    ) -> (Seat<M>, M::Reply, u64)
+        requires table { seat.table ≡ self.now }
+        ensures seat { result.0.table ≡ seat.table }
+        ensures call { PlacedCall M.may seat event result.1 result.2 result.0 }
+    {
+        let Seat { mut place } = seat;
+        let top = &self.board.shared;
+        take(rt, top, &self.waiting, &mut place);
+        let number = next_place(top, &mut place);
+        let asked = Snapshot::of(&event);
+        let reply = step_held(top, &mut place, event);
+        give_back::<M, Brand>(top, &self.waiting, &mut place, asked, &reply);
+        (Seat { place }, reply, number)
     }
 
     /// The seat as it was, and a second one of this turnstile, which has seen what the first has and has made no call. It
@@ -200,6 +245,10 @@ impl<M: Machine> Turnstile<M> {
         if word != 0 {
             return None;
         }
-        Some(slot.unwrap())
+        let Counted {
+            machine,
+            calls: _calls,
+        } = slot.unwrap();
+        Some(machine)
     }
 }

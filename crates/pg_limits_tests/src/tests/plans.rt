@@ -11,8 +11,10 @@ use std::time::{Duration, Instant};
 /// - `called`, `made`, `ended`: a call, its connection, the end of either. It is waited for a connection for 10 seconds.
 /// - `announced` (with its DATA_RATE), `measured`, `received`: what comes over the connection.
 /// - `asked`: the source is asked again. `renew`: it is to be called anew. `rest`: it is not to be called.
+/// - `addresses` of this number, of which the one at this place is called. `first`: the first one takes the place of the one that is called.
 ///
-/// And what is asked, with the answer behind `=`: what is `due`, whether `silent` is due, the `phase`, the milliseconds that are `left`.
+/// And what is asked, with the answer behind `=`: what is `due`, whether `silent` is due, the `phase`, the milliseconds that are `left`, the place
+/// `at` which an address is called.
 ///
 /// - A pause stands between calls, of 1, 2, 4, 8, 16, 30 and 30 seconds: however a connection ended, without a byte, behind an announcement,
 ///   or with measurements for less than 10 seconds. Two calls are a second apart, also where the source is to be called anew at once.
@@ -21,6 +23,8 @@ use std::time::{Duration, Instant};
 /// - A connection without a measurement is asked again after 3, 6 and 12 seconds, and after three periods where these are longer; not before a
 ///   second without a byte. A measurement begins it anew, an announcement does not.
 /// - Without `silence` it is asked again for ever: 3 seconds, 18 times doubled, are 786,432.
+/// - Of several addresses the next one is called at once, and the pause comes when all were tried since the last one; a connection with
+///   measurements for 10 seconds begins anew. Behind the last address comes the first.
 const ROWS: &str = "\
 calls that fail|10|\
     due 0=Call|\
@@ -107,7 +111,23 @@ no limit and rest|none|\
     due 1000000000=Ask|asked|due 1000000000=Ask|asked|due 1000000000=Ask|asked|\
     due 1000000000=Ask|asked|due 1000000000=Ask|asked|due 1000000000=Ask|asked|\
     due 1000000000=Ask|asked|due 1000000000=Ask|asked|due 1000000000=Ask|asked|\
-    due 1000000000=Ask|asked|due 1000000000=Nothing|rest|due 1000000000=Nothing|left 1000000000=None|renew 1000000000|due 1000000000=Call";
+    due 1000000000=Ask|asked|due 1000000000=Nothing|rest|due 1000000000=Nothing|left 1000000000=None|renew 1000000000|due 1000000000=Call\n\
+three addresses in turn|10|\
+    addresses 3 0|at=0|called 0|ended 10|at=1|phase 10=Resting|due 10=Call|\
+    called 10|made 20|ended 30|at=2|due 30=Call|\
+    called 30|ended 40|at=0|due 1039=Nothing|due 1040=Call|\
+    called 1040|ended 1050|at=1|due 1050=Call|\
+    called 1050|ended 1060|at=2|due 1060=Call|\
+    called 1060|ended 1070|at=0|due 3069=Nothing|due 3070=Call\n\
+a good connection begins anew|10|\
+    addresses 2 0|called 0|ended 10|at=1|\
+    called 10|made 20|measured 20|measured 10020|ended 11000|at=0|due 11000=Call|\
+    called 11000|ended 11010|at=1|due 12009=Nothing|due 12010=Call|\
+    called 12010|made 12010|measured 12010|measured 22009|ended 22009|at=0|due 22009=Call\n\
+fewer addresses, and the first again|10|\
+    addresses 4 3|at=3|called 0|ended 5|at=0|due 5=Call|\
+    addresses 2 1|called 5|made 5|announced 5 30|measured 6|first 500|at=0|phase 500=Up|due 3499=Nothing|due 3500=Ask|\
+    ended 4000|at=1|due 4000=Call|called 4000|ended 4010|at=0|due 5009=Nothing|due 5010=Call";
 
 /// What is asked of a plan, or nothing where something happens to it.
 fn told(
@@ -115,6 +135,7 @@ fn told(
     alloc: Global,
     plan: &mut CallPlan,
     verb: &str,
+    count: usize,
     now: Instant,
     rate: &str,
 ) -> Result<String, AllocError> {
@@ -135,6 +156,10 @@ fn told(
             let left = plan.left(now).map(|left| left.as_millis());
             return format!(in alloc; "{left:?}");
         }
+        "at" => {
+            let at = plan.at();
+            return format!(in alloc; "{at}");
+        }
         "called" => plan.called(now),
         "made" => plan.made(now),
         "ended" => plan.ended(now),
@@ -142,6 +167,8 @@ fn told(
         "measured" => plan.measured(now),
         "received" => plan.received(now),
         "asked" => plan.asked(),
+        "addresses" => plan.set_addresses(count, rate.parse::<usize>().expect(rt, "a place")),
+        "first" => plan.first_made(now),
         "renew" => plan.renew(now),
         _ => plan.rest(),
     }
@@ -161,10 +188,13 @@ fn rows(rt: HostRuntime) {
             let mut words = asked.split(' ');
             let verb = words.next().expect(&rt, "a word");
             let millis = words.next().unwrap_or("0").parse::<u64>();
-            let millis = Duration::from_millis(millis.expect(&rt, "a time"));
-            let now = after(&rt, start, millis);
+            let millis = millis.expect(&rt, "a time");
+            let now = after(&rt, start, Duration::from_millis(millis));
             let rate = words.next().unwrap_or("");
-            let came = told(&rt, rt.alloc(), &mut plan, verb, now, rate).expect(&rt, "memory");
+            let count = millis as usize;
+            let came = told(&rt, rt.alloc(), &mut plan, verb, count, now, rate).expect(
+                &rt, "memory",
+            );
             assert!(rt; came.as_str() == wanted, "{name}: {step}: {came}");
         }
     }

@@ -56,6 +56,11 @@ serve = 1 => serve = 8 ==> restart Serve;
 serve = 1 => serve = 3 | ingest = 1 => ingest = 2 | tick_ms = 10 => tick_ms = 11 ==> restart TickMs; restart Ingest; restart Serve;
 0.1:4712 => 0.2:4712 ==> undial 7; dial 7 10.0.0.2:4712 10 None 200;
 , connect = "10.0.0.1:4712" => ==> undial 7;
+"10.0.0.1:4712" => ["10.0.0.1:4712"] ==>
+"10.0.0.1:4712" => ["10.0.0.1:4712", "b:1"] ==> undial 7; dial 7 10.0.0.1:4712 b:1 10 None 200;
+"10.0.0.1:4712" => ["b:1", "10.0.0.1:4712"] ==> undial 7; dial 7 b:1 10.0.0.1:4712 10 None 200;
+, connect => , prefer_first = true, connect ==> undial 7; dial 7 10.0.0.1:4712 10 None 200 prefer_first;
+, connect => , prefer_first = false, connect ==>
 { id = 8 } => { id = 8, connect = "pmu8.example:4713", clock_ms = 500 } ==> dial 8 pmu8.example:4713 10 Some(500) 200;
 , connect => , silence = 60, connect ==> undial 7; dial 7 10.0.0.1:4712 60 None 200;
 , connect => , clock_ms = 90, connect ==> undial 7; dial 7 10.0.0.1:4712 10 Some(90) 200;
@@ -147,6 +152,18 @@ const BARE_ROWS: &str = r#"# log = "info" => log = "info" ==>
 # status => status | # control => control ==> restart Control; restart Status;
 # status => status | # control => control | tick_ms = 10 => tick_ms = 20 | # log = "info" => log = "debug" ==> restart TickMs; restart Control; restart Status;"#;
 
+/// A source that is connected to: its addresses, and how it is watched.
+fn dial_told(rt: &impl Abort, alloc: Global, source: &SourceSetup) -> String {
+    let mut text = String::new(alloc);
+    write!(text, "dial {}", source.rules.source.get()).expect(rt, "memory");
+    for address in source.connect.as_slice() {
+        write!(text, " {address}").expect(rt, "memory");
+    }
+    let watch = watch_told(rt, alloc, &source.rules);
+    write!(text, " {watch}; ").expect(rt, "memory");
+    text
+}
+
 /// All that has to be done: edits, orders, and the keys that want a restart.
 fn changes_told(rt: &impl Abort, alloc: Global, changes: &Changes) -> String {
     let mut text = edits_told(rt, alloc, changes.edits.as_slice());
@@ -155,18 +172,7 @@ fn changes_told(rt: &impl Abort, alloc: Global, changes: &Changes) -> String {
             Order::Unlisten(sub) => format!(in alloc; "unlisten {}; ", sub.get()),
             Order::Undial(source) => format!(in alloc; "undial {}; ", source.get()),
             Order::Listen(port) => Ok(port_told(rt, alloc, port.port, &port.rules)),
-            Order::Dial(
-                SourceSetup {
-                    connect: Some(address),
-                    rules,
-                },
-            ) => {
-                let watch = watch_told(rt, alloc, rules);
-                format!(in alloc; "dial {} {address} {watch}; ", rules.source.get())
-            }
-            Order::Dial(source) => {
-                format!(in alloc; "dial {} nowhere; ", source.rules.source.get())
-            }
+            Order::Dial(source) => Ok(dial_told(rt, alloc, source)),
         };
         text.push_str(told.expect(rt, "memory").as_str())
             .expect(rt, "memory");

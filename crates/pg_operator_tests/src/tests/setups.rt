@@ -114,10 +114,22 @@ connect="a.b.123:1" => BadSetup
 connect="1.2.3.4.5:1" => BadSetup
 connect="255.255.255.256:1" => BadSetup
 connect="01.1.1.1:1" => BadSetup
-connect="1.1.1.1:65536" => BadSetup"#;
+connect="1.1.1.1:65536" => BadSetup
+connect=["1.1.1.1:5"] => addpmu 7/7; addsub 1 4 16777216; link 7 1.1.1.1:5; 10 1 1
+connect=["1.1.1.1:5", "host:6"] => addpmu 7/7; addsub 1 4 16777216; link 7 1.1.1.1:5; link 7 host:6; 10 1 1
+connect=["a:1", "b:2", "3.3.3.3:3", "a:1"] => addpmu 7/7; addsub 1 4 16777216; link 7 a:1; link 7 b:2; link 7 3.3.3.3:3; link 7 a:1; 10 1 1
+connect=[] => BadSetup
+connect=["a:1", "b:2", "c:3", "d:4", "e:5"] => BadSetup
+connect=["a:1", "b"] => BadSetup
+connect=[["a:1"]] => BadSetup
+connect=[1] => BadSetup"#;
 
 /// Lines of a PMU's table, with the sources: number, silence, guard, and how far it may be ahead.
 const SOURCES: &str = r#" => 7 10 None 200;
+prefer_first=true => 7 10 None 200 prefer_first;
+prefer_first=false => 7 10 None 200;
+prefer_first=1 => BadSetup
+prefer_first="true" => BadSetup
 silence=0 => 7 0 None 200;
 silence=1 => 7 1 None 200;
 silence=3600 => 7 3600 None 200;
@@ -153,6 +165,12 @@ clock_ms=5;[[pmu]];id=8;source=7;clock_ms=5 => 7 10 Some(5) 200;
 clock_ms=5;[[pmu]];id=8;source=7;clock_ms=6 => BadSetup
 clock_ms=6;[[pmu]];id=8;source=7;clock_ms=5 => BadSetup
 silence=1;clock_ms=5;[[pmu]];id=8;source=7;silence=1;clock_ms=6 => BadSetup
+prefer_first=true;[[pmu]];id=8;source=7 => 7 10 None 200 prefer_first;
+[[pmu]];id=8;source=7;prefer_first=true => 7 10 None 200 prefer_first;
+prefer_first=true;[[pmu]];id=8;source=7;prefer_first=true => 7 10 None 200 prefer_first;
+prefer_first=true;[[pmu]];id=8;source=7;prefer_first=false => BadSetup
+prefer_first=false;[[pmu]];id=8;source=7;prefer_first=true => BadSetup
+prefer_first=true;[[pmu]];id=8 => 7 10 None 200 prefer_first; 8 10 None 200;
 silence=5;[[pmu]];id=8;silence=6 => 7 5 None 200; 8 6 None 200;
 source=9;[[pmu]];id=8;source=3;[[pmu]];id=5;source=9;silence=4 => 9 4 None 200; 3 10 None 200;
 source=9;[[pmu]];id=9;source=7;clock_ms=1 => 9 10 None 200; 7 10 Some(1) 200;
@@ -323,7 +341,7 @@ fn edits_of(rt: &impl Abort, alloc: Global, setup: &Setup) -> String {
     let edits = setup.edits(alloc).expect(rt, "memory");
     let mut text = edits_told(rt, alloc, edits.as_slice());
     for source in setup.sources.as_slice() {
-        if let Some(address) = &source.connect {
+        for address in source.connect.as_slice() {
             write!(text, "link {} {address}; ", source.rules.source.get()).expect(rt, "memory");
         }
     }

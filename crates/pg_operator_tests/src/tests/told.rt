@@ -20,11 +20,18 @@ pub fn edits_told(rt: &impl Abort, alloc: Global, edits: &[Edit]) -> String {
     text
 }
 
-/// How a source is watched: silence, guard, and how far it may be ahead.
+/// How a source is watched: silence, guard, and how far it may be ahead; whether its first address is preferred.
 pub fn watch_told(rt: &impl Abort, alloc: Global, rules: &SourceRules) -> String {
-    format!(in alloc; "{} {:?} {}", rules.silence, rules.clock_ms, rules.ahead_ms).expect(
-        rt, "memory",
+    let first = if rules.prefer_first {
+        " prefer_first"
+    } else {
+        ""
+    };
+    format!(in alloc;
+        "{} {:?} {}{first}",
+        rules.silence, rules.clock_ms, rules.ahead_ms
     )
+    .expect(rt, "memory")
 }
 
 /// A port as an order: subscriber, number, address, which of the hosts above may connect, takeover, stall, idle and change.
