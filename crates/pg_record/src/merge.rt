@@ -1,0 +1,153 @@
+//! The records of several workers, put into the order of their places. A place that no worker recorded is a gap.
+
+ghost use Rattle.std.specs.Prelude.{◌≡◌, ◌<◌, ℕ, suc, IfOk, IfErr};
+ghost use Rattle.pg_record.specs.Merging.{Steps};
+
+use crate::block::BlockHead;
+use crate::record::{Record, read_record};
+use std::alloc::{AllocError, Global};
+use std::collections::BTreeMap;
+use std::marker::Model;
+
+/// How many milliseconds after a call the block with its record may have been begun at most. A place that is missing for longer is a gap.
+const LATEST: u64 = 10_000;
+
+/// A record with the time of its call.
+#[derive(Drop)]
+pub struct Timed {
+    /// The record.
+    pub record: Record,
+    /// When it was posted: milliseconds since 1970-01-01 00:00 UTC.
+    pub at: u64,
+    /// Its body.
+    pub body: Vec<u8>,
+}
+
+/// What comes next in the order of places.
+#[derive(Drop)]
+pub enum Merged {
+    /// The record of the next place.
+    Record(Timed),
+    /// The places from the first one on, up to the second one and without it, have no record.
+    Gap(u64, u64),
+    /// It may still come.
+    More,
+}
+
+/// Records that wait for those of lower places.
+#[derive(Drop)]
+pub struct Merge {
+    alloc: Global,
+    waiting: BTreeMap<u64, Timed>,
+    next: u64,
+    // When the newest block was begun.
+    newest: u64,
+    repeated: u64,
+}
+
+impl Model for Merge {
+    ghost use Rattle.std.specs.Prelude.{ℕ};
+
+    ghost Value = { ℕ };
+
+    ghost view = { λ m. m.next };
+}
+
+impl Merge {
+    /// One that waits for the record of this place, and for those behind it.
+    pub fn new(alloc: Global, next: u64) -> Merge
+        ensures { result ≡ next }
+    {
+        Merge {
+            alloc,
+            waiting: BTreeMap::new(alloc),
+            next,
+            newest: 0,
+            repeated: 0,
+        }
+    }
+
+    /// The place that comes next.
+    pub fn place(&self) -> u64
+        ensures { result ≡ self.now }
+    {
+        self.next
+    }
+
+    /// How many records were of a place that had come before.
+    pub fn repeated(&self) -> u64 {
+        self.repeated
+    }
+
+    /// Adds the records of a block, and returns how many of its bytes are none: 0 in a block of a worker.
+    ///
+    /// # Errors
+    ///
+    /// There is no memory.
+    pub fn add(&mut self, head: &BlockHead, records: &[u8]) -> Result<usize, AllocError>
+        ensures { self.new ≡ self.old }
+    {
+        self.newest = self.newest.max(head.start);
+        let mut rest = records;
+        'records: for _ in 0..records.len() {
+            let Some((record, body, behind)) = read_record(rest) else {
+                break;
+            };
+            self.wait(head.start, record, body)?;
+            rest = behind;
+        }
+        Ok(rest.len())
+    }
+
+    /// Keeps a record until its place comes.
+    fn wait(&mut self, start: u64, record: Record, body: &[u8]) -> Result<(), AllocError>
+        ensures { self.new ≡ self.old }
+    {
+        if record.place < self.next || self.waiting.contains_key(&record.place) {
+            self.repeated = self.repeated.saturating_add(1);
+            return Ok(());
+        }
+        let mut kept = Vec::with_capacity(self.alloc, body.len())?;
+        kept.extend_from_slice(body)?;
+        let timed = Timed {
+            record,
+            at: start.saturating_add(u64::from(record.at)),
+            body: kept,
+        };
+        match self.waiting.insert(record.place, timed) {
+            Ok(_) => Ok(()),
+            Err(_) => Err(AllocError),
+        }
+    }
+
+    /// The record of the next place, or the gap before the next record, where that can't come any more: since no more blocks are to come,
+    /// or since the newest one was begun more than 10 s behind the call of that record.
+    pub fn next(&mut self, is_ended: bool) -> Merged
+        ensures { Steps self.old result self.new }
+    {
+        let Some((place, at)) = self.first() else {
+            return Merged::More;
+        };
+        if place == self.next {
+            let Some((_, mut timed)) = self.waiting.pop_first() else {
+                return Merged::More;
+            };
+            // It waited under its place.
+            timed.record.place = place;
+            self.next = self.next.saturating_add(1);
+            return Merged::Record(timed);
+        }
+        if place > self.next && (is_ended || self.newest > at.saturating_add(LATEST)) {
+            let from = self.next;
+            self.next = place;
+            return Merged::Gap(from, place);
+        }
+        Merged::More
+    }
+
+    /// The lowest place of a record that waits, and when it was posted.
+    fn first(&self) -> Option<(u64, u64)> {
+        let (place, timed) = self.waiting.first_key_value()?;
+        Some((*place, timed.at))
+    }
+}
