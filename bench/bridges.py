@@ -1,16 +1,18 @@
 #!/usr/bin/env python3
-"""Tries `pdcgw bridge` with real brokers and databases, which are stopped and started meanwhile, as the gateway is, and a PMU that is revoked and granted.
+"""Tries `pdcgw bridge` with real brokers and databases, as docs/integration/pdcgw-bridge@.service starts it. Meanwhile they are stopped and started,
+frozen (SIGSTOP) and cut off (their packets are dropped), the gateway is frozen and killed, and a PMU is revoked and granted.
 
     python3 bench/bridges.py PROGRAM mosquitto|kafka|postgresql|influxdb|redis
 
-What arrived is read back: the slots of the data lines of PMU 7 and those of the gaps have to be all slots of the stream from the first line to the last, and
-none twice, but for what a broker delivers at least once and the same again. Each line has to be one of its format. It prints what came and which gaps, and ends with status 1 where this is not so. Of Debian's packages it
-needs mosquitto and mosquitto-clients, or kafkacat (whose own mock of a broker stands for Kafka), or postgresql, or influxdb and curl, or redis-server and
-redis-tools. Run as root it starts
-PostgreSQL as the user postgres.
+What arrived is read back: the slots of the data lines of PMU 7 and those of the gaps have to be all slots of the stream from the first line to the
+last, and none twice, but for what a broker delivers at least once and the same again. Each line has to be one of its format. It prints what came
+and which gaps, and ends with status 1 where this is not so. Of Debian's packages it needs iptables, and mosquitto and mosquitto-clients, or kafkacat
+(whose own mock of a broker stands for Kafka: it is in kcat's process, so that it is not stopped), or postgresql, or influxdb and curl, or redis-server
+and redis-tools. Run as root it starts PostgreSQL as the user postgres.
 """
 import json
 import os
+import shlex
 import signal
 import subprocess
 import sys
@@ -60,9 +62,51 @@ def slot(text):
     return int(time_of.timestamp()) * RATE + round(time_of.microsecond * RATE / 1_000_000)
 
 
-class Mosquitto:
+class Broker:
+    """A broker or a database, a process of this script."""
+    port, output = None, subprocess.DEVNULL
+
+    def stop(self):
+        self.server.terminate()
+        self.server.wait()
+
+    def processes(self):
+        return [self.server.pid]
+
+    def freeze(self):
+        for it in self.processes():
+            os.kill(it, signal.SIGSTOP)
+
+    def thaw(self):
+        for it in self.processes():
+            os.kill(it, signal.SIGCONT)
+
+    def rules(self, change):
+        for side in ("--dport", "--sport"):
+            done("iptables", change, "INPUT", "-i", "lo", "-p", "tcp", side, str(self.port), "-j", "DROP")
+
+    def cut(self):
+        self.rules("-I")
+
+    def join(self):
+        self.rules("-D")
+
+    def restore(self):
+        """Neither frozen nor cut off, whatever step failed."""
+        for undo in (self.thaw, self.join):
+            try:
+                undo()
+            except (OSError, subprocess.CalledProcessError):
+                pass
+
+    def end(self):
+        self.stop()
+
+
+class Mosquitto(Broker):
     """A broker that keeps what a subscriber of it has not got; the bridge's client waits where it is away."""
     options, client, may_come_again = ["--format", "json"], "mosquitto_pub -p 26883 -q 1 -l -t pmu/101", True
+    port = 26883
 
     def __init__(self, folder):
         self.folder, self.seen = folder, f"{folder}/seen"
@@ -75,11 +119,7 @@ class Mosquitto:
         time.sleep(1)
 
     def begin(self):
-        self.broker = run("mosquitto", "-c", f"{self.folder}/mosquitto.conf")
-
-    def stop(self):
-        self.broker.send_signal(signal.SIGTERM)
-        self.broker.wait()
+        self.server = run("mosquitto", "-c", f"{self.folder}/mosquitto.conf")
 
     def lines(self):
         time.sleep(3)
@@ -89,22 +129,26 @@ class Mosquitto:
 
     def end(self):
         self.reader.kill()
-        self.broker.kill()
+        self.server.kill()
 
 
-class Kafka:
-    """kcat with the mock of a broker that its library has, which keeps nothing: what was sent is read where kcat prints it. kcat is frozen for a while."""
+class Kafka(Broker):
+    """kcat with the mock of a broker that its library has, which keeps nothing: what was sent is read where kcat prints it."""
     options, may_come_again = ["--format", "json", "--key"], False
+    client = "kcat -P -T -b mock -X test.mock.num.brokers=1 -t pmu -K \\t -E -X message.timeout.ms=0"
 
     def __init__(self, folder):
         self.seen = f"{folder}/seen"
-        self.client = f"kcat -P -T -b mock -X test.mock.num.brokers=1 -t pmu -K '\t' -E -X message.timeout.ms=0 > {self.seen}"
+        self.output = open(self.seen, "w", encoding="utf-8")
 
-    def begin(self):
-        done("pkill", "-CONT", "-x", "kcat")
+    def processes(self):
+        return [int(it) for it in done("pgrep", "-x", "kcat").split()]
 
-    def stop(self):
-        done("pkill", "-STOP", "-x", "kcat")
+    @property
+    def port(self):
+        """The port of the mock, which kcat connects to as to any broker."""
+        line = next(it for it in done("ss", "-Hltnp").splitlines() if '"kcat"' in it)
+        return int(line.split()[3].rsplit(":", 1)[1])
 
     def lines(self):
         # kcat prints keys, tabs and lines, and nothing between them.
@@ -120,10 +164,11 @@ class Kafka:
         return found
 
     def end(self):
-        pass
+        self.output.close()
 
 
-class Postgresql:
+class Postgresql(Broker):
+    port = 26432
     options, may_come_again = ["--format", "csv"], False
     client = f"{FILES}/in-batches.sh 60 {FILES}/to-postgresql.sh"
     bin = "/usr/lib/postgresql/15/bin"
@@ -147,16 +192,19 @@ class Postgresql:
     def stop(self):
         self.asks(f"{self.bin}/pg_ctl -w -m fast -D {self.folder} stop")
 
+    def processes(self):
+        with open(f"{self.folder}/postmaster.pid", encoding="utf-8") as file:
+            first = int(file.readline())
+        return [first, *(int(it) for it in done("pgrep", "-P", str(first)).split())]
+
     def lines(self):
         time.sleep(5)
         text = done("psql", "-At", "-c", "select row_to_json(it) from pmu_line it order by time")
         return [json.loads(line) for line in text.splitlines()]
 
-    def end(self):
-        self.stop()
 
-
-class Influxdb:
+class Influxdb(Broker):
+    port = 26086
     options, may_come_again = ["--format", "influx"], False
     client = f"{FILES}/in-batches.sh 60 {FILES}/to-influxdb.sh"
 
@@ -173,10 +221,6 @@ class Influxdb:
     def begin(self):
         self.server = run("influxd", "-config", f"{self.folder}/influx.conf")
 
-    def stop(self):
-        self.server.terminate()
-        self.server.wait()
-
     def rows(self, measurement):
         found = json.loads(done("curl", "-sSfG", "http://127.0.0.1:26086/query", "--data-urlencode", "db=pmu", "--data-urlencode", f"q=select * from {measurement}"))
         for it in found["results"][0].get("series", []):
@@ -189,11 +233,9 @@ class Influxdb:
         lines += [{"type": "gap", **row} for row in self.rows("pmu_gap")]
         return sorted(lines, key=lambda it: it["time"])
 
-    def end(self):
-        self.stop()
 
-
-class Redis:
+class Redis(Broker):
+    port = 26379
     options, may_come_again = ["--format", "json"], False
     client = f"{FILES}/in-batches.sh 60 {FILES}/to-redis.sh"
 
@@ -206,17 +248,26 @@ class Redis:
     def begin(self):
         self.server = run("redis-server", "--port", "26379", "--bind", "127.0.0.1", "--dir", self.folder, "--appendonly", "yes", "--appendfsync", "always")
 
-    def stop(self):
-        self.server.terminate()
-        self.server.wait()
-
     def lines(self):
         time.sleep(5)
         found = json.loads(done("redis-cli", "-u", os.environ["REDIS_URL"], "--json", "XRANGE", "pmu", "-", "+"))
         return [json.loads(fields[1]) for _, fields in found]
 
-    def end(self):
-        self.stop()
+
+def unit_words():
+    """The words of the unit's ExecStart, for this stream."""
+    with open(f"{FILES}/pdcgw-bridge@.service", encoding="utf-8") as file:
+        line = next(it for it in file if it.startswith("ExecStart="))
+    return shlex.split(line.removeprefix("ExecStart=").replace("%i", str(STREAM)))
+
+
+def bridge(program, folder, broker):
+    """The bridge as the unit starts it, and starts it again two seconds after its end."""
+    os.mkdir(f"{folder}/bin")
+    os.symlink(program, f"{folder}/bin/pdcgw")
+    keys = {"PATH": f"{folder}/bin:{os.environ['PATH']}", "ADDRESS": "127.0.0.1:26801", "OPTIONS": " ".join(broker.options), "CLIENT": broker.client}
+    again = f"while :; do {shlex.join(unit_words())}; echo the unit starts again >&2; sleep 2; done"
+    return run("bash", "-c", again, stdout=broker.output, stderr=None, start_new_session=True, env={**os.environ, **keys})
 
 
 def judge(lines, may_come_again):
@@ -257,11 +308,14 @@ def main():
             ctl = lambda line: done(program, "ctl", "--control", f"{folder}/control", line)
             held = [run(program, "simulate", "--listen", "127.0.0.1:26712", "--pmus", "2", "--rate", str(RATE)), gateway()]
             time.sleep(2)
-            words = f"{program} bridge 127.0.0.1:26801 --stream {STREAM} {' '.join(broker.options)} | {broker.client}"
-            held.append(run("bash", "-o", "pipefail", "-c", words, stderr=None, start_new_session=True))
-            for what, do in (("starts", lambda: None), ("the broker stops", broker.stop), ("the broker begins", broker.begin), ("PMU 8 is revoked", lambda: ctl("revoke 1 7/8")),
-                             ("PMU 8 is granted", lambda: ctl("grant 1 7/8")), ("the gateway is stopped (SIGSTOP)", lambda: held[1].send_signal(signal.SIGSTOP)),
-                             ("the gateway goes on", lambda: held[1].send_signal(signal.SIGCONT)), ("the gateway is killed", held[1].kill)):
+            held.append(bridge(program, folder, broker))
+            steps = [("the broker is frozen (SIGSTOP)", broker.freeze), ("the broker goes on", broker.thaw)]
+            if hasattr(broker, "begin"):
+                steps += [("the broker stops", broker.stop), ("the broker begins", broker.begin)]
+            steps += [("the broker is cut off", broker.cut), ("the broker is back", broker.join)]
+            for what, do in [("starts", lambda: None), *steps, ("PMU 8 is revoked", lambda: ctl("revoke 1 7/8")),
+                             ("PMU 8 is granted", lambda: ctl("grant 1 7/8")), ("the gateway is frozen (SIGSTOP)", lambda: held[1].send_signal(signal.SIGSTOP)),
+                             ("the gateway goes on", lambda: held[1].send_signal(signal.SIGCONT)), ("the gateway is killed", held[1].kill)]:
                 print(what, flush=True)
                 do()
                 time.sleep(6)
@@ -270,6 +324,7 @@ def main():
             time.sleep(10)
             is_well = judge(broker.lines(), broker.may_come_again)
         finally:
+            broker.restore()
             for it in held:
                 try:
                     os.killpg(it.pid, signal.SIGKILL) if it is held[2] else it.kill()
