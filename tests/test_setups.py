@@ -280,7 +280,7 @@ stall = 3601
 [[subscriber.streams]]
 id = 101
 =>
-1: logging: unknown key; known keys: tick_ms, ingest, serve, log, control, status, name, pmu, subscriber
+1: logging: unknown key; known keys: tick_ms, ingest, serve, log, control, status, name, record, record_mb, record_hours, pmu, subscriber
 2: serve: is 9; it has to be a whole number from 1 to 8
 3: pmu.id: is missing; it has to be a whole number from 1 to 65534
 6: pmu.id: is 0; it has to be a whole number from 1 to 65534
@@ -341,6 +341,19 @@ ring = 64
 1: log: is the text "loud"; it has to be "error", "warn", "info" or "debug"
 2: control: is the text ""; it has to be the path of a socket, a text of 1 to 107 bytes without a zero byte
 3: status: is the text "localhost:80"; it has to be a text "A.B.C.D:PORT"
+----
+record = ""
+record_mb = 15
+record_hours = "a day"
+[[pmu]]
+id = 7
+[[subscriber]]
+id = 1
+ring = 64
+=>
+1: record: is the text ""; it has to be the path of a folder, a text of 1 to 107 bytes without a zero byte
+2: record_mb: is 15; it has to be a whole number from 16 to 10000000
+3: record_hours: is the text "a day"; it has to be a whole number from 1 to 100000
 ----
 status = 9100
 

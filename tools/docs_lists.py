@@ -317,7 +317,7 @@ def links():
 
 def options():
     """The options of each word of the program."""
-    texts = {name: source("pdcgw", name) for name in ("main", "tools", "ctl")}
+    texts = {name: source("pdcgw", name) for name in ("main", "tools", "ctl", "recordings")}
     words = {word: set() for word in re.findall(r'Command::new\(alloc, "(\w+)"\)', "".join(texts.values()))}
     of = {word: between(texts["tools"], f"fn {word}_words", "\n}") for word in ("simulate", "watch", "bridge", "demo")}
     of["ctl"] = between(texts["ctl"], "fn words", "\n}")

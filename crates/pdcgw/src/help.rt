@@ -16,6 +16,26 @@ Exit status:
 
 `pdcgw replay --help` has the commands and their answers, `pdcgw run --help` the keys of a setup file.";
 
+/// Of `script`.
+pub const SCRIPT: &str = "\
+Prints a line for each call of the gateway that the service recorded, in their order, and comments with the time and the place of
+what follows. A place without a record is printed as missing.
+
+  pdcgw script RECORDS/*.pdcrec | pdcgw replay";
+
+/// Of `verify`.
+pub const VERIFY: &str = "\
+Replays a recording from the start of the service on, and compares what each drain hands out with what the service handed to
+the subscriber. The last line is
+
+  records N missing N unspelled N drains N differing N answers differing N
+
+records, places without a record, calls that no line of a script says, drains and those with other bytes, and other answers.
+
+Exit status:
+  0  nothing is missing, and nothing differs
+  1  else, or the files can't be read";
+
 /// Of `replay`.
 pub const REPLAY: &str = "\
 Reads a script from standard input and answers each line on standard output, in order. Words are separated by spaces; empty

@@ -3,6 +3,7 @@
 
 mod ctl;
 mod help;
+mod recordings;
 mod setup;
 mod tools;
 
@@ -69,6 +70,8 @@ fn program<'a>(alloc: Global, help: &'a str) -> Result<Command<'a>, AllocError> 
         .subcommand(run_words(alloc, help)?)?
         .subcommand(check_words(alloc)?)?
         .subcommand(ctl::words(alloc)?)?
+        .subcommand(recordings::script_words(alloc)?)?
+        .subcommand(recordings::verify_words(alloc)?)?
         .subcommand(tools::simulate_words(alloc)?)?
         .subcommand(tools::watch_words(alloc)?)?
         .subcommand(tools::bridge_words(alloc)?)?
@@ -120,6 +123,8 @@ fn do_words<R: Files + Env + Runtime + Alloc<A = Global>>(
     };
     match work {
         "ctl" => return ctl::run(rt, files, words),
+        "script" => return recordings::script(rt, files, words),
+        "verify" => return recordings::verify_files(rt, files, words),
         "simulate" => return tools::simulate(rt, words),
         "watch" => return tools::watch(rt, words, is_terminal),
         "bridge" => return tools::bridge(rt, words),

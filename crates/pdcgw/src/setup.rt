@@ -57,6 +57,7 @@ pub fn why<R: Files + Alloc<A = Global>>(rt: &R, file: &str, failure: Failure) -
             let why = match (by, kind) {
                 // The socket itself is made; what is not there is where.
                 (BoundBy::Control, ErrorKind::NotFound) => "its folder does not exist",
+                (BoundBy::Record, ErrorKind::NotFound) => "there is no such folder",
                 _ => system_words(*kind),
             };
             not_bound(alloc, file, line, bound(*by), *address, why)
@@ -71,6 +72,7 @@ fn bound(by: BoundBy) -> Bound {
         BoundBy::Port(sub) => Bound::Port(sub.get()),
         BoundBy::Status => Bound::Status,
         BoundBy::Control => Bound::Control,
+        BoundBy::Record => Bound::Record,
     }
 }
 

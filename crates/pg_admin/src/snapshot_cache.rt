@@ -32,6 +32,7 @@ impl SnapshotCache {
                 subscribers: Vec::new(alloc),
                 streams: Vec::new(alloc),
                 unanswered: 0,
+                recording: None,
             },
             history: History::new(alloc),
             ages: Histogram::new(),

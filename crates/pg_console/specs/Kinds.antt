@@ -6,7 +6,7 @@ use Rattle.pg_console.specs.declared.service_worker.ServiceWorker.TheVariants as
 
 -- Its own. A worker that reports addresses and one that reads the table of connections have none; of one that serves the control socket and
 -- the page it is known that it gives one; one that only this program has gives what it says itself.
-abbrev pub Gives : {R N S W Listener Stream : Type 0} → (W → Option Place → Type 0) → ServiceWorker R N S W Listener Stream → Option Place → Type 0
+abbrev pub Gives : {R N T S W Listener Stream : Type 0} → (W → Option Place → Type 0) → ServiceWorker R N T S W Listener Stream → Option Place → Type 0
 Gives own (worker.Sources it) seat = seat ≡ Some it
 Gives own (worker.Subscribers it) seat = seat ≡ Some it
 Gives own (worker.Names it) seat = seat ≡ None

@@ -6,8 +6,9 @@ use crate::service_handle::ServiceHandle;
 use crate::snapshot::seen_by;
 use pg_admin::AdminBackend;
 use pg_log::Journal;
+use pg_recorder::{RecordedAtOnce, WorkerGate};
 use pg_service::MeteredGate;
-use pg_shared::{Named, SharedGate};
+use pg_shared::Named;
 use pg_status::{Answer, Histogram, LineAnswer, Snapshot};
 use std::alloc::{AllocError, Global};
 use std::io;
@@ -21,7 +22,7 @@ use std::sync::Wait;
 pub struct ControlBackend<'a, R: Wait + Clock, N: Named, S: ServiceCommands + Drop> {
     rt: &'a R,
     alloc: Global,
-    gate: MeteredGate<SharedGate<'a, R, N>>,
+    gate: MeteredGate<WorkerGate<'a, R, N, RecordedAtOnce>>,
     console: Console<'a, Vec<u8>>,
     steering: S,
     ages: Histogram,
@@ -32,7 +33,7 @@ impl<'a, R: Wait + Clock, N: Named, S: ServiceCommands + Drop> ControlBackend<'a
     pub fn new(
         rt: &'a R,
         alloc: Global,
-        gate: SharedGate<'a, R, N>,
+        gate: WorkerGate<'a, R, N, RecordedAtOnce>,
         service: ServiceHandle<'a>,
         steering: S,
     ) -> ControlBackend<'a, R, N, S> {
@@ -47,7 +48,7 @@ impl<'a, R: Wait + Clock, N: Named, S: ServiceCommands + Drop> ControlBackend<'a
     }
 
     /// Its gate.
-    pub fn into_gate(self) -> SharedGate<'a, R, N> {
+    pub fn into_gate(self) -> WorkerGate<'a, R, N, RecordedAtOnce> {
         let ControlBackend { gate, .. } = self;
         gate.into_inner()
     }

@@ -10,13 +10,14 @@ use crate::mailboxes::Pollers;
 use crate::seats::{HoldsSeat, serve_by};
 use crate::service_handle::ServiceHandle;
 use crate::service_worker::ServiceWorker;
-use pg_admin::AdminServer;
+use pg_admin::{AdminBackend, AdminServer};
+use pg_recorder::{CallRecords, RecordedAtOnce, WorkerGate};
 use pg_service::{Assignment, ConnectionsWorker, Dial, Poller, ResolverWorker, WorkerHandles};
-use pg_shared::{Named, Seat, Shared, SharedGate, Work};
+use pg_shared::{Named, Seat, Shared, Work};
 use pg_sources::{SourceWorker, Ticker};
 use pg_subscribers::{Port, PortWorker};
 use pg_wire::Refusal;
-use std::alloc::Global;
+use std::alloc::{AllocError, Global};
 use std::io;
 use std::io::ErrorKind;
 use std::net::{Net, TcpListener, TcpStream};
@@ -57,15 +58,17 @@ pub struct ServicePlan<'a> {
 }
 
 impl<'a, R: Wait> ServiceBuilder<'a, R> {
-    /// A gate for a worker, with a seat that is split from this one: it has seen what this one has, and no call was made at it.
-    pub fn gate<N: Named>(&self, seat: Seat) -> (Seat, SharedGate<'a, R, N>)
+    /// A gate for a worker, with a seat that is split from this one: it has seen what this one has, and no call was made at it. What
+    /// it posts is recorded by T.
+    pub fn gate<N: Named, T: CallRecords>(&self, seat: Seat) -> (Seat, WorkerGate<'a, R, N, T>)
         requires shared { self.now.shared.now ≡ N.table }
         requires seat { seat.table ≡ N.table }
         ensures seat { result.0 ≡ seat }
         ensures gate { (result.1.table ≡ seat.table) × (result.1.seen ≡ seat.seen) × (result.1.own ≡ []) }
     {
         let (seat, own) = self.shared.split(seat);
-        (seat, SharedGate::new(self.rt, self.shared, own))
+        let records = T::of(self.rt, self.service.recorder);
+        (seat, WorkerGate::new(self.rt, self.shared, own, records))
     }
 }
 
@@ -85,6 +88,7 @@ impl<
     /// That of the system, where a socket can't be waited for, and `OutOfMemory`.
     pub fn serve<
         N: Named + Send,
+        T: CallRecords + Send,
         S: ServiceCommands + Send + Drop,
         W: Work + HoldsSeat<N> + Send + Drop,
     >(
@@ -100,9 +104,9 @@ impl<
         ensures begins { IfOk result (λ joined. Begins seat joined) }
     {
         self.service.tell_room(self.rt);
-        let (seat, workers) = self.workers::<N, S, W>(seat, pollers, plan, commands, own)?;
+        let (seat, workers) = self.workers::<N, T, S, W>(seat, pollers, plan, commands, own)?;
         let (alloc, stop) = (self.alloc, self.service.stop);
-        match serve_by::<R, N, ServiceWorker<'a, R, N, S, W>>(
+        match serve_by::<R, N, ServiceWorker<'a, R, N, T, S, W>>(
             self.rt,
             alloc,
             self.shared,
@@ -118,14 +122,14 @@ impl<
 
 impl<'a, R: Wait + Net + Clock> ServiceBuilder<'a, R> {
     /// All workers, those of the caller last.
-    fn workers<N: Named, S: ServiceCommands + Drop, W: Work + HoldsSeat<N> + Drop>(
+    fn workers<N: Named, T: CallRecords, S: ServiceCommands + Drop, W: Work + HoldsSeat<N> + Drop>(
         &self,
         seat: Seat,
         pollers: Pollers,
         plan: ServicePlan<'a>,
         commands: S,
         own: Vec<W>,
-    ) -> io::Result<(Seat, Vec<ServiceWorker<'a, R, N, S, W>>)>
+    ) -> io::Result<(Seat, Vec<ServiceWorker<'a, R, N, T, S, W>>)>
         requires shared { self.now.shared.now ≡ N.table }
         requires seat { seat.table ≡ N.table }
         ensures seat { IfOk result (λ made. made.0 ≡ seat) }
@@ -147,7 +151,7 @@ impl<'a, R: Wait + Net + Clock> ServiceBuilder<'a, R> {
         let mut workers = Vec::new(self.alloc);
         let seat = self.add_source_workers(seat, sources, dials, &mut workers)?;
         let seat = self.add_port_workers(seat, port_pollers, ports, &mut workers)?;
-        let (seat, ticker) = self.ticker::<N>(seat, tick);
+        let (seat, ticker) = self.ticker::<N, T>(seat, tick);
         workers.push(ServiceWorker::Ticks(ticker))?;
         self.add_lookup_workers(resolver, files, &mut workers)?;
         let seat = self.add_admin_worker(seat, admin, listeners, commands, &mut workers)?;
@@ -158,36 +162,34 @@ impl<'a, R: Wait + Net + Clock> ServiceBuilder<'a, R> {
     }
 
     /// Adds the workers that connect to sources, one for each of these pollers. Each source is given to one of them.
-    fn add_source_workers<N: Named, S: ServiceCommands + Drop, W: Drop>(
+    fn add_source_workers<N: Named, T: CallRecords, S: ServiceCommands + Drop, W: Drop>(
         &self,
         seat: Seat,
         pollers: Vec<Poller>,
         dials: Vec<Dial>,
-        workers: &mut Vec<ServiceWorker<'a, R, N, S, W>>,
+        workers: &mut Vec<ServiceWorker<'a, R, N, T, S, W>>,
     ) -> io::Result<Seat>
         requires shared { self.now.shared.now ≡ N.table }
         requires seat { seat.table ≡ N.table }
         ensures seat { IfOk result (λ rest. rest ≡ seat) }
     {
-        let (seat, mut source_workers) = self.idle_source_workers::<N>(seat, pollers)?;
+        let (seat, mut source_workers) = self.idle_source_workers::<N, T>(seat, pollers)?;
         let mut directory = self.service.directory.lock(self.rt);
         let shared_out = share_sources(&mut directory.callers, &mut source_workers, dials);
         drop(directory);
         if shared_out.is_err() {
             return Err(io::Error::from(ErrorKind::OutOfMemory));
         }
-        for worker in source_workers {
-            workers.push(ServiceWorker::Sources(worker))?;
-        }
+        push_sources(source_workers, workers)?;
         Ok(seat)
     }
 
     /// A worker without sources for each of these pollers, with its mailbox.
-    fn idle_source_workers<N: Named>(
+    fn idle_source_workers<N: Named, T: CallRecords>(
         &self,
         seat: Seat,
         pollers: Vec<Poller>,
-    ) -> io::Result<(Seat, Vec<SourceWorker<'a, R, N>>)>
+    ) -> io::Result<(Seat, Vec<SourceWorker<'a, R, N, T>>)>
         requires shared { self.now.shared.now ≡ N.table }
         requires seat { seat.table ≡ N.table }
         ensures seat { IfOk result (λ made. made.0 ≡ seat) }
@@ -199,7 +201,7 @@ impl<'a, R: Wait + Net + Clock> ServiceBuilder<'a, R> {
             let Some(mailbox) = self.service.sources.get(number) else {
                 break;
             };
-            let (next, gate) = self.gate::<N>(rest);
+            let (next, gate) = self.gate::<N, T>(rest);
             rest = next;
             workers.push(SourceWorker::new(
                 self.rt,
@@ -217,18 +219,18 @@ impl<'a, R: Wait + Net + Clock> ServiceBuilder<'a, R> {
     }
 
     /// Adds the workers that serve subscribers, one for each of these pollers. Each port is given to one of them.
-    fn add_port_workers<N: Named, S: ServiceCommands + Drop, W: Drop>(
+    fn add_port_workers<N: Named, T: CallRecords, S: ServiceCommands + Drop, W: Drop>(
         &self,
         seat: Seat,
         pollers: Vec<Poller>,
         ports: Vec<Port>,
-        workers: &mut Vec<ServiceWorker<'a, R, N, S, W>>,
+        workers: &mut Vec<ServiceWorker<'a, R, N, T, S, W>>,
     ) -> io::Result<Seat>
         requires shared { self.now.shared.now ≡ N.table }
         requires seat { seat.table ≡ N.table }
         ensures seat { IfOk result (λ rest. rest ≡ seat) }
     {
-        let (seat, mut port_workers) = self.idle_port_workers::<N>(seat, pollers)?;
+        let (seat, mut port_workers) = self.idle_port_workers::<N, T>(seat, pollers)?;
         let mut directory = self.service.directory.lock(self.rt);
         let shared_out = share_ports(&mut directory.servers, &mut port_workers, ports);
         drop(directory);
@@ -240,11 +242,11 @@ impl<'a, R: Wait + Net + Clock> ServiceBuilder<'a, R> {
     }
 
     /// A worker without ports for each of these pollers, with its mailbox.
-    fn idle_port_workers<N: Named>(
+    fn idle_port_workers<N: Named, T: CallRecords>(
         &self,
         seat: Seat,
         pollers: Vec<Poller>,
-    ) -> io::Result<(Seat, Vec<PortWorker<'a, R, N>>)>
+    ) -> io::Result<(Seat, Vec<PortWorker<'a, R, N, T>>)>
         requires shared { self.now.shared.now ≡ N.table }
         requires seat { seat.table ≡ N.table }
         ensures seat { IfOk result (λ made. made.0 ≡ seat) }
@@ -262,7 +264,7 @@ impl<'a, R: Wait + Net + Clock> ServiceBuilder<'a, R> {
             let Some(mailbox) = ports.get(number) else {
                 break;
             };
-            let (next, gate) = self.gate::<N>(rest);
+            let (next, gate) = self.gate::<N, T>(rest);
             rest = next;
             workers.push(PortWorker::new(
                 self.rt,
@@ -281,22 +283,26 @@ impl<'a, R: Wait + Net + Clock> ServiceBuilder<'a, R> {
     }
 
     /// The worker that posts a tick after each such time.
-    fn ticker<N: Named>(&self, seat: Seat, tick: Duration) -> (Seat, Ticker<'a, R, N>)
+    fn ticker<N: Named, T: CallRecords>(
+        &self,
+        seat: Seat,
+        tick: Duration,
+    ) -> (Seat, Ticker<'a, R, N, T>)
         requires shared { self.now.shared.now ≡ N.table }
         requires seat { seat.table ≡ N.table }
         ensures seat { result.0 ≡ seat }
         ensures ticker { (result.1.table ≡ seat.table) × (result.1.seen ≡ seat.seen) × (result.1.own ≡ []) }
     {
-        let (seat, gate) = self.gate::<N>(seat);
+        let (seat, gate) = self.gate::<N, T>(seat);
         (seat, Ticker::new(self.rt, gate, tick, self.service.handles))
     }
 
     /// Adds the worker that reports the addresses of names that were looked up, and the one that reads the system's table of TCP connections.
-    fn add_lookup_workers<N: Named, S: ServiceCommands + Drop, W: Drop>(
+    fn add_lookup_workers<N: Named, T: CallRecords, S: ServiceCommands + Drop, W: Drop>(
         &self,
         resolver: Option<Poller>,
         files: Option<&'a HostRuntime>,
-        workers: &mut Vec<ServiceWorker<'a, R, N, S, W>>,
+        workers: &mut Vec<ServiceWorker<'a, R, N, T, S, W>>,
     ) -> io::Result<()> {
         let ServiceHandle {
             sources,
@@ -323,37 +329,69 @@ impl<'a, R: Wait + Net + Clock> ServiceBuilder<'a, R> {
     }
 
     /// Adds the admin worker, where there is a poller and a mailbox for it. It serves what these listen for, which is written to the log.
-    fn add_admin_worker<N: Named, S: ServiceCommands + Drop, W: Drop>(
+    fn add_admin_worker<N: Named, T: CallRecords, S: ServiceCommands + Drop, W: Drop>(
         &self,
         seat: Seat,
         poller: Option<Poller>,
         listeners: AdminListeners,
         commands: S,
-        workers: &mut Vec<ServiceWorker<'a, R, N, S, W>>,
+        workers: &mut Vec<ServiceWorker<'a, R, N, T, S, W>>,
     ) -> io::Result<Seat>
         requires shared { self.now.shared.now ≡ N.table }
         requires seat { seat.table ≡ N.table }
         ensures seat { IfOk result (λ rest. rest ≡ seat) }
     {
-        let (Some(poller), Some(mailbox)) = (poller, self.service.admin) else {
+        let Some(poller) = poller else {
             return Ok(seat);
         };
-        let (seat, gate) = self.gate::<N>(seat);
+        let Some(mailbox) = self.service.admin else {
+            return Ok(seat);
+        };
+        let (seat, gate) = self.gate::<N, RecordedAtOnce>(seat);
         let backend = ControlBackend::new(self.rt, self.alloc, gate, self.service, commands);
         let journal = self.service.handles.journal;
-        let mut admin = AdminServer::new(
+        let admin = AdminServer::new(
             self.rt, self.alloc, poller, mailbox, journal, backend, self.start,
         )?;
-        listeners.open(self.rt, &mut admin, journal)?;
+        let admin = self.opened(admin, listeners)?;
         workers.push(ServiceWorker::Admin(admin))?;
         Ok(seat)
     }
+
+    /// The admin worker, which serves what these listen for.
+    fn opened<B: AdminBackend + Drop>(
+        &self,
+        admin: AdminServer<'a, R, B>,
+        listeners: AdminListeners,
+    ) -> io::Result<AdminServer<'a, R, B>> {
+        let mut admin = admin;
+        listeners.open(self.rt, &mut admin, self.service.handles.journal)?;
+        Ok(admin)
+    }
+}
+
+/// Adds these workers to those of the service.
+fn push_sources<
+    'a,
+    R: Wait + Net + Clock,
+    N: Named,
+    T: CallRecords,
+    S: ServiceCommands + Drop,
+    W: Drop,
+>(
+    made: Vec<SourceWorker<'a, R, N, T>>,
+    workers: &mut Vec<ServiceWorker<'a, R, N, T, S, W>>,
+) -> Result<(), AllocError> {
+    for worker in made {
+        workers.push(ServiceWorker::Sources(worker))?;
+    }
+    Ok(())
 }
 
 /// Gives each source to its worker.
-fn share_sources<R: Wait + Net + Clock, N: Named>(
+fn share_sources<R: Wait + Net + Clock, N: Named, T: CallRecords>(
     assignment: &mut Assignment,
-    workers: &mut Vec<SourceWorker<'_, R, N>>,
+    workers: &mut Vec<SourceWorker<'_, R, N, T>>,
     dials: Vec<Dial>,
 ) -> Result<(), Refusal> {
     let count = workers.len();
@@ -367,9 +405,9 @@ fn share_sources<R: Wait + Net + Clock, N: Named>(
 }
 
 /// Gives each port to its worker.
-fn share_ports<R: Wait + Net + Clock, N: Named>(
+fn share_ports<R: Wait + Net + Clock, N: Named, T: CallRecords>(
     assignment: &mut Assignment,
-    workers: &mut Vec<PortWorker<'_, R, N>>,
+    workers: &mut Vec<PortWorker<'_, R, N, T>>,
     ports: Vec<Port>,
 ) -> io::Result<()> {
     let count = workers.len();

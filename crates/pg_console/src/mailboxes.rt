@@ -5,6 +5,7 @@ ghost use Rattle.std.specs.Prelude.{◌≡◌, IfOk, is_some, vec_len};
 use crate::reloads::Reloads;
 use crate::service_handle::ServiceHandle;
 use crate::shared_state::SharedState;
+use pg_recorder::Recorder;
 use pg_service::{Mailbox, Poller, PortOrder, Resolver, SourceOrder, WorkerHandles};
 use std::alloc::Global;
 use std::io;
@@ -100,6 +101,7 @@ impl Mailboxes {
         state: &'a SharedState,
         name: &'a str,
         tick_ms: u16,
+        recorder: Option<&'a Recorder>,
         stop: &'a AtomicBool,
     ) -> ServiceHandle<'a> {
         ServiceHandle {
@@ -115,6 +117,7 @@ impl Mailboxes {
             directory: &state.directory,
             admin: self.admin.as_ref(),
             reloads: self.reloads.as_ref(),
+            recorder,
             stop,
         }
     }

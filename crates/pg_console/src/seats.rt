@@ -8,11 +8,13 @@ ghost use Rattle.pg_service.specs.Setting.{PostsEdits};
 ghost use Rattle.pg_console.specs.Joining.{Place, Joins};
 
 use pg_gateway::{Edit, Gateway};
+use pg_recorder::{CallRecords, RecordedAtOnce, Recorder, WorkerGate};
 use pg_service::{Directory, post_edits};
-use pg_shared::{Named, Seat, Shared, SharedGate, Work, run_workers};
+use pg_shared::{Named, Seat, Shared, Work, run_workers};
 use pg_wire::Refusal;
 use std::alloc::Global;
 use std::marker::Brand;
+use std::rt::Clock;
 use std::sync::Wait;
 use std::sync::atomic::AtomicBool;
 use std::thread::Threads;
@@ -29,19 +31,25 @@ pub struct SetUp {
 }
 
 /// A new gateway with these edits posted, and the one seat at it. So they are posted before a worker can be there. What stands at
-/// the seat's own places in the gateway's history is just the edits: all of them, each once, in their order.
+/// the seat's own places in the gateway's history is just the edits: all of them, each once, in their order. They are recorded by
+/// this recorder, if there is one.
 ///
 /// # Errors
 ///
 /// Why the first edit was refused that is; `NoMemory`.
-pub fn set_up<R: Wait>(rt: &R, alloc: Global, edits: Vec<Edit>) -> Result<SetUp, Refusal>
+pub fn set_up<R: Wait + Clock>(
+    rt: &R,
+    alloc: Global,
+    edits: Vec<Edit>,
+    recorder: Option<&Recorder>,
+) -> Result<SetUp, Refusal>
     ensures seat { IfOk result (λ made. made.seat.table ≡ made.shared) }
     ensures posted { IfOk result (λ made. map event_posted (said_at made.seat.seen made.seat.own) ≡ map edited edits.items) }
 {
     let (shared, seat) = Shared::new(alloc, Gateway::new(alloc)?)?;
     let mut directory = Directory::new(alloc)?;
     directory.in_force.note_all(alloc, &edits)?;
-    let seat = post_all::<R, Brand>(rt, &shared, seat, edits, &mut directory)?;
+    let seat = post_all::<R, Brand>(rt, &shared, seat, edits, &mut directory, recorder)?;
     Ok(SetUp {
         shared,
         seat,
@@ -50,19 +58,21 @@ pub fn set_up<R: Wait>(rt: &R, alloc: Global, edits: Vec<Edit>) -> Result<SetUp,
 }
 
 /// Posts edits at this seat, and keeps what is registered by them.
-fn post_all<'a, R: Wait, N: Named>(
+fn post_all<'a, R: Wait + Clock, N: Named>(
     rt: &'a R,
     shared: &'a Shared,
     seat: Seat,
     edits: Vec<Edit>,
     directory: &mut Directory,
+    recorder: Option<&'a Recorder>,
 ) -> Result<Seat, Refusal>
     requires shared { shared.now ≡ N.table }
     requires seat { seat.table ≡ N.table }
     ensures table { IfOk result (λ after. after.table ≡ N.table) }
     ensures posted { IfOk result (λ after. PostsEdits edits.items [] (Some (said_at seat.seen seat.own)) (Some (said_at after.seen after.own))) }
 {
-    let mut gate = SharedGate::<R, N>::new(rt, shared, seat);
+    let records = RecordedAtOnce::of(rt, recorder);
+    let mut gate = WorkerGate::<R, N, RecordedAtOnce>::new(rt, shared, seat, records);
     post_edits(&mut gate, edits, directory)?;
     Ok(gate.into_seat())
 }

@@ -4,6 +4,7 @@ use crate::reloads::Reloads;
 use mio::net::TcpListener as PortListener;
 use pg_gateway::Edit;
 use pg_log::{Detail, Entry, LogEvent, Subject};
+use pg_recorder::Recorder;
 use pg_service::{
     ConnectionRules, Dial, Directory, FollowUp, Mailbox, PortOrder, Reports, SourceOrder,
     WorkerHandles,
@@ -32,6 +33,8 @@ pub struct ServiceHandle<'a> {
     pub admin: Option<&'a Mailbox<()>>,
     /// The reloads that clients of the control socket ask for, where that is open.
     pub reloads: Option<&'a Reloads>,
+    /// What the workers record their calls by, if they do.
+    pub recorder: Option<&'a Recorder>,
     /// Set where all workers are to end.
     pub stop: &'a AtomicBool,
 }

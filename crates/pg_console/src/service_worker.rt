@@ -6,6 +6,7 @@ use crate::backend::ControlBackend;
 use crate::console::ServiceCommands;
 use crate::seats::HoldsSeat;
 use pg_admin::AdminServer;
+use pg_recorder::CallRecords;
 use pg_service::{ConnectionsWorker, ResolverWorker};
 use pg_shared::{Named, Seat, Work};
 use pg_sources::{SourceWorker, Ticker};
@@ -16,25 +17,37 @@ use std::sync::Wait;
 
 /// A worker of a service, so that one list has those of all kinds.
 #[derive(Drop)]
-pub enum ServiceWorker<'a, R: Wait + Net + Clock, N: Named, S: ServiceCommands + Drop, W: Drop> {
+pub enum ServiceWorker<
+    'a,
+    R: Wait + Net + Clock,
+    N: Named,
+    T: CallRecords,
+    S: ServiceCommands + Drop,
+    W: Drop,
+> {
     /// Connects to sources.
-    Sources(SourceWorker<'a, R, N>),
+    Sources(SourceWorker<'a, R, N, T>),
     /// Serves subscribers.
-    Subscribers(PortWorker<'a, R, N>),
+    Subscribers(PortWorker<'a, R, N, T>),
     /// Reports the addresses of names.
     Names(ResolverWorker<'a, R>),
     /// Reads the system's table of TCP connections.
     Connections(ConnectionsWorker<'a, R>),
     /// Posts ticks.
-    Ticks(Ticker<'a, R, N>),
+    Ticks(Ticker<'a, R, N, T>),
     /// Serves the control socket and the page.
     Admin(AdminServer<'a, R, ControlBackend<'a, R, N, S>>),
     /// One that only this program has.
     Own(W),
 }
 
-impl<R: Wait + Net + Clock, N: Named, S: ServiceCommands + Drop, W: Work + HoldsSeat<N> + Drop> Work
-    for ServiceWorker<'_, R, N, S, W> {
+impl<
+    R: Wait + Net + Clock,
+    N: Named,
+    T: CallRecords,
+    S: ServiceCommands + Drop,
+    W: Work + HoldsSeat<N> + Drop,
+> Work for ServiceWorker<'_, R, N, T, S, W> {
     fn turn(&mut self) -> bool {
         match self {
             ServiceWorker::Sources(worker) => worker.turn(),
@@ -48,9 +61,13 @@ impl<R: Wait + Net + Clock, N: Named, S: ServiceCommands + Drop, W: Work + Holds
     }
 }
 
-impl<R: Wait + Net + Clock, N: Named, S: ServiceCommands + Drop, W: HoldsSeat<N> + Drop> HoldsSeat<
-    N,
-> for ServiceWorker<'_, R, N, S, W> {
+impl<
+    R: Wait + Net + Clock,
+    N: Named,
+    T: CallRecords,
+    S: ServiceCommands + Drop,
+    W: HoldsSeat<N> + Drop,
+> HoldsSeat<N> for ServiceWorker<'_, R, N, T, S, W> {
     // Its own, or none.
     ghost gives = { Gives W.gives };
 

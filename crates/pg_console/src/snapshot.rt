@@ -6,16 +6,27 @@ use crate::service_handle::ServiceHandle;
 use pg_audit::{PmuStats, Stats};
 use pg_gateway::{Event, Gate, MemberPlace, MemberStanding, Reply, Standing, StreamStanding};
 use pg_quality::PmuSummary;
+use pg_recorder::Recorder;
 use pg_service::{LinkState, MeteredGate, PortReport, REASONS, Reports, SourceReport};
 use pg_status::{
-    Call, Histogram, Ignored, MemberState, Membership, PmuState, Presence, Queue, Snapshot,
-    SourceState, StreamState, SubscriberState,
+    Call, Histogram, Ignored, MemberState, Membership, PmuState, Presence, Queue, RecordingState,
+    Snapshot, SourceState, StreamState, SubscriberState,
 };
 use pg_wire::{PmuId, PmuKey, Refusal, StreamId, SubId};
 use std::alloc::{AllocError, Global};
 use std::rt::Clock;
 use std::sync::Wait;
 use std::time::Duration;
+
+/// What the calls were recorded by so far.
+fn recording_state(recorder: &Recorder) -> RecordingState {
+    RecordingState {
+        written: recorder.written(),
+        unwritten: recorder.unwritten(),
+        missed: recorder.missed(),
+        unspelled: recorder.unspelled(),
+    }
+}
 
 /// What the service shows of itself now, and how old the data frames were that it handed out: its workers are asked for their sources
 /// and ports, and the gateway for its subscribers. Each list stands in the order of the numbers.
@@ -32,6 +43,7 @@ pub(crate) fn seen_by<R: Wait + Clock, G: Gate>(
         subscribers: Vec::new(alloc),
         streams: Vec::new(alloc),
         unanswered: reports.unanswered,
+        recording: service.recorder.map(recording_state),
     };
     let (pmus, subs) = registered_at(rt, alloc, service)?;
     let Reports {

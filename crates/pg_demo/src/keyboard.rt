@@ -3,8 +3,9 @@
 use mio::unix::SourceFd;
 use mio::{Events, Interest, Poll, Token};
 use pg_console::{Console, NoServiceCommands, answer_lines};
+use pg_recorder::{Unrecorded, WorkerGate};
 use pg_service::MeteredGate;
-use pg_shared::{Named, SharedGate};
+use pg_shared::Named;
 use std::alloc::{AllocError, Global};
 use std::io;
 use std::io::{BufRead, StdinLock};
@@ -26,7 +27,7 @@ pub struct Keyboard<'a, R: Wait + Clock + Input<Reader = StdinLock<'static>>, N:
     alloc: Global,
     poll: Poll,
     events: Events<Global>,
-    gate: MeteredGate<SharedGate<'a, R, N>>,
+    gate: MeteredGate<WorkerGate<'a, R, N, Unrecorded>>,
     console: Console<'a, Vec<u8>>,
     line: Vec<u8>,
     is_open: bool,
@@ -43,7 +44,7 @@ impl<'a, R: Wait + Clock + Net + Input<Reader = StdinLock<'static>>, N: Named> K
     pub fn new(
         rt: &'a R,
         alloc: Global,
-        gate: SharedGate<'a, R, N>,
+        gate: WorkerGate<'a, R, N, Unrecorded>,
         console: Console<'a, Vec<u8>>,
     ) -> io::Result<Keyboard<'a, R, N>> {
         let poll = Poll::new(rt)?;

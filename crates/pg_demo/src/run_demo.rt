@@ -12,6 +12,7 @@ use pg_console::{
     SetUp, SharedState, WorkerCounts, set_up,
 };
 use pg_demo_core::{ExpectedStreams, Verdict};
+use pg_recorder::Unrecorded;
 use pg_service::Directory;
 use pg_shared::{Named, Seat, Shared};
 use pg_tools::Style;
@@ -55,7 +56,7 @@ pub fn demo<R: Runtime + Alloc<A = Global>>(
         shared,
         seat,
         directory,
-    } = set_up(rt, alloc, edits(alloc)?)?;
+    } = set_up(rt, alloc, edits(alloc)?, None)?;
     run_all::<R, Brand>(rt, alloc, &shared, seat, options, directory)
 }
 
@@ -74,7 +75,7 @@ fn run_all<R: Runtime, N: Named + Send>(
     let (mailboxes, pollers) = Mailboxes::new(rt, alloc, WORKERS)?;
     let shared_state = SharedState::new(alloc, directory)?;
     let stop = AtomicBool::new(false);
-    let service = mailboxes.handle(&shared_state, "demo", TICK, &stop);
+    let service = mailboxes.handle(&shared_state, "demo", TICK, None, &stop);
     let state = DemoState::new(service, ExpectedStreams::new(alloc));
     serve_demo::<R, N>(rt, alloc, shared, seat, options, &state, pollers)?;
     let mut outcome = state.outcome.lock(rt);
@@ -127,6 +128,6 @@ fn serve_demo<'a, R: Runtime, N: Named + Send>(
         },
         files: None,
     };
-    builder.serve::<N, _, _>(seat, pollers, plan, NoServiceCommands, own)?;
+    builder.serve::<N, Unrecorded, _, _>(seat, pollers, plan, NoServiceCommands, own)?;
     Ok(())
 }

@@ -12,7 +12,8 @@ use crate::state::DemoState;
 use crate::subscribers::TestSubscriber;
 use pg_console::{Console, HoldsSeat, ServiceBuilder};
 use pg_demo_core::PhaseMachine;
-use pg_shared::{Named, Seat, SharedGate, Work};
+use pg_recorder::{Unrecorded, WorkerGate};
+use pg_shared::{Named, Seat, Work};
 use pg_tools::{Simulator, Style, UnixTime};
 use std::io::StdinLock;
 use std::net::Net;
@@ -118,7 +119,7 @@ fn keyboard<'a, R: Wait + Net + Clock + Input<Reader = StdinLock<'static>>, N: N
         return Ok(None);
     }
     let (rt, alloc) = (builder.rt, builder.alloc);
-    let gate = SharedGate::<R, N>::new(rt, builder.shared, seat);
+    let gate = WorkerGate::<R, N, Unrecorded>::new(rt, builder.shared, seat, Unrecorded);
     let console = Console::new(alloc, Vec::new(alloc), builder.service);
     Ok(Some(Keyboard::new(rt, alloc, gate, console)?))
 }

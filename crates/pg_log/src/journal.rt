@@ -148,13 +148,17 @@ pub enum LogEvent {
     FirstNotMade = 64,
     /// The first address of a source sent no configuration in time.
     FirstSilent = 65,
+    /// What happens could not be written to the recording.
+    NotRecorded = 66,
+    /// Records found no room, since what was recorded before was not written yet.
+    RecordsMissed = 67,
 }
 
 /// The PMUs of a configuration at most.
 pub const MOST_PMUS: usize = 16;
 
 /// How many kinds of notices there are.
-const KINDS: usize = 66;
+const KINDS: usize = 68;
 
 impl LogEvent {
     /// The kinds that are counted without an entry; the log has their counts.
@@ -176,6 +180,8 @@ impl LogEvent {
             | LogEvent::SocketFault
             | LogEvent::NoDelayFault
             | LogEvent::NotServed
+            | LogEvent::NotRecorded
+            | LogEvent::RecordsMissed
             | LogEvent::WrongClock => Level::Error,
             LogEvent::NotMade
             | LogEvent::GivenUp

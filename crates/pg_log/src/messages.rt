@@ -23,7 +23,9 @@ impl fmt::Display for Entry {
             write!(f, "stream {stream}: ")?;
         }
         match self.event {
-            LogEvent::Gap | LogEvent::EntriesLost => return write_count(self, f),
+            LogEvent::Gap | LogEvent::EntriesLost | LogEvent::RecordsMissed => {
+                return write_count(self, f);
+            }
             _ => {}
         }
         let said = said(self.event);
@@ -47,11 +49,14 @@ fn write_count<W: fmt::Write>(entry: &Entry, f: &mut fmt::Formatter<W>) -> fmt::
     match (entry.event, count) {
         (LogEvent::Gap, 1) => f.write_str("1 data frame dropped")?,
         (LogEvent::Gap, _) => write!(f, "{count} data frames dropped")?,
+        (LogEvent::RecordsMissed, 1) => f.write_str("1 record is missing in the recording")?,
+        (LogEvent::RecordsMissed, _) => write!(f, "{count} records are missing in the recording")?,
         (_, 1) => f.write_str("1 log entry was lost")?,
         _ => write!(f, "{count} log entries were lost")?,
     }
     f.write_str(match entry.event {
         LogEvent::Gap => ": the subscriber reads too slowly, or its `ring` or `bytes` is too small",
+        LogEvent::RecordsMissed => ": the disk is too slow",
         _ => ": too many at once",
     })
 }
@@ -82,7 +87,11 @@ fn said(event: LogEvent) -> &'static str {
         LogEvent::Replaced => "disconnected: replaced by a new connection",
         LogEvent::NotBound => "its port can't be bound",
         // What is known beside says it, or the count.
-        LogEvent::NotDone | LogEvent::Edited | LogEvent::Gap | LogEvent::EntriesLost => "",
+        LogEvent::NotDone
+        | LogEvent::Edited
+        | LogEvent::Gap
+        | LogEvent::EntriesLost
+        | LogEvent::RecordsMissed => "",
         LogEvent::NotAccepted => "a connection can't be accepted",
         LogEvent::SocketFault => "a connection's socket can't be waited for",
         LogEvent::NoDelayFault => "TCP_NODELAY can't be set, what is sent may be late",
@@ -128,6 +137,7 @@ fn said(event: LogEvent) -> &'static str {
         LogEvent::Timely => "data come within `wait` again:",
         LogEvent::FirstPreferred => "the first address answers again, and is used from now on",
         LogEvent::FirstNotMade => "can't go back",
+        LogEvent::NotRecorded => "the recording can't be written",
         LogEvent::FirstSilent =>
             "can't go back: the first address sent no configuration within 10 s; retrying in 60 s",
     }
@@ -143,6 +153,7 @@ fn after(event: LogEvent) -> &'static str {
         LogEvent::NotAccepted => "; retrying in 1 s",
         LogEvent::NotBound => "; retrying every 30 s",
         LogEvent::Incomplete | LogEvent::Complete => " came in the last minute",
+        LogEvent::NotRecorded => "; what happens meanwhile is missing in it",
         LogEvent::NoTable => "; a subscriber's host that lost power is noticed late",
         _ => "",
     }

@@ -366,6 +366,9 @@ pub record General : Type 0 where
   pub control : Option Text
   pub status : Option Endpoint
   pub name : Option Text
+  pub record_folder : Option Text
+  pub record_mb : ℕ
+  pub record_hours : ℕ
 
 -- the same, of keys that were read
 abbrev pub general_of : GeneralKeys → General
@@ -377,13 +380,19 @@ general_of g = record {
   control = option_map (λ s. s.now) g.control;
   status = option_map endpoint g.status;
   name = option_map (λ s. s.now) g.name;
+  record_folder = option_map (λ s. s.now) g.record_folder;
+  record_mb = g.record_mb;
+  record_hours = g.record_hours;
 }
 
--- 10 milliseconds, one thread each, the level info, no socket, no page and no name, where it is left out
+-- 10 milliseconds, one thread each, the level info, no socket, no page, no name and no recording, of 4,000 MB and 168 hours, where it is left out
 abbrev pub general_by : Members → Option General
 general_by ms =
-    option_and_then (λ tick. option_and_then (λ ingest. option_and_then (λ serve. option_and_then (λ log. option_and_then (λ control. option_and_then (λ status. option_map
-    (λ name. record { tick_ms = tick; ingest = ingest; serve = serve; log = log; control = control; status = status; name = name })
+    option_and_then (λ tick. option_and_then (λ ingest. option_and_then (λ serve. option_and_then (λ log. option_and_then (λ control. option_and_then (λ status. option_and_then (λ name. option_and_then (λ folder. option_and_then (λ mb. option_map
+    (λ hours. record { tick_ms = tick; ingest = ingest; serve = serve; log = log; control = control; status = status; name = name; record_folder = folder; record_mb = mb; record_hours = hours })
+    (optional 168 (whole_in 1 100000) (codes "record_hours") ms))
+    (optional 4000 (whole_in 16 10000000) (codes "record_mb") ms))
+    (absent_or path_in (codes "record") ms))
     (absent_or name_in (codes "name") ms))
     (absent_or endpoint_text_in (codes "status") ms))
     (absent_or path_in (codes "control") ms))
@@ -430,6 +439,9 @@ settings s = record {
     control = option_map (λ path. string_bytes path) s.control;
     status = option_map endpoint s.status;
     name = option_map (λ name. string_bytes name) s.name;
+    record_folder = option_map (λ path. string_bytes path) s.record_folder;
+    record_mb = s.record_mb;
+    record_hours = s.record_hours;
   };
 }
 
@@ -444,7 +456,7 @@ setup_by ms =
 
 abbrev pub top_names : List Text
 top_names =
-    codes "tick_ms" ∷ codes "ingest" ∷ codes "serve" ∷ codes "log" ∷ codes "control" ∷ codes "status" ∷ codes "name" ∷ codes "pmu" ∷ codes "subscriber" ∷ []
+    codes "tick_ms" ∷ codes "ingest" ∷ codes "serve" ∷ codes "log" ∷ codes "control" ∷ codes "status" ∷ codes "name" ∷ codes "record" ∷ codes "record_mb" ∷ codes "record_hours" ∷ codes "pmu" ∷ codes "subscriber" ∷ []
 
 abbrev pub setup_in : Members → Option Settings
 setup_in = only top_names setup_by

@@ -52,6 +52,9 @@ pub(crate) struct GeneralKeys<'a> {
     pub(crate) control: Option<&'a str>,
     pub(crate) status: Option<SocketAddrV4>,
     pub(crate) name: Option<&'a str>,
+    pub(crate) record_folder: Option<&'a str>,
+    pub(crate) record_mb: u32,
+    pub(crate) record_hours: u32,
 }
 
 /// What the file's own keys say, but for its tables.
@@ -65,6 +68,9 @@ pub(crate) fn general_at(table: &Table) -> Option<GeneralKeys<'_>>
     let control = control_at(table)?;
     let status = status_at(table)?;
     let name = name_at(table)?;
+    let record_folder = record_folder_at(table)?;
+    let record_mb = record_mb_at(table)?;
+    let record_hours = record_hours_at(table)?;
     Some(GeneralKeys {
         tick_ms,
         ingest,
@@ -73,6 +79,9 @@ pub(crate) fn general_at(table: &Table) -> Option<GeneralKeys<'_>>
         control,
         status,
         name,
+        record_folder,
+        record_mb,
+        record_hours,
     })
 }
 
@@ -137,6 +146,30 @@ fn name_at(table: &Table) -> Option<Option<&str>>
     }
 }
 
+/// The path of the folder for recordings, or none where it is left out.
+fn record_folder_at(table: &Table) -> Option<Option<&str>>
+    ensures { option_map (λ o. option_map (λ s. s.now) o) result ≡ absent_or path_in (codes "record") (table_view table.now) }
+{
+    match table::value_at(table, SetupKey::RECORD.name) {
+        Some(value) => Some(Some(path(value)?)),
+        None => Some(None),
+    }
+}
+
+/// How many megabytes of recordings are kept.
+fn record_mb_at(table: &Table) -> Option<u32>
+    ensures { result ≡ optional 4000 (whole_in 16 10000000) (codes "record_mb") (table_view table.now) }
+{
+    table::optional(table, &SetupKey::RECORD_MB)
+}
+
+/// For how many hours recordings are kept.
+fn record_hours_at(table: &Table) -> Option<u32>
+    ensures { result ≡ optional 168 (whole_in 1 100000) (codes "record_hours") (table_view table.now) }
+{
+    table::optional(table, &SetupKey::RECORD_HOURS)
+}
+
 /// A level of the log.
 pub(crate) fn level(value: &Value) -> Option<LogLevel>
     ensures { result ≡ level_in (view value.now) }
@@ -147,7 +180,7 @@ pub(crate) fn level(value: &Value) -> Option<LogLevel>
     }
 }
 
-/// The path of a socket.
+/// The path of a socket or a folder.
 pub(crate) fn path(value: &Value) -> Option<&str>
     ensures { option_map (λ s. s.now) result ≡ path_in (view value.now) }
 {

@@ -16,7 +16,7 @@ struct KeyText {
 }
 
 #[rattlefmt::skip]
-const FILE_TEXTS: [KeyText; 7] = [
+const FILE_TEXTS: [KeyText; 10] = [
     KeyText { key: SetupKey::TICK_MS, example: "20", meaning: "milliseconds from tick to tick; `wait` counts ticks" },
     KeyText { key: SetupKey::INGEST, example: "2", meaning: "threads for sources" },
     KeyText { key: SetupKey::SERVE, example: "4", meaning: "threads for subscribers, for frames that are due to many at once" },
@@ -26,6 +26,10 @@ const FILE_TEXTS: [KeyText; 7] = [
     KeyText { key: SetupKey::STATUS, example: "\"127.0.0.1:9100\"",
         meaning: "address of the page (/) and the metrics (/metrics), by HTTP without a password" },
     KeyText { key: SetupKey::NAME, example: "\"PDC North\"", meaning: "the gateway's name on the page, in metrics and in the log" },
+    KeyText { key: SetupKey::RECORD, example: "\"/var/lib/pdcgw/records\"",
+        meaning: "folder in which all that happens is recorded, for `pdcgw script` and `pdcgw verify`" },
+    KeyText { key: SetupKey::RECORD_MB, example: "20000", meaning: "megabytes of recordings that are kept; the oldest are removed" },
+    KeyText { key: SetupKey::RECORD_HOURS, example: "24", meaning: "hours for which recordings are kept" },
 ];
 
 #[rattlefmt::skip]

@@ -58,11 +58,14 @@ impl SetupKey {
     pub(crate) const CONTROL: SetupKey = SetupKey { name: "control", kind: Kind::Path, absent: Absent::Words("none") };
     pub(crate) const STATUS: SetupKey = SetupKey { name: "status", kind: Kind::Served, absent: Absent::Words("none") };
     pub(crate) const NAME: SetupKey = SetupKey { name: "name", kind: Kind::Name, absent: Absent::Words("the host's name, or pdcgw") };
+    pub(crate) const RECORD: SetupKey = SetupKey { name: "record", kind: Kind::Folder, absent: Absent::Words("no recording") };
+    pub(crate) const RECORD_MB: SetupKey = SetupKey { name: "record_mb", kind: Kind::Whole(16, 10_000_000), absent: Absent::Number(4000) };
+    pub(crate) const RECORD_HOURS: SetupKey = SetupKey { name: "record_hours", kind: Kind::Whole(1, 100_000), absent: Absent::Number(168) };
     pub(crate) const PMU: SetupKey = SetupKey { name: "pmu", kind: Kind::Tables("[[pmu]]"), absent: Absent::Required };
     pub(crate) const SUBSCRIBER: SetupKey = SetupKey { name: "subscriber", kind: Kind::Tables("[[subscriber]]"), absent: Absent::Required };
-    pub(crate) const FILE_KEYS: [SetupKey; 9] = [
+    pub(crate) const FILE_KEYS: [SetupKey; 12] = [
         SetupKey::TICK_MS, SetupKey::INGEST, SetupKey::SERVE, SetupKey::LOG, SetupKey::CONTROL, SetupKey::STATUS, SetupKey::NAME,
-        SetupKey::PMU, SetupKey::SUBSCRIBER,
+        SetupKey::RECORD, SetupKey::RECORD_MB, SetupKey::RECORD_HOURS, SetupKey::PMU, SetupKey::SUBSCRIBER,
     ];
 
     pub(crate) const PMU_ID: SetupKey = SetupKey { name: "id", kind: Kind::Whole(1, 65534), absent: Absent::Required };

@@ -53,6 +53,8 @@ pub enum Kind {
     Change,
     /// The path of a socket.
     Path,
+    /// The path of a folder.
+    Folder,
     /// A name for people.
     Name,
     /// A list of networks.
@@ -84,6 +86,11 @@ impl fmt::Display for Kind {
             Kind::Path => write!(
                 f,
                 "the path of a socket, a text of 1 to {} bytes without a zero byte",
+                PATH_LIMIT
+            ),
+            Kind::Folder => write!(
+                f,
+                "the path of a folder, a text of 1 to {} bytes without a zero byte",
                 PATH_LIMIT
             ),
             Kind::Name => write!(
@@ -177,7 +184,7 @@ impl Kind {
             Kind::Served => address::served(value).is_some(),
             Kind::Level => general::level(value).is_some(),
             Kind::Change => port_rules::change(value).is_some(),
-            Kind::Path => general::path(value).is_some(),
+            Kind::Path | Kind::Folder => general::path(value).is_some(),
             Kind::Name => general::name(value).is_some(),
             Kind::Text => matches!(value, Value::String(_)),
             Kind::Networks | Kind::Grants | Kind::Members | Kind::Tables(_) => {

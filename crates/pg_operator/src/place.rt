@@ -16,6 +16,8 @@ pub enum BoundBy {
     Status,
     /// `control`.
     Control,
+    /// `record`.
+    Record,
 }
 
 /// The line, from 1, of the key of a setup file that asks to bind. In a list or a text of several lines it is the first of
@@ -29,6 +31,7 @@ pub fn line_of_key(alloc: Global, text: &str, by: BoundBy) -> Option<usize> {
         }
         BoundBy::Status => (SetupTable::File, SetupKey::STATUS.name),
         BoundBy::Control => (SetupTable::File, SetupKey::CONTROL.name),
+        BoundBy::Record => (SetupTable::File, SetupKey::RECORD.name),
     };
     if place == SetupTable::File && !table.contains_key(key) {
         return None;

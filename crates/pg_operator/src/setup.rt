@@ -40,6 +40,12 @@ pub struct Setup {
     pub status: Option<SocketAddrV4>,
     /// The gateway's name: 1 to 64 printable ASCII characters; `None` for the host's name.
     pub name: Option<String>,
+    /// The path of the folder for recordings: 1 to 107 bytes, none of them zero; `None` where nothing is recorded.
+    pub record_folder: Option<String>,
+    /// Megabytes of recordings that are kept: 16 to 10,000,000.
+    pub record_mb: u32,
+    /// Hours for which recordings are kept: 1 to 100,000.
+    pub record_hours: u32,
 }
 
 /// A subscriber of a setup.
@@ -232,6 +238,7 @@ fn setup_in(alloc: Global, table: &Table) -> Result<Setup, Refusal>
     let subscribers = subscribers_at(alloc, table)?;
     let control = general::own_text(alloc, general.control)?;
     let name = general::own_text(alloc, general.name)?;
+    let record_folder = general::own_text(alloc, general.record_folder)?;
     let pmus = pmu::keys_of(alloc, tables.as_slice())?;
     Ok(Setup {
         pmus,
@@ -244,6 +251,9 @@ fn setup_in(alloc: Global, table: &Table) -> Result<Setup, Refusal>
         control,
         status: general.status,
         name,
+        record_folder,
+        record_mb: general.record_mb,
+        record_hours: general.record_hours,
     })
 }
 

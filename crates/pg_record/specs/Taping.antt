@@ -1,37 +1,65 @@
--- What a tape holds.
-use Rattle.std.specs.Prelude.{ℕ, Bool, ◌+◌, ◌-◌, ◌^◌, min, List, [], ◌++◌, length, Option, Some, None, ◌&&◌, nat_le, nat_lt, if◌then◌else◌}
+-- What a tape holds, and the bytes of its records.
+use Rattle.std.specs.Prelude.{ℕ, Bool, ◌+◌, ◌-◌, ◌^◌, min, List, [], ◌∷◌, ◌++◌, length, take, drop, Option, Some, None, ◌&&◌, nat_le, nat_lt, if◌then◌else◌}
+use Rattle.std.specs.Int.{w32, w64, to_be_bytes}
 use Rattle.pg_record.specs.declared.record.Record.{Record}
 use Rattle.pg_record.specs.declared.record.RecordKind.{RecordKind}
-use Rattle.pg_record.specs.Records.{start_bytes, end_bytes}
+use Rattle.pg_record.specs.declared.tape.Front.{Front}
+use Rattle.pg_record.specs.declared.tape.Front.TheVariants.{Nothing, Four, Eight}
+use Rattle.pg_record.specs.declared.tape.TapedCall.{TapedCall}
+use Rattle.pg_record.specs.Records.{record_bytes}
 
 pub record Taped : Type 0 where
-  -- the records that were ended
-  pub whole : List ℕ
-  -- what of a record stands behind them, and its kind and number if it was begun
-  pub started : List ℕ
-  pub begun : Option (RecordKind × ℕ)
-  -- for how many bytes there is room
+  -- the calls whose records were ended, and the bodies
+  pub calls : List TapedCall
+  pub bodies : List ℕ
+  -- of the record that was begun: its kind, its number, the front of its body, and where the rest begins
+  pub begun : Option (RecordKind × ℕ × Front × ℕ)
+  -- for how many calls, and for how many bytes, there is room
+  pub most : ℕ
   pub room : ℕ
   -- how many records found none
   pub missed : ℕ
 
--- whether a record with this body finds room
+-- whether a record finds room: also among the two bytes that count its body
 abbrev pub has_room : Taped → List ℕ → Bool
-has_room t body = nat_lt (length body) (2 ^ 16) && nat_le (length t.whole + length body + 22) t.room
+has_room t rest = nat_lt (length t.calls) t.most && (nat_le (length rest) 65527 && nat_le (length rest) (t.room - length t.bodies))
 
-abbrev pub begun : Taped → RecordKind → ℕ → List ℕ → Taped
-begun t kind number body =
-    if has_room t body then record t { started = start_bytes kind number (length body) ++ body; begun = Some (kind, number) } else
-    record t { started = []; begun = None }
+abbrev pub begun : Taped → RecordKind → ℕ → Front → List ℕ → Taped
+begun t kind number front rest =
+    if has_room t rest then record t { bodies = t.bodies ++ rest; begun = Some (kind, number, front, length t.bodies) } else
+    record t { begun = None }
 
--- what is whole behind it, of a record that was begun with this kind and number
-abbrev pub ended_by : Option (RecordKind × ℕ) → Taped → ℕ → ℕ → ℕ → ℕ → ℕ → Taped
-ended_by (Some kind) t place at answer handed sum = record t {
-  whole = t.whole ++ t.started ++ end_bytes (record { kind = kind.0; number = kind.1; place = place; at = at; answer = answer; handed = handed; sum = sum });
-  started = [];
-  begun = None;
+-- the call of a record that was begun so, when its bodies are these
+abbrev pub taped_call : RecordKind × ℕ × Front × ℕ → List ℕ → ℕ → ℕ → ℕ → ℕ → ℕ → TapedCall
+taped_call began bodies place at answer handed sum = record {
+  entry = record { kind = began.0; number = began.1; place = place; at = at; answer = answer; handed = handed; sum = sum };
+  front = began.2;
+  from = began.3;
+  len = length bodies - began.3;
 }
+
+abbrev pub ended_by : Option (RecordKind × ℕ × Front × ℕ) → Taped → ℕ → ℕ → ℕ → ℕ → ℕ → Taped
+ended_by (Some began) t place at answer handed sum = record t { calls = t.calls ++ taped_call began t.bodies place at answer handed sum ∷ []; begun = None }
 ended_by None t place at answer handed sum = record t { missed = min (t.missed + 1) (2 ^ 64 - 1) }
 
 abbrev pub ended : Taped → ℕ → ℕ → ℕ → ℕ → ℕ → Taped
 ended t = ended_by t.begun t
+
+-- ---- its records as bytes
+
+abbrev pub front_bytes : Front → List ℕ
+front_bytes Nothing = []
+front_bytes (Four number) = to_be_bytes w32 number
+front_bytes (Eight number) = to_be_bytes w64 number
+
+-- the body of a call among these bodies
+abbrev pub body_of : List ℕ → TapedCall → List ℕ
+body_of bodies call = front_bytes call.front ++ take call.len (drop call.from bodies)
+
+-- its record; none where two bytes do not count the body
+abbrev pub spelled_call : List ℕ → TapedCall → List ℕ
+spelled_call bodies call = if nat_lt (length (body_of bodies call)) (2 ^ 16) then record_bytes call.entry (body_of bodies call) else []
+
+abbrev pub spelled : List ℕ → List TapedCall → List ℕ
+spelled bodies [] = []
+spelled bodies (call ∷ calls) = spelled_call bodies call ++ spelled bodies calls

@@ -22,4 +22,4 @@ pub use record::{
     AROUND_BODY, DONE, LOST, Record, RecordKind, read_record, record_end, record_start,
 };
 pub use recording::{Placed, Recording, Records, is_row};
-pub use tape::Tape;
+pub use tape::{Front, Tape, TapedCall, TapedCalls};

@@ -3,11 +3,11 @@
 ghost use Rattle.std.specs.Prelude.{◌≡◌};
 
 use crate::{
-    BlockHead, DONE, FoundBlock, LOST, Merge, Merged, Record, RecordKind, Recording, Records, Tape,
-    block_head, next_block, read_record, sum,
+    BlockHead, DONE, FoundBlock, Front, LOST, Merge, Merged, Record, RecordKind, Recording,
+    Records, Tape, TapedCalls, block_head, next_block, read_record, sum,
 };
 use pg_turn::{Machine, Seat, Turnstile};
-use std::alloc::Global;
+use std::alloc::{AllocError, Global};
 use std::sync::Wait;
 use std::test::Fail;
 use std::thread::{Threads, join};
@@ -16,13 +16,14 @@ use std::thread::{Threads, join};
 #[test]
 fn record_is_spelled(rt: HostRuntime) -> Result<(), Fail> {
     let alloc = rt.alloc();
-    let mut tape = Tape::new(alloc, 100)?;
-    tape.begin(RecordKind::Measurement, 0x0102, &[1, 2], &[3]);
+    let mut tape = Tape::new(alloc, 1, 3)?;
+    let front = Front::Eight(0x0506_0708_090A_0B0C);
+    tape.begin(RecordKind::Measurement, 0x0102, front, &[1, 2, 3]);
     tape.end(0x0A0B_0C0D_0E0F_1011, 0x1213, 21, 0x1415, 0x1617_1819);
-    let bytes = tape.take(Vec::new(alloc));
-    let wanted: [u8; 25] = [
-        1, 1, 2, 0, 3, 1, 2, 3, 0x0A, 0x0B, 0x0C, 0x0D, 0x0E, 0x0F, 0x10, 0x11, 0x12, 0x13, 21,
-        0x14, 0x15, 0x16, 0x17, 0x18, 0x19,
+    let bytes = bytes_of(alloc, &mut tape)?;
+    let wanted: [u8; 33] = [
+        1, 1, 2, 0, 11, 5, 6, 7, 8, 9, 10, 11, 12, 1, 2, 3, 0x0A, 0x0B, 0x0C, 0x0D, 0x0E, 0x0F,
+        0x10, 0x11, 0x12, 0x13, 21, 0x14, 0x15, 0x16, 0x17, 0x18, 0x19,
     ];
     assert!(rt; bytes.as_slice() == wanted.as_slice());
     let Some((record, body, rest)) = read_record(&bytes) else {
@@ -32,17 +33,17 @@ fn record_is_spelled(rt: HostRuntime) -> Result<(), Fail> {
     assert!(rt; record.kind == RecordKind::Measurement && record.number == 0x0102);
     assert!(rt; record.place == 0x0A0B_0C0D_0E0F_1011 && record.at == 0x1213);
     assert!(rt; record.answer == 21 && record.handed == 0x1415 && record.sum == 0x1617_1819);
-    assert!(rt; body == [1, 2, 3].as_slice() && rest.is_empty());
+    assert!(rt; body == [5, 6, 7, 8, 9, 10, 11, 12, 1, 2, 3].as_slice() && rest.is_empty());
     Ok(())
 }
 
 /// No byte of a record may be missing, and its kind has to be known.
 #[test]
 fn parts_are_no_record(rt: HostRuntime) -> Result<(), Fail> {
-    let mut tape = Tape::new(rt.alloc(), 100)?;
-    tape.begin(RecordKind::Drain, 3, &[0, 0, 64, 0], &[]);
+    let mut tape = Tape::new(rt.alloc(), 1, 0)?;
+    tape.begin(RecordKind::Drain, 3, Front::Four(16_384), &[]);
     tape.end(9, 0, LOST, 44, 7);
-    let mut bytes = tape.take(Vec::new(rt.alloc()));
+    let mut bytes = bytes_of(rt.alloc(), &mut tape)?;
     for size in 0..bytes.len() {
         assert!(rt; read_record(&bytes[..size]).is_none());
     }
@@ -58,35 +59,48 @@ fn parts_are_no_record(rt: HostRuntime) -> Result<(), Fail> {
 #[test]
 fn tape_is_full(rt: HostRuntime) -> Result<(), Fail> {
     let alloc = rt.alloc();
-    let mut tape = Tape::new(alloc, 60)?;
+    let mut tape = Tape::new(alloc, 2, 5)?;
     for place in 0..3 {
-        tape.begin(RecordKind::Connect, 5, &[], &[]);
+        tape.begin(RecordKind::Connect, 5, Front::Nothing, &[]);
         tape.end(place, 0, DONE, 0, 0);
     }
-    assert!(rt; tape.missed() == 1 && tape.len() == 44);
+    assert!(rt; tape.missed() == 1 && tape.calls() == 2);
+    assert!(rt; bytes_of(alloc, &mut tape)?.len() == 44);
     // One that is begun twice stands once, and one that is not begun is missed.
-    let first = tape.take(Vec::with_capacity(alloc, 60)?);
-    assert!(rt; first.len() == 44 && tape.is_empty());
-    tape.begin(RecordKind::Connect, 5, &[], &[]);
-    tape.begin(RecordKind::Hangup, 5, &[], &[]);
+    let first = tape.take(TapedCalls::with_capacity(alloc, 2, 5)?);
+    assert!(rt; first.is_empty() && tape.is_empty());
+    tape.begin(RecordKind::Connect, 5, Front::Nothing, &[]);
+    tape.begin(RecordKind::Hangup, 5, Front::Nothing, &[1, 2, 3]);
     tape.end(3, 0, DONE, 0, 0);
     tape.end(4, 0, DONE, 0, 0);
-    assert!(rt; tape.missed() == 2 && tape.len() == 22);
-    let second = tape.take(Vec::new(alloc));
+    assert!(rt; tape.missed() == 2 && tape.calls() == 1 && tape.bytes() == 3);
+    // A body that finds no room is missed too.
+    tape.begin(RecordKind::Edit, 0, Front::Nothing, &[1, 2, 3]);
+    tape.end(5, 0, DONE, 0, 0);
+    assert!(rt; tape.missed() == 3 && tape.calls() == 1 && tape.bytes() == 3);
+    let second = bytes_of(alloc, &mut tape)?;
     let Some((record, _, _)) = read_record(&second) else {
         assert!(rt; false);
         return Ok(());
     };
     assert!(rt; record.kind == RecordKind::Hangup && record.place == 3);
     // A body of more bytes than two bytes count finds no room.
-    let mut large = Tape::new(alloc, 200_000)?;
-    let body = vec![in alloc; 0; 65_536]?;
-    large.begin(RecordKind::Edit, 0, &body, &[]);
+    let mut large = Tape::new(alloc, 2, 200_000)?;
+    let body = vec![in alloc; 0; 65_528]?;
+    large.begin(RecordKind::Measurement, 0, Front::Eight(0), &body);
     large.end(0, 0, DONE, 0, 0);
-    large.begin(RecordKind::Edit, 0, &body[1..], &[]);
+    large.begin(RecordKind::Measurement, 0, Front::Eight(0), &body[1..]);
     large.end(1, 0, DONE, 0, 0);
-    assert!(rt; large.missed() == 1 && large.len() == 65_557);
+    assert!(rt; large.missed() == 1 && large.calls() == 1);
+    assert!(rt; bytes_of(alloc, &mut large)?.len() == 65_557);
     Ok(())
+}
+
+/// The bytes of what a tape holds, which then holds nothing and has no room.
+fn bytes_of(alloc: Global, tape: &mut Tape) -> Result<Vec<u8>, AllocError> {
+    let mut bytes = Vec::new(alloc);
+    tape.take(TapedCalls::none(alloc)).write_to(&mut bytes)?;
+    Ok(bytes)
 }
 
 /// FNV-1a over numbers of eight bytes, as another program computes it.
@@ -142,12 +156,12 @@ fn blocks_are_found(rt: HostRuntime) -> Result<(), Fail> {
 
 /// A block with ticks at these places.
 fn ticks(alloc: Global, start: u64, places: &[u64]) -> Result<(BlockHead, Vec<u8>), Fail> {
-    let mut tape = Tape::new(alloc, 4096)?;
+    let mut tape = Tape::new(alloc, 16, 0)?;
     for place in places {
-        tape.begin(RecordKind::Tick, 0, &[0, 0, 0, 1], &[]);
+        tape.begin(RecordKind::Tick, 0, Front::Four(1), &[]);
         tape.end(*place, 2, DONE, 0, 0);
     }
-    let records = tape.take(Vec::new(alloc));
+    let records = bytes_of(alloc, &mut tape)?;
     let head = BlockHead {
         worker: 0,
         size: u32::try_from(records.len()).unwrap_or(0),

@@ -6,7 +6,7 @@ use Rattle.pg_operator.specs.declared.setup.Setup.{Setup}
 use Rattle.pg_lines.specs.Addresses.{Endpoint, endpoint}
 use Rattle.pg_lines.specs.Words.{Text}
 use Rattle.pg_reload.specs.declared.restarts.Restart.{Restart}
-use Rattle.pg_reload.specs.declared.restarts.Restart.TheVariants.{TickMs, Ingest, Serve, Control, Status, Name}
+use Rattle.pg_reload.specs.declared.restarts.Restart.TheVariants.{TickMs, Ingest, Serve, Control, Status, Name, Record, RecordMb, RecordHours}
 
 -- the values of these keys
 pub record Keys : Type 0 where
@@ -16,6 +16,9 @@ pub record Keys : Type 0 where
   pub control : Option Text
   pub status : Option Endpoint
   pub name : Option Text
+  pub record_folder : Option Text
+  pub record_mb : ℕ
+  pub record_hours : ℕ
 
 abbrev pub keys_of : Setup → Keys
 keys_of s = record {
@@ -25,6 +28,9 @@ keys_of s = record {
   control = option_map (λ path. string_bytes path) s.control;
   status = option_map endpoint s.status;
   name = option_map (λ name. string_bytes name) s.name;
+  record_folder = option_map (λ path. string_bytes path) s.record_folder;
+  record_mb = s.record_mb;
+  record_hours = s.record_hours;
 }
 
 -- the host and the port are the same
@@ -37,6 +43,7 @@ told_unless is_same key = if is_same then [] else key ∷ []
 
 abbrev pub restarts_between : Keys → Keys → List Restart
 restarts_between old new =
-    ((((told_unless (old.tick_ms == new.tick_ms) TickMs ++ told_unless (old.ingest == new.ingest) Ingest) ++ told_unless (old.serve == new.serve) Serve)
+    (((((((told_unless (old.tick_ms == new.tick_ms) TickMs ++ told_unless (old.ingest == new.ingest) Ingest) ++ told_unless (old.serve == new.serve) Serve)
     ++ told_unless (option_eq bytes_eq old.control new.control) Control) ++ told_unless (option_eq endpoint_eq old.status new.status) Status)
-    ++ told_unless (option_eq bytes_eq old.name new.name) Name
+    ++ told_unless (option_eq bytes_eq old.name new.name) Name) ++ told_unless (option_eq bytes_eq old.record_folder new.record_folder) Record)
+    ++ told_unless (old.record_mb == new.record_mb) RecordMb) ++ told_unless (old.record_hours == new.record_hours) RecordHours

@@ -44,7 +44,8 @@ pub struct Changes {
 /// is called anew where its address, `silence`, `clock_ms` or `ahead_ms` changed; a port is closed and opened anew where its number or a rule of it
 /// changed, and stays where its subscriber is dropped and added again.
 ///
-/// The keys that need a new start are named in the order `tick_ms`, `ingest`, `serve`, `control`, `status`, `name`; `log` needs none.
+/// The keys that need a new start are named in the order `tick_ms`, `ingest`, `serve`, `control`, `status`, `name`, `record`, `record_mb`,
+/// `record_hours`; `log` needs none.
 ///
 /// # Errors
 ///

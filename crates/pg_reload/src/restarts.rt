@@ -25,6 +25,12 @@ pub enum Restart {
     Status,
     /// `name`.
     Name,
+    /// `record`.
+    Record,
+    /// `record_mb`.
+    RecordMb,
+    /// `record_hours`.
+    RecordHours,
 }
 
 /// Names a key, unless its values are the same.
@@ -86,5 +92,10 @@ pub(crate) fn restarts_between(
     tell(&mut keys, Restart::Status, is_same)?;
     let is_same = is_same_text(&old.name, &new.name);
     tell(&mut keys, Restart::Name, is_same)?;
+    let is_same = is_same_text(&old.record_folder, &new.record_folder);
+    tell(&mut keys, Restart::Record, is_same)?;
+    tell(&mut keys, Restart::RecordMb, old.record_mb == new.record_mb)?;
+    let is_same = old.record_hours == new.record_hours;
+    tell(&mut keys, Restart::RecordHours, is_same)?;
     Ok(keys)
 }

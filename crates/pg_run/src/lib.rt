@@ -7,6 +7,7 @@ mod failure;
 mod make_workers;
 mod naming;
 mod operator;
+mod recording;
 mod redefined;
 mod reload_worker;
 mod reloading;

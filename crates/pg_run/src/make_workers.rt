@@ -8,17 +8,19 @@ use crate::run_context::RunContext;
 use crate::running::logger_of;
 use crate::workers::Worker;
 use pg_console::{DelayWatch, Runtime, ServiceBuilder};
+use pg_recorder::{RecordWriter, RecordedAtOnce, Segments};
 use pg_service::Poller;
 use pg_shared::{Named, Seat};
 use pg_wire::Refusal;
 
-/// The workers that write the log, watch delays, do reloads and answer an operator's lines. The one that waits for lines is the last, so that where a thread
-/// can't be started it is not there to wait for.
+/// The workers that write the log, watch delays, do reloads, write what is recorded to these segments, if it is, and answer an operator's
+/// lines. The one that waits for lines is the last, so that where a thread can't be started it is not there to wait for.
 pub(crate) fn own_workers<'a, R: Runtime, N: Named>(
     builder: &ServiceBuilder<'a, R>,
     context: RunContext<'a>,
     seat: Seat,
     reloads: Option<Poller>,
+    segments: Option<Segments<'a>>,
     lines: StandardIo<'a, R>,
 ) -> Result<(Seat, Vec<Worker<'a, R, N>>), Refusal>
     requires shared { builder.now.shared.now ≡ N.table }
@@ -41,6 +43,10 @@ pub(crate) fn own_workers<'a, R: Runtime, N: Named>(
     let (seat, reload_worker) = reload_worker::<R, N>(builder, context, seat, reloads);
     if let Some(worker) = reload_worker {
         workers.push(Worker::Reloads(worker))?;
+    }
+    if let (Some(recorder), Some(segments)) = (builder.service.recorder, segments) {
+        let writer = RecordWriter::new(builder.rt, recorder, journal, segments)?;
+        workers.push(Worker::Records(writer))?;
     }
     let (seat, operator) = operator::<R, N>(builder, context, seat, lines);
     workers.push(Worker::Lines(operator))?;
@@ -67,7 +73,7 @@ fn reload_worker<'a, R: Runtime, N: Named>(
     let (Some(poller), Some(reloads)) = (poller, service.reloads) else {
         return (seat, None);
     };
-    let (seat, gate) = builder.gate::<N>(seat);
+    let (seat, gate) = builder.gate::<N, RecordedAtOnce>(seat);
     let in_force = context.in_force(*rt);
     let worker = ReloadWorker::new(*rt, *alloc, gate, poller, reloads, *service, in_force);
     (seat, Some(worker))
@@ -90,7 +96,7 @@ fn operator<'a, R: Runtime, N: Named>(
         service,
         ..
     } = builder;
-    let (seat, gate) = builder.gate::<N>(seat);
+    let (seat, gate) = builder.gate::<N, RecordedAtOnce>(seat);
     let in_force = context.in_force(*rt);
     let operator = Operator::new(*rt, *alloc, gate, lines, *service, in_force);
     (seat, operator)

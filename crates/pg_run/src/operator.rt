@@ -5,8 +5,9 @@ ghost use Rattle.std.specs.Prelude.{◌≡◌};
 use crate::reloading::SetupManager;
 use crate::stoppable_stdin::StoppableStdin;
 use pg_console::{Console, ServiceHandle, answer_lines};
+use pg_recorder::{RecordedAtOnce, WorkerGate};
 use pg_service::MeteredGate;
-use pg_shared::{Named, SharedGate, Work};
+use pg_shared::{Named, Work};
 use std::alloc::Global;
 use std::io::{BufReader, BufWriter, Printer, StdinLock};
 use std::marker::Model;
@@ -29,7 +30,7 @@ pub struct Operator<
     N: Named,
 > {
     rt: &'a R,
-    gate: MeteredGate<SharedGate<'a, R, N>>,
+    gate: MeteredGate<WorkerGate<'a, R, N, RecordedAtOnce>>,
     reader: BufReader<StoppableStdin<'a>>,
     console: Console<'a, BufWriter<Printer<'a, R>>>,
     in_force: SetupManager<'a, R>,
@@ -56,7 +57,7 @@ impl<'a, R: Wait + Input<Reader = StdinLock<'static>> + Print + Net + Clock, N: 
     pub(crate) fn new(
         rt: &'a R,
         alloc: Global,
-        gate: SharedGate<'a, R, N>,
+        gate: WorkerGate<'a, R, N, RecordedAtOnce>,
         lines: StandardIo<'a, R>,
         service: ServiceHandle<'a>,
         in_force: SetupManager<'a, R>,
@@ -74,7 +75,7 @@ impl<'a, R: Wait + Input<Reader = StdinLock<'static>> + Print + Net + Clock, N: 
     }
 
     /// Its gate.
-    pub fn into_gate(self) -> SharedGate<'a, R, N>
+    pub fn into_gate(self) -> WorkerGate<'a, R, N, RecordedAtOnce>
         // With its own seat.
         ensures seat { result ≡ self.entry }
     {

@@ -5,8 +5,9 @@ ghost use Rattle.std.specs.Prelude.{◌≡◌};
 use crate::reloading::SetupManager;
 use pg_console::{Console, Reloads, ServiceHandle};
 use pg_log::LogEvent;
+use pg_recorder::{RecordedAtOnce, WorkerGate};
 use pg_service::{MeteredGate, Poller};
-use pg_shared::{Named, SharedGate, Work};
+use pg_shared::{Named, Work};
 use std::alloc::Global;
 use std::marker::Model;
 use std::mem;
@@ -23,7 +24,7 @@ const LONGEST_WAIT_MS: u64 = 1_000;
 #[derive(Drop)]
 pub struct ReloadWorker<'a, R: Wait + Net + Clock, N: Named> {
     rt: &'a R,
-    gate: MeteredGate<SharedGate<'a, R, N>>,
+    gate: MeteredGate<WorkerGate<'a, R, N, RecordedAtOnce>>,
     waiting: Poller,
     reloads: &'a Reloads,
     console: Console<'a, Vec<u8>>,
@@ -46,7 +47,7 @@ impl<'a, R: Wait + Net + Clock, N: Named> ReloadWorker<'a, R, N> {
     pub(crate) fn new(
         rt: &'a R,
         alloc: Global,
-        gate: SharedGate<'a, R, N>,
+        gate: WorkerGate<'a, R, N, RecordedAtOnce>,
         waiting: Poller,
         reloads: &'a Reloads,
         service: ServiceHandle<'a>,
@@ -65,7 +66,7 @@ impl<'a, R: Wait + Net + Clock, N: Named> ReloadWorker<'a, R, N> {
     }
 
     /// Its gate.
-    pub fn into_gate(self) -> SharedGate<'a, R, N>
+    pub fn into_gate(self) -> WorkerGate<'a, R, N, RecordedAtOnce>
         // With its own seat.
         ensures seat { result ≡ self.entry }
     {

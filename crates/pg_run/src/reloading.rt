@@ -391,5 +391,8 @@ fn key_of(restart: Restart) -> &'static str {
         Restart::Control => "control",
         Restart::Status => "status",
         Restart::Name => "name",
+        Restart::Record => "record",
+        Restart::RecordMb => "record_mb",
+        Restart::RecordHours => "record_hours",
     }
 }

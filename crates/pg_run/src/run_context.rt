@@ -3,6 +3,7 @@
 use crate::reloading::SetupManager;
 use crate::running::Start;
 use pg_operator::Setup;
+use pg_recorder::Recorder;
 use std::net::Net;
 use std::rt::Clock;
 use std::sync::Mutex;
@@ -16,6 +17,8 @@ pub(crate) struct RunContext<'a> {
     // The gateway's name.
     pub(crate) name: &'a str,
     pub(crate) setup: &'a Mutex<Setup>,
+    // What calls are recorded by, if they are.
+    pub(crate) recorder: Option<&'a Recorder>,
     // It is held while a reload does what changed.
     pub(crate) turn: &'a Mutex<()>,
     // Set where all workers are to end.

@@ -11,6 +11,7 @@ use crate::admin_listeners::admin_listeners;
 use crate::failure::{Failure, not_bound, refusal_of};
 use crate::naming::name_of;
 use crate::operator::StandardIo;
+use crate::recording::{recorder_of, segments_of, write_last};
 use crate::reloading::filter_of;
 use crate::run_context::RunContext;
 use crate::served::Served;
@@ -91,6 +92,7 @@ fn run_at<'a, R: Runtime + Alloc<A = Global>>(
     let (setup, warnings) = setup_in(files, alloc, start.file)?;
     let name = name_of(files, alloc, setup.name.as_ref())?;
     let edits = setup.edits(alloc)?;
+    let recorder = recorder_of(alloc, &setup)?;
     let setup = Mutex::new(setup);
     let turn = Mutex::new(());
     let context = RunContext {
@@ -98,6 +100,7 @@ fn run_at<'a, R: Runtime + Alloc<A = Global>>(
         start,
         name: name.as_str(),
         setup: &setup,
+        recorder: recorder.as_ref(),
         turn: &turn,
         stop,
     };
@@ -117,7 +120,7 @@ fn run_by<'a, R: Runtime + Alloc<A = Global>>(
         shared,
         seat,
         directory,
-    } = set_up(rt, alloc, edits)?;
+    } = set_up(rt, alloc, edits, context.recorder)?;
     let state = SharedState::new(alloc, directory)?;
     let setup = context.setup.lock(rt);
     let served = Served::of(context.start, context.name, &setup);
@@ -130,6 +133,7 @@ fn run_by<'a, R: Runtime + Alloc<A = Global>>(
     log.write(Level::Info, None, &served);
     write_warnings(&mut log, warnings);
     let ended = serve_all::<R, Brand>(rt, alloc, &shared, seat, context, plan, &state, lines);
+    write_last(rt, alloc, context, &state.journal);
     log.write_rest();
     log.write(Level::Info, None, &"the gateway has ended");
     if let Some(path) = control {
@@ -193,6 +197,7 @@ fn plan_of<'a, R: Net + Clock>(
         serve: usize::from(setup.serve),
         tick_ms: setup.tick_ms,
         now,
+        segments: segments_of(files, alloc, setup)?,
     })
 }
 

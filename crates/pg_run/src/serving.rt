@@ -6,11 +6,14 @@ ghost use Rattle.pg_console.specs.Joining.{Begins};
 use crate::failure::refusal_of;
 use crate::make_workers::own_workers;
 use crate::operator::StandardIo;
+use crate::reloading::SetupManager;
 use crate::run_context::RunContext;
+use crate::workers::Worker;
 use pg_console::{
     Mailboxes, Pollers, Runtime, ServiceBuilder, ServicePlan, SharedState, WorkerCounts,
 };
 use pg_log::{Detail, Entry, Journal, LogEvent, Subject};
+use pg_recorder::{CallRecords, Recorded, Segments, Unrecorded};
 use pg_shared::{Named, Seat, Shared};
 use pg_subscribers::Port;
 use pg_wire::Refusal;
@@ -29,6 +32,8 @@ pub(crate) struct Plan<'a> {
     // Milliseconds from tick to tick.
     pub(crate) tick_ms: u16,
     pub(crate) now: Instant,
+    // Where is written what is recorded, if it is.
+    pub(crate) segments: Option<Segments<'a>>,
 }
 
 /// Serves by workers until they are stopped. Their seats are split from this one, and joined to it at the end. Each port is written to the log.
@@ -75,13 +80,43 @@ fn serve_with<'a, R: Runtime, N: Named + Send>(
         rt,
         alloc,
         shared,
-        service: mailboxes.handle(state, context.name, plan.tick_ms, context.stop),
+        service: mailboxes.handle(
+            state,
+            context.name,
+            plan.tick_ms,
+            context.recorder,
+            context.stop,
+        ),
         start: plan.now,
     };
     let reloads = pollers.reloads.take();
-    let (seat, own) = own_workers::<R, N>(&builder, context, seat, reloads, lines)?;
+    let Plan {
+        service,
+        segments,
+        ..
+    } = plan;
+    let (seat, own) = own_workers::<R, N>(&builder, context, seat, reloads, segments, lines)?;
     let commands = context.in_force(rt);
-    match builder.serve::<N, _, _>(seat, pollers, plan.service, commands, own) {
+    match context.recorder {
+        Some(_) => { serve_by::<R, N, Recorded>(&builder, seat, pollers, service, commands, own) }
+        None => serve_by::<R, N, Unrecorded>(&builder, seat, pollers, service, commands, own),
+    }
+}
+
+/// Serves by workers whose calls are recorded by T.
+fn serve_by<'a, R: Runtime, N: Named + Send, T: CallRecords + Send>(
+    builder: &ServiceBuilder<'a, R>,
+    seat: Seat,
+    pollers: Pollers,
+    service: ServicePlan<'a>,
+    commands: SetupManager<'a, R>,
+    own: Vec<Worker<'a, R, N>>,
+) -> Result<Seat, Refusal>
+    requires shared { builder.now.shared.now ≡ N.table }
+    requires seat { seat.table ≡ N.table }
+    ensures begins { IfOk result (λ joined. Begins seat joined) }
+{
+    match builder.serve::<N, T, _, _>(seat, pollers, service, commands, own) {
         Ok(joined) => Ok(joined),
         Err(error) => Err(refusal_of(error)),
     }

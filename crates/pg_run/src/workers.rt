@@ -5,6 +5,7 @@ ghost use Rattle.pg_run.specs.Kinds.{Gives};
 use crate::operator::Operator;
 use crate::reload_worker::ReloadWorker;
 use pg_console::{DelayWatch, HoldsSeat, Runtime};
+use pg_recorder::RecordWriter;
 use pg_service::Logger;
 use pg_shared::{Named, Seat, Work};
 
@@ -15,6 +16,7 @@ pub enum Worker<'a, R: Runtime, N: Named> {
     Reloads(ReloadWorker<'a, R, N>),
     Log(Logger<'a, R>),
     Delays(DelayWatch<'a, R>),
+    Records(RecordWriter<'a, R>),
 }
 
 impl<R: Runtime, N: Named> Work for Worker<'_, R, N> {
@@ -24,6 +26,7 @@ impl<R: Runtime, N: Named> Work for Worker<'_, R, N> {
             Worker::Reloads(worker) => worker.turn(),
             Worker::Log(worker) => worker.turn(),
             Worker::Delays(worker) => worker.turn(),
+            Worker::Records(worker) => worker.turn(),
         }
     }
 }
@@ -40,7 +43,7 @@ impl<R: Runtime, N: Named> HoldsSeat<N> for Worker<'_, R, N> {
                 worker.finish();
                 None
             }
-            Worker::Delays(_) => None,
+            Worker::Delays(_) | Worker::Records(_) => None,
         }
     }
 }

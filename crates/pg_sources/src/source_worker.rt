@@ -12,11 +12,12 @@ use pg_gateway::{Event, Gate, Reply};
 use pg_limits::{Action, Clocks, Phase, reference};
 use pg_log::{Detail, Entry, LogEvent, MOST_PMUS, Subject};
 use pg_quality::PmuChanges;
+use pg_recorder::{CallRecords, WorkerGate};
 use pg_service::{
     Dial, Mailbox, MeteredGate, Poller, READS, ReadyQueue, SourceOrder, Targets, WorkerHandles,
     ended, sooner,
 };
-use pg_shared::{Named, SharedGate, Work};
+use pg_shared::{Named, Work};
 use pg_wire::{PmuId, PmuKey, Refusal};
 use std::alloc::Global;
 use std::marker::Model;
@@ -42,10 +43,10 @@ fn place_of(sources: &[SourceEntry], id: PmuId) -> Option<usize>
 /// A worker that calls sources and serves their connections. A turn waits until a socket is ready, it is woken, or
 /// one of its sources is waited for no longer; then it serves those alone.
 #[derive(Drop)]
-pub struct SourceWorker<'a, R: Wait + Net + Clock, N: Named> {
+pub struct SourceWorker<'a, R: Wait + Net + Clock, N: Named, T: CallRecords> {
     rt: &'a R,
     alloc: Global,
-    gate: QualityGate<MeteredGate<CountedAnnouncements<'a, SharedGate<'a, R, N>>>>,
+    gate: QualityGate<MeteredGate<CountedAnnouncements<'a, WorkerGate<'a, R, N, T>>>>,
     waiting: Poller,
     number: usize,
     mailbox: &'a Mailbox<SourceOrder>,
@@ -69,7 +70,7 @@ pub struct SourceWorker<'a, R: Wait + Net + Clock, N: Named> {
     looked: Instant,
 }
 
-impl<'a, R: Wait + Net + Clock, N: Named> Model for SourceWorker<'a, R, N> {
+impl<'a, R: Wait + Net + Clock, N: Named, T: CallRecords> Model for SourceWorker<'a, R, N, T> {
     ghost use Rattle.pg_gateway.specs.declared.event.Event.{Event};
     ghost use Rattle.pg_gateway.specs.declared.event.Reply.{Reply};
     ghost use Rattle.pg_turn.specs.Known.{Known};
@@ -80,18 +81,18 @@ impl<'a, R: Wait + Net + Clock, N: Named> Model for SourceWorker<'a, R, N> {
     ghost view = { λ w. w.gate.gate.gate.gate };
 }
 
-impl<'a, R: Wait + Net + Clock, N: Named> SourceWorker<'a, R, N> {
+impl<'a, R: Wait + Net + Clock, N: Named, T: CallRecords> SourceWorker<'a, R, N, T> {
     /// A worker without sources, which has this number among those of its kind.
     pub fn new(
         rt: &'a R,
         alloc: Global,
-        gate: SharedGate<'a, R, N>,
+        gate: WorkerGate<'a, R, N, T>,
         waiting: Poller,
         number: usize,
         mailbox: &'a Mailbox<SourceOrder>,
         handles: WorkerHandles<'a>,
         now: Instant,
-    ) -> SourceWorker<'a, R, N>
+    ) -> SourceWorker<'a, R, N, T>
         ensures seat { result ≡ gate.entry }
     {
         let gate = CountedAnnouncements::new(gate, handles.collector.layout_changes());
@@ -156,7 +157,7 @@ impl<'a, R: Wait + Net + Clock, N: Named> SourceWorker<'a, R, N> {
     }
 
     /// Its gate. All its sockets are closed.
-    pub fn into_gate(self) -> SharedGate<'a, R, N>
+    pub fn into_gate(self) -> WorkerGate<'a, R, N, T>
         // With its own seat.
         ensures seat { result ≡ self.entry }
     {
@@ -615,10 +616,11 @@ fn clock_ms<R: Clock>(rt: &R) -> Option<u64> {
     u64::try_from(since.as_millis()).ok()
 }
 
-impl<R: Wait + Net + Clock, N: Named> Work for SourceWorker<'_, R, N> {
+impl<R: Wait + Net + Clock, N: Named, T: CallRecords> Work for SourceWorker<'_, R, N, T> {
     fn turn(&mut self) -> bool {
         self.queue
             .wait(self.rt, &mut self.waiting, self.handles.journal);
+        self.gate.gate.gate.gate.begin_round();
         self.read_clock();
         self.find_reference();
         if self.waiting.is_woken() {
@@ -633,6 +635,7 @@ impl<R: Wait + Net + Clock, N: Named> Work for SourceWorker<'_, R, N> {
             self.serve_ready();
             self.hold();
         }
+        self.gate.gate.gate.gate.end_round();
         true
     }
 }

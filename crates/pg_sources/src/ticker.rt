@@ -4,8 +4,9 @@ ghost use Rattle.std.specs.Prelude.{◌≡◌};
 
 use pg_gateway::{Event, Gate};
 use pg_log::LogEvent;
+use pg_recorder::{CallRecords, WorkerGate};
 use pg_service::{MeteredGate, WorkerHandles};
-use pg_shared::{Named, SharedGate, Work};
+use pg_shared::{Named, Work};
 use std::marker::Model;
 use std::rt::Clock;
 use std::sync::Wait;
@@ -14,14 +15,14 @@ use std::time::{Duration, SystemTime};
 
 /// A worker that posts the ticks.
 #[derive(Drop)]
-pub struct Ticker<'a, R: Wait + Clock, N: Named> {
+pub struct Ticker<'a, R: Wait + Clock, N: Named, T: CallRecords> {
     rt: &'a R,
-    gate: MeteredGate<SharedGate<'a, R, N>>,
+    gate: MeteredGate<WorkerGate<'a, R, N, T>>,
     wait: Duration,
     handles: WorkerHandles<'a>,
 }
 
-impl<'a, R: Wait + Clock, N: Named> Model for Ticker<'a, R, N> {
+impl<'a, R: Wait + Clock, N: Named, T: CallRecords> Model for Ticker<'a, R, N, T> {
     ghost use Rattle.pg_gateway.specs.declared.event.Event.{Event};
     ghost use Rattle.pg_gateway.specs.declared.event.Reply.{Reply};
     ghost use Rattle.pg_turn.specs.Known.{Known};
@@ -32,14 +33,14 @@ impl<'a, R: Wait + Clock, N: Named> Model for Ticker<'a, R, N> {
     ghost view = { λ w. w.gate.gate };
 }
 
-impl<'a, R: Wait + Clock, N: Named> Ticker<'a, R, N> {
+impl<'a, R: Wait + Clock, N: Named, T: CallRecords> Ticker<'a, R, N, T> {
     /// A ticker that waits so long before each tick, and wakes the subscribers' workers where a tick made frames.
     pub fn new(
         rt: &'a R,
-        gate: SharedGate<'a, R, N>,
+        gate: WorkerGate<'a, R, N, T>,
         wait: Duration,
         handles: WorkerHandles<'a>,
-    ) -> Ticker<'a, R, N>
+    ) -> Ticker<'a, R, N, T>
         ensures seat { result ≡ gate.entry }
     {
         Ticker {
@@ -51,7 +52,7 @@ impl<'a, R: Wait + Clock, N: Named> Ticker<'a, R, N> {
     }
 
     /// Its gate.
-    pub fn into_gate(self) -> SharedGate<'a, R, N>
+    pub fn into_gate(self) -> WorkerGate<'a, R, N, T>
         // With its own seat.
         ensures seat { result ≡ self.entry }
     {
@@ -68,10 +69,11 @@ fn soc_now<R: Clock>(rt: &R) -> Option<u32> {
     u32::try_from(since.as_secs()).ok()
 }
 
-impl<R: Wait + Clock, N: Named> Work for Ticker<'_, R, N> {
+impl<R: Wait + Clock, N: Named, T: CallRecords> Work for Ticker<'_, R, N, T> {
     /// Waits for the next tick, and posts it with the current SOC. Where the clock has none there is no tick.
     fn turn(&mut self) -> bool {
         thread::sleep(self.rt, self.wait);
+        self.gate.gate.begin_round();
         match soc_now(self.rt) {
             Some(soc) => {
                 self.gate.post(Event::Tick(soc));
@@ -81,6 +83,7 @@ impl<R: Wait + Clock, N: Named> Work for Ticker<'_, R, N> {
             }
             None => self.handles.journal.note(LogEvent::ClockFault),
         }
+        self.gate.gate.end_round();
         true
     }
 }

@@ -40,8 +40,8 @@ pub use page::page_text;
 pub use places::place_for;
 pub use request::{HEAD_BYTES, HttpError, Request, Shown, read_request};
 pub use snapshot::{
-    Call, Ignored, MemberState, Membership, PmuState, Presence, Queue, Snapshot, SourceState,
-    StreamState, SubscriberState,
+    Call, Ignored, MemberState, Membership, PmuState, Presence, Queue, RecordingState, Snapshot,
+    SourceState, StreamState, SubscriberState,
 };
 pub use station::shown_name;
 pub use status::print_status;

@@ -2,7 +2,7 @@
 
 use crate::histogram::{BOUNDS, Histogram};
 use crate::quality_metrics::print_quality;
-use crate::snapshot::{Call, Presence, Snapshot, SourceState, SubscriberState};
+use crate::snapshot::{Call, Presence, RecordingState, Snapshot, SourceState, SubscriberState};
 use crate::station::print_escaped;
 use crate::stream_metrics::print_streams;
 use std::io;
@@ -166,6 +166,9 @@ pub fn print_metrics<W: Write>(
     print_quality(out, snapshot.sources.as_slice())?;
     print_subscribers(out, snapshot.subscribers.as_slice())?;
     print_streams(out, snapshot.streams.as_slice())?;
+    if let Some(recording) = &snapshot.recording {
+        print_recording(out, recording)?;
+    }
     print_ages(out, ages)
 }
 
@@ -269,6 +272,36 @@ fn print_subscribers<W: Write>(out: &mut W, subscribers: &[SubscriberState]) -> 
             let value = figure.of(subscriber);
             writeln!(out, "{name}{{subscriber=\"{number}\"}} {value}")?;
         }
+    }
+    Ok(())
+}
+
+/// Writes the metrics of the recording.
+fn print_recording<W: Write>(out: &mut W, recording: &RecordingState) -> io::Result<()> {
+    for (name, help, value) in [
+        (
+            "pdcgw_recording_written_bytes_total",
+            "Bytes written to the recording.",
+            recording.written,
+        ),
+        (
+            "pdcgw_recording_unwritten_bytes_total",
+            "Bytes that could not be written to the recording.",
+            recording.unwritten,
+        ),
+        (
+            "pdcgw_recording_missed_calls_total",
+            "Calls that are missing in the recording because the disk was too slow.",
+            recording.missed,
+        ),
+        (
+            "pdcgw_recording_unspelled_calls_total",
+            "Calls in the recording that no line of a script says.",
+            recording.unspelled,
+        ),
+    ] {
+        print_head(out, name, "counter", help)?;
+        writeln!(out, "{name} {value}")?;
     }
     Ok(())
 }

@@ -155,6 +155,19 @@ pub struct StreamState {
     pub members: Vec<MemberState>,
 }
 
+/// What the service's calls were recorded by since it started.
+#[derive(Clone, Copy, Debug, PartialEq, Eq)]
+pub struct RecordingState {
+    /// The bytes that were written.
+    pub written: u64,
+    /// The bytes of records that could not be written.
+    pub unwritten: u64,
+    /// The calls whose record found no room, since the disk was too slow.
+    pub missed: u64,
+    /// The calls that no line of a script says.
+    pub unspelled: u64,
+}
+
 /// What the service shows of itself at one moment: each list in the order in which it is shown.
 #[derive(Drop)]
 pub struct Snapshot {
@@ -168,4 +181,6 @@ pub struct Snapshot {
     pub streams: Vec<StreamState>,
     /// How many workers did not answer within a second, so that their sources or ports are missing.
     pub unanswered: usize,
+    /// What its calls were recorded by, if they are recorded.
+    pub recording: Option<RecordingState>,
 }

@@ -8,11 +8,12 @@ use mio::Interest;
 use mio::net::TcpListener;
 use pg_gateway::{Event, Gate, Reply};
 use pg_log::{Detail, Entry, Journal, LogEvent, Subject};
+use pg_recorder::{CallRecords, WorkerGate};
 use pg_service::{
     ConnectionRules, Mailbox, MeteredGate, Poller, PortOrder, PortReport, ReadyQueue, SourceOrder,
     StatusCollector, sooner,
 };
-use pg_shared::{Named, SharedGate, Work};
+use pg_shared::{Named, Work};
 use pg_status::Histogram;
 use pg_wire::{StreamId, SubId};
 use std::alloc::Global;
@@ -54,10 +55,10 @@ impl Unbound {
 /// subscribers is waited for no longer. Where it was woken, what waits is handed out to all that have connected; then those whose sockets
 /// are ready are served.
 #[derive(Drop)]
-pub struct PortWorker<'a, R: Wait + Net + Clock, N: Named> {
+pub struct PortWorker<'a, R: Wait + Net + Clock, N: Named, T: CallRecords> {
     rt: &'a R,
     alloc: Global,
-    gate: MeteredGate<SharedGate<'a, R, N>>,
+    gate: MeteredGate<WorkerGate<'a, R, N, T>>,
     waiting: Poller,
     mailbox: &'a Mailbox<PortOrder>,
     // Those that may wait until it has handed out what they made.
@@ -77,7 +78,7 @@ pub struct PortWorker<'a, R: Wait + Net + Clock, N: Named> {
     queue: ReadyQueue,
 }
 
-impl<'a, R: Wait + Net + Clock, N: Named> Model for PortWorker<'a, R, N> {
+impl<'a, R: Wait + Net + Clock, N: Named, T: CallRecords> Model for PortWorker<'a, R, N, T> {
     ghost use Rattle.pg_gateway.specs.declared.event.Event.{Event};
     ghost use Rattle.pg_gateway.specs.declared.event.Reply.{Reply};
     ghost use Rattle.pg_turn.specs.Known.{Known};
@@ -88,19 +89,19 @@ impl<'a, R: Wait + Net + Clock, N: Named> Model for PortWorker<'a, R, N> {
     ghost view = { λ w. w.gate.gate };
 }
 
-impl<'a, R: Wait + Net + Clock, N: Named> PortWorker<'a, R, N> {
+impl<'a, R: Wait + Net + Clock, N: Named, T: CallRecords> PortWorker<'a, R, N, T> {
     /// A worker without ports.
     pub fn new(
         rt: &'a R,
         alloc: Global,
-        gate: SharedGate<'a, R, N>,
+        gate: WorkerGate<'a, R, N, T>,
         waiting: Poller,
         mailbox: &'a Mailbox<PortOrder>,
         sources: &'a [Mailbox<SourceOrder>],
         journal: &'a Journal,
         collector: &'a StatusCollector,
         now: Instant,
-    ) -> PortWorker<'a, R, N>
+    ) -> PortWorker<'a, R, N, T>
         ensures seat { result ≡ gate.entry }
     {
         PortWorker {
@@ -145,7 +146,7 @@ impl<'a, R: Wait + Net + Clock, N: Named> PortWorker<'a, R, N> {
     }
 
     /// Its gate. All its sockets are closed.
-    pub fn into_gate(self) -> SharedGate<'a, R, N>
+    pub fn into_gate(self) -> WorkerGate<'a, R, N, T>
         // With its own seat.
         ensures seat { result ≡ self.entry }
     {
@@ -484,9 +485,10 @@ impl<'a, R: Wait + Net + Clock, N: Named> PortWorker<'a, R, N> {
     }
 }
 
-impl<R: Wait + Net + Clock, N: Named> Work for PortWorker<'_, R, N> {
+impl<R: Wait + Net + Clock, N: Named, T: CallRecords> Work for PortWorker<'_, R, N, T> {
     fn turn(&mut self) -> bool {
         self.queue.wait(self.rt, &mut self.waiting, self.journal);
+        self.gate.gate.begin_round();
         if self.waiting.is_woken() {
             self.pass();
         }
@@ -499,6 +501,7 @@ impl<R: Wait + Net + Clock, N: Named> Work for PortWorker<'_, R, N> {
             self.do_due();
         }
         self.serve_ready();
+        self.gate.gate.end_round();
         true
     }
 }

@@ -12,6 +12,8 @@ pub enum Bound {
     Status,
     /// The control socket.
     Control,
+    /// The folder for recordings.
+    Record,
 }
 
 /// A setup file that can't be read, a line: `FILE: can't be read: WHY`.
@@ -54,5 +56,6 @@ fn place(alloc: Global, bound: Bound, address: Option<SocketAddr>) -> Result<Str
         (Bound::Status, Some(address)) => format!(in alloc; "status: {address}"),
         (Bound::Status, None) => String::from_str(alloc, "status"),
         (Bound::Control, _) => String::from_str(alloc, "control"),
+        (Bound::Record, _) => String::from_str(alloc, "record"),
     }
 }

@@ -180,9 +180,11 @@ subscriber = [{ id = 1, ring = 64 }, { port = 4800, id = 2, ring = 64 }]
 control = \"c\"
 pmu = [{ id = 7 }]
 status = \"127.0.0.1:9100\"
+record = \"/r\"
 =>
 status 4
 control 2
+record 5
 2 1
 1 0
 3 0
@@ -250,6 +252,7 @@ fn lines_of_keys(rt: HostRuntime) {
             let by = match key {
                 "status" => BoundBy::Status,
                 "control" => BoundBy::Control,
+                "record" => BoundBy::Record,
                 _ => {
                     let number = key.parse::<u16>().ok().expect(&rt, "a number");
                     BoundBy::Port(SubId::new(number).expect(&rt, "a subscriber"))

@@ -150,7 +150,13 @@ const BARE_ROWS: &str = r#"# log = "info" => log = "info" ==>
 # control => control ==> restart Control;
 # status => status ==> restart Status;
 # status => status | # control => control ==> restart Control; restart Status;
-# status => status | # control => control | tick_ms = 10 => tick_ms = 20 | # log = "info" => log = "debug" ==> restart TickMs; restart Control; restart Status;"#;
+# status => status | # control => control | tick_ms = 10 => tick_ms = 20 | # log = "info" => log = "debug" ==> restart TickMs; restart Control; restart Status;
+# log = "info" => record = "/r" ==> restart Record;
+# log = "info" => record_mb = 4000 ==>
+# log = "info" => record_mb = 4001 ==> restart RecordMb;
+# log = "info" => record_hours = 168 ==>
+# log = "info" => record_hours = 24 ==> restart RecordHours;
+# log = "info" => record = "/r" | # control => record_mb = 20 # | # status => record_hours = 1 # ==> restart Record; restart RecordMb; restart RecordHours;"#;
 
 /// A source that is connected to: its addresses, and how it is watched.
 fn dial_told(rt: &impl Abort, alloc: Global, source: &SourceSetup) -> String {

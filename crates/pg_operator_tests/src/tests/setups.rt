@@ -327,6 +327,22 @@ control="aaaaaaaaaaaaaaaaaaaaaaaaaaaaaaaaaaaaaaaaaaaaaaaaaaaaaaaaaaaaaaaaaaaaaaa
 control="éééééééééééééééééééééééééééééééééééééééééééééééééééééa" => Info Some("éééééééééééééééééééééééééééééééééééééééééééééééééééééa") None
 control="éééééééééééééééééééééééééééééééééééééééééééééééééééééé" => BadSetup"#;
 
+/// Keys of the file itself, with the folder for recordings, and how much of them is kept, for how long.
+const RECORDING: &str = r#" => None 4000 168
+record="/var/lib/pdcgw" => Some("/var/lib/pdcgw") 4000 168
+record="r";record_mb=16;record_hours=1 => Some("r") 16 1
+record="r";record_mb=10000000;record_hours=100000 => Some("r") 10000000 100000
+record_mb=100 => None 100 168
+record="" => BadSetup
+record="a\u0000b" => BadSetup
+record=true => BadSetup
+record_mb=15 => BadSetup
+record_mb=10000001 => BadSetup
+record_mb="100" => BadSetup
+record_hours=0 => BadSetup
+record_hours=100001 => BadSetup
+records="r" => BadSetup"#;
+
 /// What is said of a setup.
 #[derive(Clone, Copy)]
 enum Part {
@@ -334,6 +350,7 @@ enum Part {
     Sources,
     Ports,
     General,
+    Recording,
 }
 
 /// The edits, the addresses of sources, the ports and the numbers.
@@ -392,6 +409,10 @@ fn read_as(rt: &impl Abort, alloc: Global, file: &str, part: Part) -> String {
                 rt, "memory",
             )
         }
+        Part::Recording => {
+            let (folder, mb, hours) = (&setup.record_folder, setup.record_mb, setup.record_hours);
+            format!(in alloc; "{folder:?} {mb} {hours}").expect(rt, "memory")
+        }
     }
 }
 
@@ -407,6 +428,7 @@ fn setup_files(rt: HostRuntime) {
         (Part::Sources, source, SOURCES, end),
         (Part::Ports, port, PORTS, ""),
         (Part::General, "", GENERAL, both),
+        (Part::Recording, "", RECORDING, both),
     ] {
         for row in rows.split('\n') {
             let (keys, _) = row.split_once(" => ").expect(&rt, "a row");

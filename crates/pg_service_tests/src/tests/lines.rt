@@ -65,6 +65,7 @@ fn unanswered<R: Net + Abort + Wait + Clock>(rt: &R, alloc: Global, is_over: boo
         directory: &boxes.directory,
         admin: None,
         reloads: None,
+        recorder: None,
         stop: &stop,
     };
     let mut gate = MeteredGate::new(Gateway::new(alloc).expect(rt, "memory"));

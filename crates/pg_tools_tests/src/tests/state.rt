@@ -104,6 +104,7 @@ fn texts_in_json(rt: HostRuntime) {
         subscribers: Vec::new(alloc),
         streams: Vec::new(alloc),
         unanswered: 0,
+        recording: None,
     };
     let odd = source(&rt, alloc, "a\"b\\c\nd\u{1}é</script>");
     shown.sources.push(odd).expect(&rt, "memory");

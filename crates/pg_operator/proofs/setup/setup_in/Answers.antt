@@ -18,5 +18,6 @@ returns-clause-ok c =
     let numbers : c.in_ok-pmus.pmus.items ≡ map (λ p. p.key) pmus = search rules in
     let name : option_map (λ s. s.now) own.name ≡ option_map (λ s. string_bytes s) c.in_ok-name.name = search rules in
     let control : option_map (λ s. s.now) own.control ≡ option_map (λ s. string_bytes s) c.in_ok-control.control = search rules in
+    let folder : option_map (λ s. s.now) own.record_folder ≡ option_map (λ s. string_bytes s) c.in_ok-record_folder.record_folder = search rules in
     rw (keys, general, listed, found, added, numbers)
-    (λ k. Some (record { pmus = map (λ p. p.key) pmus; sources = sources; subscribers = subscribers; general = record (general_of own) { control = control k; name = name k } }))
+    (λ k. Some (record { pmus = map (λ p. p.key) pmus; sources = sources; subscribers = subscribers; general = record (general_of own) { control = control k; name = name k; record_folder = folder k } }))

@@ -1,0 +1,137 @@
+//! What the calls of a worker are recorded by, if they are.
+
+use crate::exchange::Recorder;
+use crate::worker_tape::WorkerTape;
+use pg_gateway::{Event, Reply};
+use std::rt::Clock;
+use std::sync::Wait;
+
+/// What the calls of a worker are recorded by. A worker's code is made for each kind of it, so that a gateway that does not record takes no
+/// instruction for it.
+pub trait CallRecords: Sized + Drop {
+    /// Those of one more worker of this recorder.
+    fn of<R: Wait>(rt: &R, recorder: Option<&Recorder>) -> Self;
+
+    /// A round of the worker begins: what it records has this machine's time by now.
+    fn begin_round<R: Clock>(&mut self, rt: &R);
+
+    /// A round of the worker ends: what it recorded is handed over.
+    fn end_round<R: Wait>(&mut self, rt: &R);
+
+    /// Begins the record of an event that is about to be posted.
+    fn begin<R: Clock>(&mut self, rt: &R, event: &Event);
+
+    /// Ends the record of a call that has this place in the history and was answered so.
+    fn end<R: Wait>(&mut self, rt: &R, place: Option<u64>, reply: &Reply);
+
+    /// The worker ends: what it recorded is handed over.
+    fn end_all<R: Wait>(self, rt: &R);
+}
+
+/// No call is recorded.
+#[derive(Clone, Copy, Debug)]
+pub struct Unrecorded;
+
+impl CallRecords for Unrecorded {
+    fn of<R: Wait>(_: &R, _: Option<&Recorder>) -> Unrecorded {
+        Unrecorded
+    }
+
+    #[inline(always)]
+    fn begin_round<R: Clock>(&mut self, _: &R) {}
+
+    #[inline(always)]
+    fn end_round<R: Wait>(&mut self, _: &R) {}
+
+    #[inline(always)]
+    fn begin<R: Clock>(&mut self, _: &R, _: &Event) {}
+
+    #[inline(always)]
+    fn end<R: Wait>(&mut self, _: &R, _: Option<u64>, _: &Reply) {}
+
+    fn end_all<R: Wait>(self, _: &R) {}
+}
+
+/// The calls of a worker with rounds are recorded, where it has a tape, and handed over at the end of a round. Such a worker posts no edits.
+#[derive(Drop)]
+pub struct Recorded {
+    tape: Option<WorkerTape>,
+}
+
+impl CallRecords for Recorded {
+    fn of<R: Wait>(rt: &R, recorder: Option<&Recorder>) -> Recorded {
+        Recorded {
+            tape: recorder.and_then(|it| WorkerTape::new(rt, it)),
+        }
+    }
+
+    fn begin_round<R: Clock>(&mut self, rt: &R) {
+        if let Some(tape) = &mut self.tape {
+            tape.begin_round(rt);
+        }
+    }
+
+    fn end_round<R: Wait>(&mut self, rt: &R) {
+        if let Some(tape) = &mut self.tape {
+            tape.hand_over(rt);
+        }
+    }
+
+    #[inline(always)]
+    fn begin<R: Clock>(&mut self, _: &R, event: &Event) {
+        if let Some(tape) = &mut self.tape {
+            tape.begin(event);
+        }
+    }
+
+    #[inline(always)]
+    fn end<R: Wait>(&mut self, rt: &R, place: Option<u64>, reply: &Reply) {
+        if let (Some(tape), Some(place)) = (&mut self.tape, place) {
+            tape.end(rt, place, reply);
+        }
+    }
+
+    fn end_all<R: Wait>(self, rt: &R) {
+        if let Some(tape) = self.tape {
+            tape.end_all(rt);
+        }
+    }
+}
+
+/// The calls of a worker without rounds are recorded, where it has a tape, and each is handed over at once.
+#[derive(Drop)]
+pub struct RecordedAtOnce {
+    tape: Option<WorkerTape>,
+}
+
+impl CallRecords for RecordedAtOnce {
+    fn of<R: Wait>(rt: &R, recorder: Option<&Recorder>) -> RecordedAtOnce {
+        RecordedAtOnce {
+            tape: recorder.and_then(|it| WorkerTape::new(rt, it)),
+        }
+    }
+
+    fn begin_round<R: Clock>(&mut self, _: &R) {}
+
+    fn end_round<R: Wait>(&mut self, _: &R) {}
+
+    fn begin<R: Clock>(&mut self, rt: &R, event: &Event) {
+        if let Some(tape) = &mut self.tape {
+            tape.begin_round(rt);
+            tape.begin_any(event);
+        }
+    }
+
+    fn end<R: Wait>(&mut self, rt: &R, place: Option<u64>, reply: &Reply) {
+        if let (Some(tape), Some(place)) = (&mut self.tape, place) {
+            tape.end(rt, place, reply);
+            tape.hand_over(rt);
+        }
+    }
+
+    fn end_all<R: Wait>(self, rt: &R) {
+        if let Some(tape) = self.tape {
+            tape.end_all(rt);
+        }
+    }
+}

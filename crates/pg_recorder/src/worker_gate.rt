@@ -1,0 +1,110 @@
+//! The gates of a service's threads.
+
+ghost use Rattle.std.specs.Prelude.{◌≡◌, Bool, true, false, [], ◌∷◌, Some};
+ghost use Rattle.pg_gateway.specs.GatewayEvents.{GatewayEvent, gateway_event, told};
+ghost use Rattle.pg_gateway.specs.Posting.{Answers, Notes};
+ghost use Rattle.pg_shared.specs.Gates.{said_at};
+ghost use Rattle.pg_shared.specs.Onward.{GoesOn};
+ghost use Rattle.pg_shared.specs.Continuing.{goes_on_same, goes_on_more};
+ghost use Rattle.pg_shared.specs.Sharing.{history_of, PostedCall, HandsByViews, AnswersByView};
+
+use crate::call_records::CallRecords;
+use pg_gateway::{Event, Gate, Reply};
+use pg_shared::{Named, Seat, Shared, SharedGate};
+use pg_wire::Refusal;
+use std::marker::Model;
+use std::rt::Clock;
+use std::sync::Wait;
+
+/// A gate that posts at a seat of the shared gateway that N names, and records what it posts by T. Contracts see it as its seat.
+#[derive(Drop)]
+pub struct WorkerGate<'a, R: Wait, N: Named, T: CallRecords> {
+    rt: &'a R,
+    gate: SharedGate<'a, R, N>,
+    records: T,
+}
+
+impl<'a, R: Wait, N: Named, T: CallRecords> Model for WorkerGate<'a, R, N, T> {
+    ghost use Rattle.pg_gateway.specs.declared.event.Event.{Event};
+    ghost use Rattle.pg_gateway.specs.declared.event.Reply.{Reply};
+    ghost use Rattle.pg_turn.specs.Known.{Known};
+
+    ghost Value = { Known Event Reply };
+
+    ghost view = { λ g. g.gate };
+}
+
+impl<'a, R: Wait, N: Named, T: CallRecords> WorkerGate<'a, R, N, T> {
+    /// A gate to this shared gateway, with a seat at it, which records what it posts by these.
+    pub fn new(rt: &'a R, shared: &'a Shared, seat: Seat, records: T) -> WorkerGate<'a, R, N, T>
+        requires shared { shared.now ≡ N.table }
+        requires seat { seat.table ≡ N.table }
+        ensures seat { result ≡ seat }
+    {
+        WorkerGate {
+            rt,
+            gate: SharedGate::new(rt, shared, seat),
+            records,
+        }
+    }
+
+    /// A round of its worker begins: what it records has this machine's time by now.
+    #[inline(always)]
+    pub fn begin_round(&mut self)
+    where
+        R: Clock,
+        ensures { self.new ≡ self.old }
+    {
+        self.records.begin_round(self.rt);
+    }
+
+    /// A round of its worker ends: what it recorded is handed over.
+    #[inline(always)]
+    pub fn end_round(&mut self)
+        ensures { self.new ≡ self.old }
+    {
+        self.records.end_round(self.rt);
+    }
+
+    /// Gives its seat back, which is one of the gateway that N names. What it recorded is handed over.
+    pub fn into_seat(self) -> Seat
+        ensures seat { result ≡ self.entry }
+        ensures table { result.table ≡ N.table }
+    {
+        let WorkerGate { rt, gate, records } = self;
+        records.end_all(rt);
+        gate.into_seat()
+    }
+}
+
+impl<'a, R: Wait + Clock, N: Named, T: CallRecords> Gate for WorkerGate<'a, R, N, T> {
+    ghost posts = { λ g. Some (said_at g.seen g.own) };
+
+    ghost goes_on = { λ g h. GoesOn g h };
+
+    ghost frames = { λ _ _ e. absurd (cc e) };
+
+    ghost stays = { λ g. goes_on_same g };
+
+    ghost joins = { λ g h k. goes_on_more g h k };
+
+    /// Posts at its seat, and records that. It waits by parking, and what is promised holds if it returns.
+    #[inline(always)]
+    fn post(&mut self, event: Event) -> Reply
+        // All that `Shared::post` promises of the seat.
+        ensures seat { PostedCall self.old event result self.new }
+        ensures handed { HandsByViews (history_of self.new.seen) }
+        ensures own { AnswersByView (history_of self.new.seen) }
+        ensures answers { Answers event result }
+        ensures posted { Notes (Some (said_at self.old.seen self.old.own)) (Some (said_at self.new.seen self.new.own))
+            ((gateway_event event, told result) ∷ []) }
+        ensures takes { ◌≡◌ {A = GatewayEvent → Bool} (λ _. true) (λ _. true) }
+        ensures refused { true ≡ false → result ≡ Reply.Refused Refusal.FarClock }
+        ensures goes_on { GoesOn self.old self.new }
+    {
+        self.records.begin(self.rt, &event);
+        let reply = self.gate.post(event);
+        self.records.end(self.rt, self.gate.last_place(), &reply);
+        reply
+    }
+}

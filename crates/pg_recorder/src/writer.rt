@@ -1,0 +1,127 @@
+//! The thread that writes what others recorded.
+
+use crate::exchange::{Handed, Recorder};
+use crate::segments::Segments;
+use pg_log::{Detail, Entry, Journal, LogEvent, Subject};
+use pg_record::TapedCalls;
+use pg_shared::Work;
+use std::alloc::AllocError;
+use std::io::ErrorKind;
+use std::rt::Clock;
+use std::sync::Wait;
+use std::time::{Duration, SystemTime};
+use std::{io, thread};
+
+/// How long is waited in one turn, in milliseconds. What a thread has handed over is written so late at most.
+const WAIT_MS: u64 = 100;
+
+/// A worker that writes what the threads of a recorder hand over. No other worker waits for it.
+#[derive(Drop)]
+pub struct RecordWriter<'a, R: Wait + Clock> {
+    rt: &'a R,
+    recorder: &'a Recorder,
+    journal: &'a Journal,
+    segments: Segments<'a>,
+    // Room that is exchanged for calls, and the bytes of their records.
+    room: TapedCalls,
+    records: Vec<u8>,
+    // How many records had found no room when it was reported last.
+    missed: u64,
+}
+
+impl<'a, R: Wait + Clock> RecordWriter<'a, R> {
+    /// A worker that writes to these segments.
+    pub fn new(
+        rt: &'a R,
+        recorder: &'a Recorder,
+        journal: &'a Journal,
+        segments: Segments<'a>,
+    ) -> Result<RecordWriter<'a, R>, AllocError> {
+        Ok(RecordWriter {
+            rt,
+            recorder,
+            journal,
+            segments,
+            room: recorder.room()?,
+            records: Vec::new(recorder.alloc()),
+            missed: 0,
+        })
+    }
+
+    /// Writes what was handed over, also that of threads that have ended.
+    pub fn write_all(&mut self) {
+        let recorder = self.recorder;
+        for (worker, slot) in recorder.slots().iter().enumerate() {
+            let Ok(number) = u16::try_from(worker) else {
+                return;
+            };
+            if let Some(handed) = slot.take(self.rt, &mut self.room) {
+                self.write(number, &handed);
+                self.room = handed.calls;
+            }
+            if let Some(handed) = slot.take_last(self.rt) {
+                self.write(number, &handed);
+            }
+            // (Where the disk is slow the next slot's turn is late.)
+            self.report_missed();
+        }
+    }
+
+    /// Writes these records.
+    fn write(&mut self, worker: u16, handed: &Handed) {
+        let now = now_ms(self.rt).unwrap_or(handed.start);
+        self.records.clear();
+        let written = match handed.calls.write_to(&mut self.records) {
+            Ok(()) => self
+                .segments
+                .write(worker, handed.start, &self.records, now),
+            Err(_) => Err(io::Error::from(ErrorKind::OutOfMemory)),
+        };
+        match written {
+            Ok(0) => self.recorder.count_unwritten(self.records.len()),
+            Ok(size) => self.recorder.count_written(size),
+            Err(error) => {
+                self.recorder.count_unwritten(self.records.len());
+                self.report(&error);
+            }
+        }
+    }
+
+    /// Reports that records can't be written.
+    fn report(&self, error: &io::Error) {
+        let detail = Detail::of_error(error);
+        let entry = Entry::new(LogEvent::NotRecorded, Subject::Nobody, detail);
+        self.journal.log(self.rt, entry);
+    }
+
+    /// Reports how many records found no room since it was reported last.
+    fn report_missed(&mut self) {
+        let missed = self.recorder.missed();
+        let more = missed.saturating_sub(self.missed);
+        if more > 0 {
+            self.missed = missed;
+            let mut entry = Entry::new(LogEvent::RecordsMissed, Subject::Nobody, Detail::Nothing);
+            entry.times = more;
+            self.journal.log(self.rt, entry);
+        }
+    }
+}
+
+/// This machine's clock: milliseconds since 1970-01-01 00:00 UTC. `None` where it can't be read.
+pub(crate) fn now_ms<R: Clock>(rt: &R) -> Option<u64> {
+    ms_of(SystemTime::now(rt).ok()?)
+}
+
+/// A time as milliseconds since 1970-01-01 00:00 UTC. `None` before that.
+pub(crate) fn ms_of(time: SystemTime) -> Option<u64> {
+    let since = time.duration_since(SystemTime::UNIX_EPOCH).ok()?;
+    u64::try_from(since.as_millis()).ok()
+}
+
+impl<R: Wait + Clock> Work for RecordWriter<'_, R> {
+    fn turn(&mut self) -> bool {
+        thread::sleep(self.rt, Duration::from_millis(WAIT_MS));
+        self.write_all();
+        true
+    }
+}

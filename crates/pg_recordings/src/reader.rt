@@ -1,0 +1,225 @@
+//! The records of files, in the order of their places.
+
+use pg_record::{BLOCK_HEAD, BlockHead, Merge, Merged, Timed, read_block_head, sum};
+use std::alloc::{AllocError, Global};
+use std::fs::{File, OpenOptions};
+use std::io;
+use std::io::{BufReader, ErrorKind, Read};
+use thiserror::Error;
+
+/// Why files can't be read.
+#[derive(Debug, Drop, Error)]
+pub enum Fault {
+    /// There was no memory.
+    #[error("there is no memory")]
+    NoMemory,
+    /// A file can't be read.
+    #[error("a file can't be read")]
+    NotRead(usize, ErrorKind),
+    /// Standard output can't be written.
+    #[error("the output can't be written")]
+    NotWritten,
+}
+
+impl From<AllocError> for Fault {
+    fn from(_: AllocError) -> Fault {
+        Fault::NoMemory
+    }
+}
+
+/// What is not as it was written in a file.
+#[derive(Clone, Copy, Debug, PartialEq, Eq)]
+pub enum Notice {
+    /// The file ends within a block, of which so many bytes are there.
+    Torn(u64),
+    /// The sum of a block at this byte is not that of its records; its records are left out.
+    Changed(u64),
+    /// At this byte of the file no block begins; what follows in the file is left out.
+    Other(u64),
+}
+
+/// What comes next.
+#[derive(Drop)]
+pub enum Step {
+    /// The record of the next place.
+    Record(Timed),
+    /// The places from the first one on, up to the second one and without it, have no record.
+    Gap(u64, u64),
+    /// Something is not as it was written in the file with this number.
+    Notice(usize, Notice),
+    /// All files are read.
+    End,
+}
+
+/// What is read of a file next.
+#[derive(Drop)]
+enum Piece {
+    Block(BlockHead, Vec<u8>),
+    Notice(Notice),
+    End,
+}
+
+/// A file that is read.
+#[derive(Drop)]
+struct Open {
+    file: BufReader<File>,
+    // How many bytes were read.
+    at: u64,
+}
+
+/// Reads recordings, one file after another.
+#[derive(Drop)]
+pub struct RecordReader<'a> {
+    files: &'a HostRuntime,
+    alloc: Global,
+    paths: Vec<String>,
+    next: usize,
+    open: Option<Open>,
+    merge: Merge,
+}
+
+impl<'a> RecordReader<'a> {
+    /// A reader of these files, in the order in which they were written.
+    pub fn new(files: &'a HostRuntime, alloc: Global, paths: Vec<String>) -> RecordReader<'a> {
+        RecordReader {
+            files,
+            alloc,
+            paths,
+            next: 0,
+            open: None,
+            merge: Merge::new(alloc, 0),
+        }
+    }
+
+    /// The files.
+    pub fn paths(&self) -> &[String] {
+        &self.paths
+    }
+
+    /// How many records were of a place that had come before.
+    pub fn repeated(&self) -> u64 {
+        self.merge.repeated()
+    }
+
+    /// What comes next.
+    ///
+    /// # Errors
+    ///
+    /// There is no memory, or a file can't be read.
+    pub fn next(&mut self) -> Result<Step, Fault> {
+        for _ in 0..u64::MAX {
+            let is_ended = self.open.is_none() && self.next >= self.paths.len();
+            match self.merge.next(is_ended) {
+                Merged::Record(timed) => return Ok(Step::Record(timed)),
+                Merged::Gap(from, to) => return Ok(Step::Gap(from, to)),
+                Merged::More if is_ended => return Ok(Step::End),
+                Merged::More => {}
+            }
+            if let Some(notice) = self.read()? {
+                let file = self.next.saturating_sub(1);
+                return Ok(Step::Notice(file, notice));
+            }
+        }
+        Ok(Step::End)
+    }
+
+    /// Reads a block, or opens the next file.
+    fn read(&mut self) -> Result<Option<Notice>, Fault> {
+        let Some(open) = &mut self.open else {
+            self.open_next()?;
+            return Ok(None);
+        };
+        let at = self.next.saturating_sub(1);
+        match open.piece(self.alloc) {
+            Ok(Piece::Block(head, records)) => {
+                self.merge.add(&head, &records)?;
+                Ok(None)
+            }
+            Ok(Piece::Notice(notice)) => {
+                if !matches!(notice, Notice::Changed(_)) {
+                    self.open = None;
+                }
+                Ok(Some(notice))
+            }
+            Ok(Piece::End) => {
+                self.open = None;
+                Ok(None)
+            }
+            Err(error) => Err(fault_of(at, error)),
+        }
+    }
+
+    /// Opens the next file.
+    fn open_next(&mut self) -> Result<(), Fault> {
+        let Some(path) = self.paths.get(self.next) else {
+            return Ok(());
+        };
+        let at = self.next;
+        self.next = at + 1;
+        let mut options = OpenOptions::new();
+        options.read(true);
+        let opened = match options.open(self.files, path.as_str()) {
+            Ok(file) => BufReader::new(self.alloc, file),
+            Err(error) => return Err(fault_of(at, error)),
+        };
+        match opened {
+            Ok(file) => {
+                self.open = Some(Open { file, at: 0 });
+                Ok(())
+            }
+            Err(error) => Err(fault_of(at, error)),
+        }
+    }
+}
+
+impl Open {
+    /// The next block.
+    fn piece(&mut self, alloc: Global) -> io::Result<Piece> {
+        let start = self.at;
+        let mut head = [0; BLOCK_HEAD];
+        let size = self.fill(&mut head)?;
+        if size == 0 {
+            return Ok(Piece::End);
+        }
+        if size < BLOCK_HEAD {
+            return Ok(Piece::Notice(Notice::Torn(size as u64)));
+        }
+        let Some((head, _)) = read_block_head(&head) else {
+            return Ok(Piece::Notice(Notice::Other(start)));
+        };
+        let mut records = vec![in alloc; 0; head.size as usize]?;
+        let size = self.fill(&mut records)?;
+        if size < records.len() {
+            return Ok(Piece::Notice(Notice::Torn((BLOCK_HEAD + size) as u64)));
+        }
+        if sum(&records) != head.sum {
+            return Ok(Piece::Notice(Notice::Changed(start)));
+        }
+        Ok(Piece::Block(head, records))
+    }
+
+    /// Reads as many bytes as there is room for, or as there are.
+    fn fill(&mut self, room: &mut [u8]) -> io::Result<usize> {
+        let mut filled = 0;
+        for _ in 0..room.len() {
+            let Some(rest) = room.get_mut(filled..) else {
+                break;
+            };
+            let size = self.file.read(rest)?;
+            if size == 0 {
+                break;
+            }
+            filled += size;
+        }
+        self.at = self.at.saturating_add(filled as u64);
+        Ok(filled)
+    }
+}
+
+/// Why the file with this number can't be read.
+fn fault_of(at: usize, error: io::Error) -> Fault {
+    match error.kind() {
+        ErrorKind::OutOfMemory => Fault::NoMemory,
+        kind => Fault::NotRead(at, kind),
+    }
+}

@@ -1,0 +1,116 @@
+//! The script that replays a recording.
+
+use crate::line::line_of;
+use crate::reader::{Fault, Notice, RecordReader, Step};
+use jiff_core::Timestamp;
+use jiff_fmt::temporal::DateTimePrinter;
+use pg_record::{RecordKind, Timed};
+use std::alloc::{AllocError, Global};
+use std::io::Write;
+
+/// A time as text: milliseconds since 1970-01-01 00:00 UTC.
+pub(crate) fn time_text(alloc: Global, at: u64) -> Result<String, AllocError> {
+    let nanos = i128::from(at).saturating_mul(1_000_000);
+    match Timestamp::from_nanosecond(nanos) {
+        Ok(time) => {
+            let text = DateTimePrinter::new()
+                .precision(Some(3))
+                .timestamp_text(time);
+            String::from_str(alloc, text.as_str())
+        }
+        Err(_) => String::from_str(alloc, "-"),
+    }
+}
+
+/// What a notice says of a file, as text.
+pub(crate) fn notice_text(alloc: Global, file: &str, notice: Notice) -> Result<String, AllocError> {
+    match notice {
+        Notice::Torn(size) => {
+            format!(in alloc;
+                "{file}: ends within a block, {size} bytes of it are there and left out"
+            )
+        }
+        Notice::Changed(at) => {
+            format!(in alloc;
+                "{file}: the block at byte {at} was changed, its records are left out"
+            )
+        }
+        Notice::Other(at) => {
+            format!(in alloc;
+                "{file}: no block begins at byte {at}, the rest of the file is left out"
+            )
+        }
+    }
+}
+
+/// Prints the script of a recording: a line for each record that is one, and comments with the place and the time of what follows, and with
+/// what is missing.
+///
+/// # Errors
+///
+/// Those of the reader; the output can't be written.
+pub fn print_script<W: Write>(
+    alloc: Global,
+    reader: &mut RecordReader<'_>,
+    out: &mut W,
+) -> Result<(), Fault> {
+    let mut shown = 0;
+    for _ in 0..u64::MAX {
+        match reader.next()? {
+            Step::Record(timed) => print_record(alloc, &timed, &mut shown, out)?,
+            Step::Gap(from, to) => {
+                let last = to.saturating_sub(1);
+                let text = format!(in alloc; "# missing: places {from} to {last}")?;
+                print_line(text.as_str(), out)?;
+            }
+            Step::Notice(file, notice) => {
+                if let Some(path) = reader.paths().get(file) {
+                    let text = notice_text(alloc, path.as_str(), notice)?;
+                    let line = format!(in alloc; "# {}", text.as_str())?;
+                    print_line(line.as_str(), out)?;
+                }
+            }
+            Step::End => break,
+        }
+    }
+    match out.flush() {
+        Ok(()) => Ok(()),
+        Err(_) => Err(Fault::NotWritten),
+    }
+}
+
+/// Prints a record. `shown` is the time that was printed last.
+fn print_record<W: Write>(
+    alloc: Global,
+    timed: &Timed,
+    shown: &mut u64,
+    out: &mut W,
+) -> Result<(), Fault> {
+    let (place, kind) = (timed.record.place, timed.record.kind);
+    if let Some(line) = line_of(alloc, &timed.record, &timed.body)? {
+        if timed.at != *shown {
+            *shown = timed.at;
+            let time = time_text(alloc, timed.at)?;
+            let text = format!(in alloc; "# {}, place {place}", time.as_str())?;
+            print_line(text.as_str(), out)?;
+        }
+        return print_line(line.as_str(), out);
+    }
+    if kind == RecordKind::Question {
+        return Ok(());
+    }
+    let text = format!(in alloc; "# no line says what was posted at place {place}")?;
+    print_line(text.as_str(), out)
+}
+
+/// Prints a line.
+pub(crate) fn print_line<W: Write>(line: &str, out: &mut W) -> Result<(), Fault> {
+    match out.write_all(line.as_bytes()) {
+        Ok(()) => {}
+        Err(_) => return Err(Fault::NotWritten),
+    }
+    match out.write_all(b"\n") {
+        Ok(()) => Ok(()),
+        Err(_) => Err(Fault::NotWritten),
+    }
+}

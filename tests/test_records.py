@@ -1,0 +1,282 @@
+"""Recordings: what the service did is in files, and their replay hands each subscriber the bytes that its socket was sent."""
+import glob
+import os
+import re
+import shutil
+import stat
+import subprocess
+import threading
+import time
+
+from c37118 import SEND_CONFIG_1, SEND_CONFIG_2, SEND_HEADER, START, STOP, command
+from peers import PassedBy, Subscriber, expect, metrics, now_soc, pmu, same, stream, subscriber, takes, until
+
+
+class Tap:
+    """A subscriber that keeps all bytes that it is sent, over one connection after another."""
+
+    def __init__(self, bench, port):
+        self.bench, self.port, self.got, self.link = bench, port, bytearray(), None
+
+    def connect(self, *streams):
+        self.link = Subscriber(self.port)
+        self.bench.made.append(self.link)
+        self.thread = threading.Thread(target=self.gather, args=(self.link.socket,), daemon=True)
+        self.thread.start()
+        for it in streams:
+            self.link.send(command(it, SEND_CONFIG_2) + command(it, START))
+
+    def gather(self, made):
+        made.settimeout(None)
+        while True:
+            try:
+                piece = made.recv(1 << 16)
+            except OSError:
+                return
+            if not piece:
+                return
+            self.got += piece
+
+    def comes(self, size):
+        """Waits until so many bytes more came."""
+        wanted = len(self.got) + size
+        until(lambda: len(self.got) >= wanted, f"{size} bytes for port {self.port}")
+
+    def stop(self, *streams):
+        """Ends its streams and then its connection, once nothing is on the way any more."""
+        for it in streams:
+            self.link.send(command(it, STOP))
+        size = -1
+        while size != len(self.got):
+            size = len(self.got)
+            time.sleep(0.3)
+        self.link.socket.shutdown(2)
+        self.thread.join(5)
+
+
+def folder_of(bench, name="records"):
+    path = f"{bench.folder}/{name}"
+    os.mkdir(path)
+    return path
+
+
+def files_in(folder):
+    return sorted(glob.glob(f"{folder}/*.pdcrec"))
+
+
+def tool(bench, word, files, data=None):
+    """The status, the output and the errors of a subcommand with these files."""
+    done = subprocess.run([bench.program, word, *files], input=data, stdin=None if data is not None else subprocess.DEVNULL,
+                          stdout=subprocess.PIPE, stderr=subprocess.PIPE, timeout=60)
+    return done.returncode, done.stdout.decode(), done.stderr.decode()
+
+
+def verified(bench, folder):
+    """The verdict of `verify` by its names; it is right."""
+    status, out, errors = tool(bench, "verify", files_in(folder))
+    found = verdict_in(out)
+    same((status, errors, out.count("\n")), (0, "", 1), f"`verify` of {folder}: {out}")
+    return found
+
+
+def verdict_in(out):
+    last = out.splitlines()[-1].replace("answers differing", "answers").split()
+    return dict(zip(last[::2], map(int, last[1::2])))
+
+
+def handed_by_replay(bench, folder):
+    """What `replay` of the script hands to each subscriber."""
+    status, script, errors = tool(bench, "script", files_in(folder))
+    same((status, errors), (0, ""), "`script`")
+    lines = [it for it in script.splitlines() if it and not it.startswith("#")]
+    status, out, errors = tool(bench, "replay", [], script.encode())
+    same((status, errors), (0, ""), "`replay`")
+    drains, handed = [int(it.split()[1]) for it in lines if it.startswith("drain ")], {}
+    answers = [it.split() for it in out.splitlines() if it.startswith("drained ")]
+    same(len(answers), len(drains), "drains with an answer")
+    for number, words in zip(drains, answers):
+        handed[number] = handed.get(number, b"") + (b"" if words[4] == "-" else bytes.fromhex(words[4]))
+    return handed
+
+
+def service(bench, folder, more=""):
+    """Three subscribers of two live sources, served by two threads of each kind: the text of the setup, and the taps."""
+    seven, nine = bench.live(7), bench.live(9, pmus=[91, 92])
+    taps = {number: Tap(bench, bench.port()) for number in (1, 2, 3)}
+    text = f'record = "{folder}"\ningest = 2\nserve = 2\n{more}' + "".join([
+        pmu(7, ahead_ms=None, connect=seven.address), pmu(91, ahead_ms=None, source=9, connect=nine.address), pmu(92, source=9, ahead_ms=None),
+        subscriber(1, taps[1].port, grants=[7, "9/91"]), stream(101, [7, "9/91"], wait=5),
+        subscriber(2, taps[2].port, grants=["9/91", "9/92"]), stream(201, ["9/91", "9/92"]), stream(202, ["9/92"], header="PMU 92"),
+        subscriber(3, taps[3].port, ring=8, grants=[7]), stream(301, [7])])
+    return text, taps
+
+
+@takes(8)
+def test_a_recording_replays_alike(bench):
+    """While PMUs are granted and revoked, a stream is added by a reload, subscribers connect again and one floods with commands: what `replay`
+    of the script hands to each subscriber is what its socket was sent, byte for byte."""
+    folder = folder_of(bench)
+    text, taps = service(bench, folder)
+    gateway = bench.gateway(text).serves(1, 2, 3)
+    taps[1].connect(101)
+    taps[2].connect(201, 202)
+    taps[3].connect(301)
+    for tap in taps.values():
+        tap.comes(2000)
+    gateway.does("revoke 1 9/91", "done 0 0")
+    taps[1].comes(1000)
+    gateway.does("grant 1 9/91", "done 0 0")
+    taps[2].link.send(b"".join(command(202, word) for word in (SEND_HEADER, SEND_CONFIG_1, SEND_CONFIG_2, 9, 6, START) * 30))
+    taps[2].link.send(b"\xAA\x41" + bytes(30))
+    taps[3].stop(301)
+    taps[3].connect(301)
+    taps[3].comes(2000)
+    text = text.replace(stream(301, [7]), stream(301, [7]) + stream(302, [7], rate=10, header="new"))
+    gateway.reload(text, "reloaded: 1 edit, 0 changes of connections and ports")
+    taps[3].link.send(command(302, SEND_CONFIG_2) + command(302, START))
+    taps[3].comes(2000)
+    gateway.status()
+    taps[1].stop(101)
+    taps[3].stop(301, 302)
+    if taps[2].link.is_closed(0.1):
+        taps[2].connect(201, 202)
+        taps[2].comes(2000)
+    taps[2].stop(201, 202)
+    gateway.quit()
+    found = verified(bench, folder)
+    expect(found["drains"] > 100 and found["records"] > 500, f"{found}")
+    handed = handed_by_replay(bench, folder)
+    for number, tap in taps.items():
+        same(handed[number].hex(), bytes(tap.got).hex(), f"the bytes of subscriber {number}")
+    for path in files_in(folder):
+        same(stat.S_IMODE(os.stat(path).st_mode), 0o600, f"the mode of {path}")
+
+
+def short_recording(bench):
+    """A recording of a second: its folder."""
+    folder = folder_of(bench)
+    text, taps = service(bench, folder)
+    gateway = bench.gateway(text).serves(1, 2, 3)
+    taps[1].connect(101)
+    taps[1].comes(2000)
+    taps[1].stop(101)
+    gateway.quit()
+    return folder
+
+
+@takes(4)
+def test_what_was_changed_is_found(bench):
+    """A file without its last bytes, one with a changed byte, and one that is no recording: `verify` says what is missing, and ends with 1."""
+    folder = short_recording(bench)
+    verified(bench, folder)
+    path = files_in(folder)[-1]
+    with open(path, "rb") as f:
+        whole = f.read()
+    for changed, pattern in [(whole[:-5], r"ends within a block, \d+ bytes of it are there and left out"),
+                             (whole[:100] + bytes([whole[100] ^ 1]) + whole[101:], r"the block at byte 0 was changed, its records are left out"),
+                             (b"x" + whole[1:], r"no block begins at byte 0, the rest of the file is left out")]:
+        with open(path, "wb") as f:
+            f.write(changed)
+        status, out, _ = tool(bench, "verify", files_in(folder))
+        same(status, 1, f"`verify` of changed bytes: {out}")
+        expect(re.search(re.escape(path) + ": " + pattern, out), f"{pattern} in {out}")
+    with open(path, "wb") as f:
+        f.write(whole)
+    verified(bench, folder)
+    # Without a file what it had is missing; its script says so.
+    status, out, errors = tool(bench, "verify", [path + ".gone"])
+    same((status, out, errors), (1, "", f"pdcgw: {path}.gone: can't be read: there is no such file\n"), "`verify` of a file that is not there")
+
+
+@takes(4)
+def test_a_killed_service_leaves_what_was_written(bench):
+    """The program is killed: all but the last second of what it did is there, and its replay is the same."""
+    folder = folder_of(bench)
+    text, taps = service(bench, folder)
+    gateway = bench.gateway(text).serves(1, 2, 3)
+    taps[1].connect(101)
+    taps[1].comes(6000)
+    gateway.process.kill()
+    gateway.process.wait()
+    status, out, _ = tool(bench, "verify", files_in(folder))
+    found = verdict_in(out)
+    same((found["differing"], found["answers"], found["unspelled"]), (0, 0, 0) if not found["missing"] else (found["differing"], found["answers"], 0), out)
+    expect(found["records"] > 100, out)
+    missing = [int(it.split()[2]) for it in out.splitlines() if it.startswith("missing: ")]
+    expect(all(it > found["records"] - 400 for it in missing), f"what is missing is at the end: {out}")
+
+
+def recorded(page):
+    """What the metrics say of the recording: bytes written and not written, calls missed and unspelled."""
+    found = metrics(page)
+    return [int(found[f"pdcgw_recording_{it}_total"]) for it in ("written_bytes", "unwritten_bytes", "missed_calls", "unspelled_calls")]
+
+
+def slowed(bench, gateway, path, seconds):
+    """A process that holds each write of the gateway to this file up for so long."""
+    made = subprocess.Popen(["strace", "-f", "-q", "-p", str(gateway.process.pid), "-P", path, "-e", "trace=write",
+                             "-e", f"inject=write:delay_enter={seconds * 1_000_000}", "-o", "/dev/null"],
+                            stdin=subprocess.DEVNULL, stdout=subprocess.DEVNULL, stderr=subprocess.PIPE)
+    time.sleep(1)
+    if made.poll() is not None:
+        raise PassedBy(f"strace can't trace a process here: {made.stderr.read().decode().strip()}")
+    return made
+
+
+@takes(20)
+def test_a_slow_disk_holds_nothing_up(bench):
+    """Each write to the disk takes four seconds, and a source sends 150,000 data frames: an ERROR and the metrics say how many calls are missing,
+    so does `verify`, and meanwhile each subscriber gets each frame."""
+    if not shutil.which("strace"):
+        raise PassedBy("there is no strace")
+    folder, page, fast = folder_of(bench), bench.port(), bench.source(8)
+    text, taps = service(bench, folder, more=f'status = "127.0.0.1:{page}"\n')
+    gateway = bench.gateway(text + pmu(8, ahead_ms=None, connect=fast.address)).serves(1, 2, 3)
+    link = fast.come()
+    reader = bench.reader(taps[1].port, [101])
+    until(lambda: files_in(folder) and recorded(page)[0] > 10_000, "a recording")
+    slow = slowed(bench, gateway, files_in(folder)[0], 4)
+    first = now_soc() * fast.rate
+    frames = b"".join(fast.data(first + at, at) for at in range(fast.rate))
+    link.socket.settimeout(60)
+    for _ in range(150_000 // fast.rate):
+        link.send(frames)
+    begun = reader.count("right", 101)
+    until(lambda: reader.count("right", 101) > begun + 60, "frames while the disk is slow")
+    gateway.logs(r"ERROR \d+ records are missing in the recording: the disk is too slow.*", seconds=30)
+    slow.terminate()
+    slow.wait()
+    reader.is_whole(101, 60)
+    until(lambda: recorded(page)[2] > 0, "missed calls in the metrics", seconds=10)
+    gateway.quit()
+    status, out, _ = tool(bench, "verify", files_in(folder))
+    same(status, 1, f"`verify`: {out}")
+    expect("missing: places " in out, out)
+
+
+@takes(6)
+def test_a_full_disk_holds_nothing_up(bench):
+    """The disk takes no more: the log has an ERROR, each subscriber gets each frame, and what is missing shows."""
+    folder, page = folder_of(bench), bench.port()
+    text, taps = service(bench, folder, more=f'status = "127.0.0.1:{page}"\n')
+    words = ["sh", "-c", 'trap "" XFSZ; exec "$@"', "sh", "prlimit", "--fsize=30000"]
+    gateway = bench.gateway(text, words=words).serves(1, 2, 3)
+    reader = bench.reader(taps[1].port, [101])
+    gateway.logs(r"ERROR the recording can't be written: .*; what happens meanwhile is missing in it", seconds=20)
+    begun = reader.count("right", 101)
+    until(lambda: reader.count("right", 101) > begun + 60, "frames while nothing is recorded")
+    reader.is_whole(101, 60)
+    written, unwritten, missed, unspelled = until(lambda: recorded(page)[1] and recorded(page), "bytes that were not written in the metrics")
+    same((0 < written <= 30_000, missed, unspelled), (True, 0, 0), f"metrics of a full disk, with {unwritten} bytes that were not written")
+    gateway.quit()
+    status, out, _ = tool(bench, "verify", files_in(folder))
+    same(status, 1, f"`verify`: {out}")
+    expect("missing: places " in out, out)
+
+
+def test_a_folder_that_is_not_there(bench):
+    """Without its folder the program does not start, and says which line of the setup is wrong."""
+    text, _ = service(bench, f"{bench.folder}/none")
+    gateway = bench.gateway(text)
+    same(gateway.ended(), 1)
+    same([re.sub(r"^.*/", "", it) for it in gateway.log.lines[-2:]], ["setup.toml:1: record: there is no such folder", "pdcgw: 39 ReadFault"])
