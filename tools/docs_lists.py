@@ -317,10 +317,10 @@ def links():
 
 def options():
     """The options of each word of the program."""
-    texts = {name: source("pdcgw", name) for name in ("main", "tools", "ctl", "recordings")}
+    texts = {name: source("pdcgw", name) for name in ("main", "tools", "ctl", "recordings", "explain")}
     words = {word: set() for word in re.findall(r'Command::new\(alloc, "(\w+)"\)', "".join(texts.values()))}
     of = {word: between(texts["tools"], f"fn {word}_words", "\n}") for word in ("simulate", "watch", "bridge", "demo")}
-    of["ctl"] = between(texts["ctl"], "fn words", "\n}")
+    of |= {word: between(texts[word], "fn words", "\n}") for word in ("ctl", "explain")}
     for word, text in of.items():
         words[word] = set(re.findall(r'long\("([\w-]+)"\)', text)) | set(re.findall(r'(?:option|valued|flag)\(\s*alloc,\s*"([\w-]+)"', text))
         # (an option of several words has a function of its name)

@@ -36,6 +36,29 @@ Exit status:
   0  nothing is missing, and nothing differs
   1  else, or the files can't be read";
 
+/// Of `explain`.
+pub const EXPLAIN: &str = "\
+Replays a recording from the start of the service on, and prints a line for each data frame of the subscriber whose time, that of
+its SOC and FRACSEC, lies from --from on and before --to:
+
+  TIME stream N CAUSE left +MS ms handed +MS ms gap N: PMU +MS ms, PMU filler, late +MS ms, ..
+
+MS counts from TIME. A frame leaves for the queue `complete`, with the blocks of all members that it has a place for; `waited`, when
+`wait` was over; `pushed`, when more than `window` frames were open; or `changed`, before a change of the members. It is `handed` out
+behind a gap of so many frames of the stream; or `dropped`, since the queue was full; `cleared`, when the connection ended; `waiting`
+at the end of the recording. A member's block came after so many ms; or in its place is a filler, since the block came `late`, was
+`refused` for a reason, or `nothing` came that the gateway could read; or it is `absent`, not granted or not announced.
+
+The last line has the number of frames by their cause, of fillers, and of frames that were not handed out; `unseen` are those that
+were dropped when they left, `missing` places without a record, `unspelled` calls that no line of a script says.
+
+  pdcgw explain RECORDS/*.pdcrec --subscriber 3 --stream 101 --from 2026-11-28T14:03:17Z --to 2026-11-28T14:03:18Z
+
+Exit status:
+  0  the recording is whole as far as it was read
+  1  it is not, it has no stream of the subscriber, or a file can't be read or written
+  2  unknown words";
+
 /// Of `replay`.
 pub const REPLAY: &str = "\
 Reads a script from standard input and answers each line on standard output, in order. Words are separated by spaces; empty

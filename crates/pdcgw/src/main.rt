@@ -2,6 +2,7 @@
 #![tactic(auto)]
 
 mod ctl;
+mod explain;
 mod help;
 mod recordings;
 mod setup;
@@ -72,6 +73,7 @@ fn program<'a>(alloc: Global, help: &'a str) -> Result<Command<'a>, AllocError> 
         .subcommand(ctl::words(alloc)?)?
         .subcommand(recordings::script_words(alloc)?)?
         .subcommand(recordings::verify_words(alloc)?)?
+        .subcommand(explain::words(alloc)?)?
         .subcommand(tools::simulate_words(alloc)?)?
         .subcommand(tools::watch_words(alloc)?)?
         .subcommand(tools::bridge_words(alloc)?)?
@@ -125,6 +127,7 @@ fn do_words<R: Files + Env + Runtime + Alloc<A = Global>>(
         "ctl" => return ctl::run(rt, files, words),
         "script" => return recordings::script(rt, files, words),
         "verify" => return recordings::verify_files(rt, files, words),
+        "explain" => return explain::run(rt, files, words),
         "simulate" => return tools::simulate(rt, words),
         "watch" => return tools::watch(rt, words, is_terminal),
         "bridge" => return tools::bridge(rt, words),

@@ -10,7 +10,7 @@ use std::io;
 use std::io::BufWriter;
 
 /// The files of a recording.
-fn files_word<'a>(alloc: Global) -> Arg<'a> {
+pub fn files_word<'a>(alloc: Global) -> Arg<'a> {
     Arg::new(alloc, "file")
         .value_name("FILE")
         .help("A file of the folder `record`, and those behind it in their order")
@@ -35,13 +35,17 @@ pub fn verify_words<'a>(alloc: Global) -> Result<Command<'a>, AllocError> {
         .arg(files_word(alloc))
 }
 
-/// The files that the words name.
-fn files_in(alloc: Global, words: &ArgMatches<'_>) -> Result<Vec<String>, AllocError> {
-    let mut files = Vec::new(alloc);
-    for file in words.get_strs("file").into_iter().flatten() {
-        files.push(String::from_str(alloc, file)?)?;
+/// A reader of the files that the words name.
+pub fn reader_of<'a>(
+    alloc: Global,
+    files: &'a HostRuntime,
+    words: &ArgMatches<'_>,
+) -> Result<RecordReader<'a>, AllocError> {
+    let mut paths = Vec::new(alloc);
+    for path in words.get_strs("file").into_iter().flatten() {
+        paths.push(String::from_str(alloc, path)?)?;
     }
-    Ok(files)
+    Ok(RecordReader::new(files, alloc, paths))
 }
 
 /// Prints the script of these files.
@@ -51,13 +55,12 @@ pub fn script<R: Print + Alloc<A = Global>>(
     words: &ArgMatches<'_>,
 ) -> Outcome {
     let alloc = rt.alloc();
-    let (Ok(paths), Ok(mut out)) = (
-        files_in(alloc, words),
+    let (Ok(mut reader), Ok(mut out)) = (
+        reader_of(alloc, files, words),
         BufWriter::new(alloc, io::writer(rt)),
     ) else {
         return Outcome::Failed(Refusal::NoMemory);
     };
-    let mut reader = RecordReader::new(files, alloc, paths);
     match print_script(alloc, &mut reader, &mut out) {
         Ok(()) => Outcome::Done,
         Err(fault) => ended_by(alloc, &reader, fault),
@@ -71,13 +74,12 @@ pub fn verify_files<R: Print + Alloc<A = Global>>(
     words: &ArgMatches<'_>,
 ) -> Outcome {
     let alloc = rt.alloc();
-    let (Ok(paths), Ok(mut out)) = (
-        files_in(alloc, words),
+    let (Ok(mut reader), Ok(mut out)) = (
+        reader_of(alloc, files, words),
         BufWriter::new(alloc, io::writer(rt)),
     ) else {
         return Outcome::Failed(Refusal::NoMemory);
     };
-    let mut reader = RecordReader::new(files, alloc, paths);
     match verify(alloc, &mut reader, &mut out) {
         Ok(verdict) if verdict.is_right() => Outcome::Done,
         Ok(_) => Outcome::Troubled(String::new(alloc)),
@@ -86,10 +88,10 @@ pub fn verify_files<R: Print + Alloc<A = Global>>(
 }
 
 /// What a fault ends the program with.
-fn ended_by(alloc: Global, reader: &RecordReader<'_>, fault: Fault) -> Outcome {
+pub fn ended_by(alloc: Global, reader: &RecordReader<'_>, fault: Fault) -> Outcome {
     match fault {
         Fault::NoMemory => Outcome::Failed(Refusal::NoMemory),
-        Fault::NotWritten => Outcome::Failed(Refusal::WriteFault),
+        Fault::NotWritten | Fault::NotCaptured => Outcome::Failed(Refusal::WriteFault),
         Fault::NotRead(file, kind) => {
             let path = match reader.paths().get(file) {
                 Some(path) => path.as_str(),

@@ -32,7 +32,7 @@ fn option<'a>(
 }
 
 /// An option with a value, which may be absent.
-fn valued<'a>(alloc: Global, name: &'a str, value: &'a str, text: &'a str) -> Arg<'a> {
+pub fn valued<'a>(alloc: Global, name: &'a str, value: &'a str, text: &'a str) -> Arg<'a> {
     Arg::new(alloc, name)
         .long(name)
         .value_name(value)

@@ -17,4 +17,4 @@ pub use service::{
 };
 pub use session::lengths_are_known;
 pub use turn::{add_both, call_both, call_twice};
-pub use world::{Pair, Ran, compare, queues, run_anew};
+pub use world::{Pair, Ran, compare, queues, replay, run_anew};

@@ -1,17 +1,24 @@
 //! A client of the world, by the public clauses of `pg_serve` alone: two worlds whose inputs differ only in inputs that name
-//! other subscribers queue the same for a subscriber, and hand it the same bytes.
+//! other subscribers queue the same for a subscriber, and hand it the same bytes; and so does the replay of a history's script.
 
-ghost use Rattle.std.specs.Prelude.{◌≡◌, ◌≤◌, ◌⊎◌, Some, None, IfOk, IfErr};
+ghost use Rattle.std.specs.Prelude.{◌≡◌, ◌≤◌, ◌⊎◌, ℕ, List, Some, None, IfOk, IfErr};
+ghost use Rattle.pg_gateway.specs.GatewayEvents.{GatewayEvent, Answer};
+ghost use Rattle.pg_gateway.specs.State.{opening, own_of};
+ghost use Rattle.pg_gateway.specs.Histories.{Legal, state_after};
+ghost use Rattle.pg_gateway.specs.Views.{AllLossless, handed_to};
+ghost use Rattle.pg_gateway.specs.Laws.{events_of, answers_of};
 ghost use Rattle.pg_serve.specs.Inputs.{input_values, outcomes};
 ghost use Rattle.pg_serve.specs.Shown.{queue_shown};
-ghost use Rattle.pg_serve.specs.Full.{handed_over};
+ghost use Rattle.pg_serve.specs.Full.{handed_over, queue_of};
+ghost use Rattle.pg_serve.specs.WorldStates as worlds;
 ghost use Rattle.pg_serve.specs.Headline.{HasAnswered, OutcomesLossless, Headline};
 ghost use Rattle.pg_serve.specs.Others.{without_others, adds_in};
 ghost use Rattle.pg_serve.specs.Framed.{SameButUngranted};
 ghost use Rattle.pg_serve.specs.Beside.{SeeAlike, ServesAlike, StandsBeside};
+ghost use Rattle.pg_serve.specs.Replaying.{recorded, AreSpelled};
 
 use pg_ring::OutQueue;
-use pg_serve::{Input, Output, World, neighbours_change_nothing};
+use pg_serve::{Input, Output, World, neighbours_change_nothing, replays_alike};
 use pg_wire::{Refusal, SubId};
 use std::alloc::Global;
 
@@ -38,6 +45,23 @@ pub fn run_anew(alloc: Global, inputs: &[Input]) -> Result<Ran, Refusal>
         Ok(outputs) => Ok(Ran { world, outputs }),
         Err(refusal) => Err(refusal),
     }
+}
+
+/// A new world takes a script. Where that spells the events of a gateway's history, all but those that concern nobody, and neither history nor
+/// outputs report a loss or want of memory, each subscriber was handed the bytes that the history's drains handed it, and its queue shows the
+/// same. The one refusal is `NoMemory`.
+pub fn replay(alloc: Global, script: &[Input]) -> Result<Ran, Refusal>
+    ensures answers { IfOk result (λ ran. HasAnswered ran.world (input_values script.now) (outcomes ran.outputs.items)) }
+    ensures handed { IfOk result (λ ran. (h : List (GatewayEvent × Answer)) → Legal opening h → AllLossless (answers_of h)
+        → AreSpelled worlds.opening (input_values script.now) (recorded opening (events_of h)) → OutcomesLossless (outcomes ran.outputs.items)
+        → (u : ℕ) → handed_over u (input_values script.now) (outcomes ran.outputs.items) ≡ handed_to u (events_of h) (answers_of h)) }
+    ensures queued { IfOk result (λ ran. (h : List (GatewayEvent × Answer)) → Legal opening h → AllLossless (answers_of h)
+        → AreSpelled worlds.opening (input_values script.now) (recorded opening (events_of h)) → OutcomesLossless (outcomes ran.outputs.items)
+        → (u : ℕ) → queue_shown u ran.world ≡ queue_of (own_of u (state_after opening h))) }
+    ensures memory { IfErr result (λ refusal. refusal ≡ Refusal.NoMemory) }
+{
+    replays_alike();
+    run_anew(alloc, script)
 }
 
 /// Two worlds after their runs.

@@ -1,7 +1,7 @@
 //! The records of files, in the order of their places.
 
 use pg_record::{BLOCK_HEAD, BlockHead, Merge, Merged, Timed, read_block_head, sum};
-use std::alloc::{AllocError, Global};
+use std::alloc::{AllocError, AllocFailed, Global};
 use std::fs::{File, OpenOptions};
 use std::io;
 use std::io::{BufReader, ErrorKind, Read};
@@ -19,10 +19,19 @@ pub enum Fault {
     /// Standard output can't be written.
     #[error("the output can't be written")]
     NotWritten,
+    /// The file of packets can't be written.
+    #[error("the file of packets can't be written")]
+    NotCaptured,
 }
 
 impl From<AllocError> for Fault {
     fn from(_: AllocError) -> Fault {
+        Fault::NoMemory
+    }
+}
+
+impl<T: Drop> From<AllocFailed<T>> for Fault {
+    fn from(_: AllocFailed<T>) -> Fault {
         Fault::NoMemory
     }
 }

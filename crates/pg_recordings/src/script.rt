@@ -3,7 +3,7 @@
 use crate::line::line_of;
 use crate::reader::{Fault, Notice, RecordReader, Step};
 use jiff_core::Timestamp;
-use jiff_fmt::temporal::DateTimePrinter;
+use jiff_fmt::temporal::{DateTimePrinter, parse_timestamp};
 use pg_record::{RecordKind, Timed};
 use std::alloc::{AllocError, Global};
 use std::io::Write;
@@ -20,6 +20,13 @@ pub(crate) fn time_text(alloc: Global, at: u64) -> Result<String, AllocError> {
         }
         Err(_) => String::from_str(alloc, "-"),
     }
+}
+
+/// The time that a text is, in milliseconds since 1970-01-01 00:00 UTC: a date and a time of day with an offset, as
+/// 2026-11-28T14:03:17.020Z (RFC 3339). `None` where it is none, or lies before 1970.
+pub fn read_time(text: &str) -> Option<u64> {
+    let time = parse_timestamp(text.as_bytes()).ok()?;
+    u64::try_from(time.nanosecond / 1_000_000).ok()
 }
 
 /// What a notice says of a file, as text.

@@ -1,13 +1,13 @@
 //! Whether the replay of a recording hands out what the service handed out.
 
-use crate::line::line_of;
+ghost use Rattle.std.specs.Prelude.{◌≡◌, ◌&&◌, nat_eq};
+
+use crate::input::input_of;
 use crate::reader::{Fault, Notice, RecordReader, Step};
 use crate::script::{notice_text, print_line, time_text};
 use pg_gateway::Reply;
 use pg_record::{DONE, LOST, RecordKind, Timed, short_sum};
-use pg_replay::{Line, read_line};
 use pg_serve::{Note, Output, World};
-use pg_wire::Refusal;
 use std::alloc::{AllocError, Global};
 use std::io::Write;
 
@@ -44,7 +44,10 @@ impl Verdict {
     }
 
     /// Whether the recording is whole from the start of the service, and its replay hands out the same.
-    pub fn is_right(&self) -> bool {
+    pub fn is_right(&self) -> bool
+        ensures { result ≡ (nat_eq self.now.missing 0 && nat_eq self.now.notices 0 && nat_eq self.now.unspelled 0
+            && nat_eq self.now.differing 0 && nat_eq self.now.answers 0) }
+    {
         self.missing == 0
             && self.notices == 0
             && self.unspelled == 0
@@ -117,19 +120,11 @@ impl Replay {
     /// Replays a record.
     fn take<W: Write>(&mut self, timed: &Timed, out: &mut W) -> Result<(), Fault> {
         self.verdict.records = self.verdict.records.saturating_add(1);
-        let Some(line) = line_of(self.alloc, &timed.record, &timed.body)? else {
+        let Some(input) = input_of(self.alloc, &timed.record, &timed.body)? else {
             if timed.record.kind != RecordKind::Question {
                 self.verdict.unspelled = self.verdict.unspelled.saturating_add(1);
             }
             return Ok(());
-        };
-        let input = match read_line(self.alloc, line.as_str().as_bytes()) {
-            Ok(Line::Handed(input)) => input,
-            Ok(_) | Err(Refusal::BadLine) => {
-                self.verdict.unspelled = self.verdict.unspelled.saturating_add(1);
-                return Ok(());
-            }
-            Err(_) => return Err(Fault::NoMemory),
         };
         if self.world.take(&input, &mut self.output).is_err() {
             return Err(Fault::NoMemory);

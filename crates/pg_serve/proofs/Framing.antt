@@ -25,7 +25,7 @@ use Rattle.pg_serve.specs.Framed.{announced_by}
 
 -- ---- what is told behind what was told before
 
-abbrev last_of : Option Source → List Item → Option Source
+abbrev pub last_of : Option Source → List Item → Option Source
 last_of known [] = known
 last_of known (item ∷ before) = known_after (last_of known before) item
 
@@ -34,7 +34,7 @@ last_append [] before = refl
 last_append (item ∷ items) before = ap (λ known. known_after known item) (last_append items before)
 
 -- the frames that came last stand first
-abbrev told_on : ℕ → Option Source → List (List ℕ) → List Item
+abbrev pub told_on : ℕ → Option Source → List (List ℕ) → List Item
 told_on source known [] = []
 told_on source known (frame ∷ frames) = let before = told_on source known frames in item_of source (last_of known before) frame ∷ before
 
@@ -49,7 +49,7 @@ told_behind source (frame ∷ frames) before =
     ap₂ (λ k items. item_of source k frame ∷ items) last rest
 
 -- what is told of these bytes, the last first
-abbrev told_now : ℕ → Option Source → List ℕ → List Item
+abbrev pub told_now : ℕ → Option Source → List ℕ → List Item
 told_now source known bytes = told_on source known (reverse (frames_in bytes))
 
 told_fed : (source : ℕ) (stream piece : List ℕ)
@@ -61,7 +61,7 @@ told_fed source stream piece =
     ∙ ap (told_back source) (reverse-append (frames_in stream) behind)
     ∙ told_behind source (reverse behind) (reverse (frames_in stream))
 
-more_is : (line : SourceLinkPast) (piece : List ℕ)
+pub more_is : (line : SourceLinkPast) (piece : List ℕ)
     → told_more piece (Some line) ≡ reverse (told_now line.link.source (announced_by line.link) (rest_in line.link.stream ++ piece))
 more_is line piece =
     let source = line.link.source in
@@ -144,7 +144,7 @@ no_front frame more whole e =
     let long = length-append frame more in
     absurd (omega (arith, none, long, whole.sized))
 
-one_split : (frame : List ℕ) → IsWhole frame → Splits frame (frame ∷ []) []
+pub one_split : (frame : List ℕ) → IsWhole frame → Splits frame (frame ∷ []) []
 one_split frame whole = record {
   whole = sym (append-nil (frame ++ []) ∙ append-nil frame);
   each = All-cons IsWhole frame [] whole (All-nil IsWhole);

@@ -13,3 +13,4 @@ pub mod Apart
 pub mod Handing
 pub mod Isolating
 pub mod Besides
+pub mod Replaying

@@ -1,5 +1,6 @@
 -- To be believed, in this order. The world: what it is handed and answers; what bytes make; the turns that its inputs are; what
--- it shows of them; what holds of each subscriber; of neighbours; of the bytes of data frames; and beside another world.
+-- it shows of them; what holds of each subscriber; of neighbours; of the bytes of data frames; beside another world; and of the
+-- replay of a history.
 pub mod Inputs
 pub mod Actions
 pub mod WorldStates
@@ -10,6 +11,7 @@ pub mod OwnStates
 pub mod Others
 pub mod Framed
 pub mod Beside
+pub mod Replaying
 -- only private contracts and proofs use these
 pub mod Feeding
 pub mod Taking

@@ -4,6 +4,7 @@ ghost use Rattle.std.specs.Prelude.{◌≡◌, ◌≤◌, ℕ, List};
 ghost use Rattle.pg_serve.specs.Inputs.{InputValue};
 ghost use Rattle.pg_serve.specs.Others.{adds_in, NeighboursChangeNothing};
 ghost use Rattle.pg_serve.specs.Framed.{FramesAreEvents, SameButUngranted};
+ghost use Rattle.pg_serve.specs.Replaying.{ReplaysAlike};
 
 /// Two lists of inputs that give a subscriber equal views leave it alike, queue the same for it, and hand it the same bytes,
 /// where no memory is refused.
@@ -33,4 +34,11 @@ pub fn frames_are_events()
 /// granted, give it equal views, where they add subscribers at most 64 times.
 pub fn ungranted_bytes_change_nothing()
     ensures { (u : ℕ) (is js : List InputValue) → adds_in is ≤ 64 → SameButUngranted u is js → view_of u is ≡ view_of u js }
+{}
+
+/// A script makes just the events that it spells; and where it spells all events of a gateway's history but those that concern nobody, its
+/// replay hands each subscriber the bytes that the history's drains handed it, and leaves its queue alike. The history tells no loss and no
+/// want of memory, and neither does the replay.
+pub fn replays_alike()
+    ensures { ReplaysAlike }
 {}

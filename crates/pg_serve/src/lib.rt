@@ -13,7 +13,7 @@ mod world_core;
 pub use input::{Input, Note, Output};
 pub use laws::{
     equal_views_queue_alike, frames_are_events, neighbours_change_nothing, own_blocks_alone,
-    ungranted_bytes_change_nothing,
+    replays_alike, ungranted_bytes_change_nothing,
 };
 pub use pg_shared::{
     Named, Seat, SeatGate, Shared, SharedGate, Work, deliveries_agree, deliveries_go_on, event_of,

@@ -1,0 +1,2 @@
+-- Lemmas of recordings.
+pub mod Recorded

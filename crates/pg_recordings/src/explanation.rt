@@ -1,0 +1,682 @@
+//! Why a subscriber was sent what it was sent, frame by frame.
+
+use crate::capture::Capture;
+use crate::explained::{Form, Totals, print_frame, print_heading};
+use crate::fates::{Causes, Fate, Handing, MadeFrame, Place, StreamTrack};
+use crate::input::command;
+use crate::reader::{Fault, RecordReader, Step};
+use crate::replayed::Replayed;
+use crate::script::{notice_text, print_line};
+use pg_audit::PmuStats;
+use pg_data::DataFrame;
+use pg_gateway::{Event, Reply};
+use pg_record::{RecordKind, Timed};
+use pg_wire::{Deframer, Kind, PmuKey, Refusal, StreamId, SubId, Taken, is_frame, read_head};
+use std::alloc::{AllocError, Global};
+use std::collections::VecDeque;
+use std::io::Write;
+
+/// For how many milliseconds after a frame has left its blocks may come to be printed as late.
+const LATEST_MS: u64 = 60_000;
+
+/// How many frames of 16 bytes a piece of 65,535 bytes has at most.
+const MOST_FRAMES: usize = 4_096;
+
+/// The reasons for which a block of a PMU is refused.
+const REASONS: [Refusal; 6] = [
+    Refusal::FarClock,
+    Refusal::StaleConfig,
+    Refusal::NoConfig,
+    Refusal::BadFraction,
+    Refusal::TimeEnd,
+    Refusal::NoMemory,
+];
+
+/// What is asked.
+#[derive(Clone, Copy, Debug)]
+pub struct Inquiry {
+    /// Whose frames.
+    pub subscriber: SubId,
+    /// Of which stream; all of them where it is `None`.
+    pub stream: Option<StreamId>,
+    /// The times of their slots, from the first one on and before the second one: milliseconds since 1970-01-01 00:00 UTC.
+    pub from: u64,
+    pub to: u64,
+    /// Whether each member of a frame is a line of comma-separated values.
+    pub is_csv: bool,
+}
+
+/// A block that is about to be posted, of a member of a stream.
+#[derive(Drop)]
+struct Expected {
+    stream: usize,
+    member: usize,
+    slot: u64,
+    key: PmuKey,
+    // What was counted before.
+    stats: PmuStats,
+    late: u64,
+}
+
+/// What an event may change for the subscriber.
+#[derive(Drop)]
+enum Concern {
+    Blocks(Vec<Expected>),
+    Defines(StreamTrack),
+    Removes(StreamId),
+    Commands,
+    Disconnects,
+    Leaves,
+    Connects,
+    Nothing,
+}
+
+/// A replay that notes what becomes of a subscriber's frames.
+#[derive(Drop)]
+struct Explanation<C> {
+    alloc: Global,
+    inquiry: Inquiry,
+    replayed: Replayed,
+    streams: Vec<StreamTrack>,
+    // Those that are not printed yet.
+    frames: VecDeque<MadeFrame>,
+    handed: Deframer,
+    capture: Option<Capture<C>>,
+    totals: Totals,
+}
+
+/// Replays a recording and prints a line for each data frame of the subscriber whose slot lies in the time that is asked for: when it left and
+/// why, what became of each member's block, and when it was handed out. What is handed out in that time is written to `capture` as packets.
+///
+/// # Errors
+///
+/// Those of the reader; the output can't be written.
+pub fn explain<W: Write, C: Write + Drop>(
+    alloc: Global,
+    reader: &mut RecordReader<'_>,
+    inquiry: Inquiry,
+    out: &mut W,
+    capture: Option<C>,
+) -> Result<Totals, Fault> {
+    let Ok(handed) = Deframer::new(alloc) else {
+        return Err(Fault::NoMemory);
+    };
+    let mut explanation = Explanation {
+        alloc,
+        inquiry,
+        replayed: Replayed::new(alloc)?,
+        streams: Vec::new(alloc),
+        frames: VecDeque::new(alloc),
+        handed,
+        capture: match capture {
+            Some(file) => Some(Capture::new(file)?),
+            None => None,
+        },
+        totals: Totals::none(),
+    };
+    print_heading(inquiry.form(), out)?;
+    for _ in 0..u64::MAX {
+        match reader.next()? {
+            Step::Record(timed) => {
+                if explanation.is_over(timed.at) {
+                    break;
+                }
+                explanation.take(&timed)?;
+                explanation.print_settled(timed.at, out)?;
+            }
+            Step::Gap(from, to) => explanation.note_gap(from, to, out)?,
+            Step::Notice(file, notice) => {
+                if let Some(path) = reader.paths().get(file) {
+                    let text = notice_text(alloc, path.as_str(), notice)?;
+                    explanation.totals.missing = explanation.totals.missing.saturating_add(1);
+                    print_comment(alloc, text.as_str(), out)?;
+                }
+            }
+            Step::End => break,
+        }
+    }
+    explanation.end(out)
+}
+
+/// Prints a comment.
+fn print_comment<W: Write>(alloc: Global, text: &str, out: &mut W) -> Result<(), Fault> {
+    let line = format!(in alloc; "# {text}")?;
+    print_line(line.as_str(), out)
+}
+
+impl Inquiry {
+    /// How the answer is printed.
+    fn form(&self) -> Form {
+        if self.is_csv { Form::Csv } else { Form::Text }
+    }
+
+    /// Whether a frame with this time is asked for.
+    fn asks_for(&self, stream: StreamId, time: u64) -> bool {
+        let is_stream = match self.stream {
+            Some(asked) => asked == stream,
+            None => true,
+        };
+        is_stream && self.is_within(time)
+    }
+
+    /// Whether it is asked for this time.
+    fn is_within(&self, time: u64) -> bool {
+        self.from <= time && time < self.to
+    }
+}
+
+impl<C: Write + Drop> Explanation<C> {
+    /// Whether all frames that are asked for have left, and are settled.
+    fn is_over(&self, now: u64) -> bool {
+        self.frames.is_empty() && now >= self.inquiry.to.saturating_add(2 * LATEST_MS)
+    }
+
+    /// Notes places without a record.
+    fn note_gap<W: Write>(&mut self, from: u64, to: u64, out: &mut W) -> Result<(), Fault> {
+        self.totals.missing = self.totals.missing.saturating_add(to.saturating_sub(from));
+        let last = to.saturating_sub(1);
+        let text = format!(in self.alloc;
+            "missing: places {from} to {last}; what follows may be wrong"
+        )?;
+        print_comment(self.alloc, text.as_str(), out)
+    }
+
+    /// Posts what was recorded, and notes what it changes for the subscriber.
+    fn take(&mut self, timed: &Timed) -> Result<(), Fault> {
+        let Some(event) = self.replayed.event_of(&timed.record, &timed.body)? else {
+            if timed.record.kind != RecordKind::Question {
+                self.totals.unspelled = self.totals.unspelled.saturating_add(1);
+            }
+            return Ok(());
+        };
+        self.capture_command(timed)?;
+        let concern = self.concern_of(&event)?;
+        let reply = self.replayed.post(event);
+        self.follow(concern, &reply, timed.at)?;
+        match &reply {
+            Reply::Done { made, .. } if *made > 0 => self.collect(timed.at)?,
+            Reply::Drained {
+                buf,
+                out: Ok(drained),
+            } if timed.record.number == self.inquiry.subscriber.get() => {
+                self.hand(buf.get(..drained.len).unwrap_or(&[]), timed.at)?;
+            }
+            _ => {}
+        }
+        match timed.record.kind {
+            RecordKind::Edit | RecordKind::Configuration => self.look(),
+            _ => Ok(()),
+        }
+    }
+
+    /// What an event may change for the subscriber.
+    fn concern_of(&mut self, event: &Event) -> Result<Concern, Fault> {
+        let subscriber = self.inquiry.subscriber;
+        Ok(match event {
+            Event::Measure(frame) => Concern::Blocks(self.expect(frame)?),
+            Event::Define(it, definition) if *it == subscriber => {
+                Concern::Defines(StreamTrack::new(self.alloc, definition)?)
+            }
+            Event::Remove(it, stream) if *it == subscriber => Concern::Removes(*stream),
+            Event::DropSub(it) if *it == subscriber => Concern::Leaves,
+            Event::Connect(it) if *it == subscriber => Concern::Connects,
+            Event::Hangup(it) if *it == subscriber => Concern::Disconnects,
+            Event::Command(it, _) if *it == subscriber => Concern::Commands,
+            _ => Concern::Nothing,
+        })
+    }
+
+    /// The blocks of a frame that are those of members, in slots that are asked for.
+    fn expect(&mut self, frame: &DataFrame) -> Result<Vec<Expected>, Fault> {
+        let mut expected = Vec::new(self.alloc);
+        for block in 0..frame.count() {
+            let key = frame.key(block);
+            for stream in 0..self.streams.len() {
+                let Some(track) = self.streams.get(stream) else {
+                    break;
+                };
+                let member = track.members.iter().position(|it| *it == key);
+                let slot = track.slot_at(frame.base(), frame.soc, frame.frac);
+                let (Some(member), Some(slot)) = (member, slot) else {
+                    continue;
+                };
+                if !self.inquiry.asks_for(track.id, track.time_of(slot)) {
+                    continue;
+                }
+                if let Some(stats) = self.replayed.pmu_stats(key) {
+                    let late = self.late_of(stream, member);
+                    expected.push(Expected {
+                        stream,
+                        member,
+                        slot,
+                        key,
+                        stats,
+                        late,
+                    })?;
+                }
+            }
+        }
+        Ok(expected)
+    }
+
+    /// How many blocks of a member came late for a stream.
+    fn late_of(&mut self, stream: usize, member: usize) -> u64 {
+        let subscriber = self.inquiry.subscriber;
+        let standing = self.replayed.standing(subscriber, stream, member);
+        match standing.and_then(|it| it.member) {
+            Some(member) => member.late,
+            None => 0,
+        }
+    }
+
+    /// Notes what an event with this reply changed.
+    fn follow(&mut self, concern: Concern, reply: &Reply, at: u64) -> Result<(), Fault> {
+        let is_done = matches!(reply, Reply::Done { .. });
+        match concern {
+            Concern::Blocks(expected) => return self.judge_all(&expected, at),
+            _ if !is_done => {}
+            Concern::Defines(track) => {
+                self.totals.is_known = true;
+                self.streams.push(track)?;
+            }
+            Concern::Removes(stream) => self.forget_stream(stream),
+            Concern::Leaves => {
+                self.streams.clear();
+                self.disconnect(at)?;
+            }
+            Concern::Disconnects => self.disconnect(at)?,
+            Concern::Connects => self.connect(at)?,
+            Concern::Commands => self.forget_stopped(),
+            _ => {}
+        }
+        Ok(())
+    }
+
+    /// Notes what became of these blocks.
+    fn judge_all(&mut self, expected: &[Expected], at: u64) -> Result<(), Fault> {
+        for block in expected {
+            self.judge(block, at)?;
+        }
+        Ok(())
+    }
+
+    /// A stream is removed.
+    fn forget_stream(&mut self, stream: StreamId) {
+        let at = self.streams.iter().position(|it| it.id == stream);
+        if let Some(at) = at {
+            self.streams.remove(at);
+        }
+    }
+
+    /// The subscriber connects.
+    fn connect(&mut self, at: u64) -> Result<(), Fault> {
+        let is_within = self.inquiry.is_within(at);
+        match &mut self.capture {
+            Some(capture) if is_within => capture.open(at),
+            _ => Ok(()),
+        }
+    }
+
+    /// The subscriber's connection has ended: what waited is cleared.
+    fn disconnect(&mut self, at: u64) -> Result<(), Fault> {
+        for frame in self.frames.iter_mut() {
+            if frame.handing == Handing::Waiting {
+                frame.handing = Handing::Cleared;
+            }
+        }
+        for track in self.streams.iter_mut() {
+            track.forget_open();
+        }
+        self.handed.reset();
+        match &mut self.capture {
+            Some(capture) => capture.close(at),
+            None => Ok(()),
+        }
+    }
+
+    /// Forgets the open slots of streams that are off.
+    fn forget_stopped(&mut self) {
+        for stream in 0..self.streams.len() {
+            let standing = self.replayed.standing(self.inquiry.subscriber, stream, 0);
+            let is_on = match standing {
+                Some(stream) => stream.is_on,
+                None => false,
+            };
+            if let (Some(track), false) = (self.streams.get_mut(stream), is_on) {
+                track.forget_open();
+            }
+        }
+    }
+
+    /// Notes what became of a block that came at this time.
+    fn judge(&mut self, block: &Expected, at: u64) -> Result<(), Fault> {
+        let subscriber = self.inquiry.subscriber;
+        let standing = self
+            .replayed
+            .standing(subscriber, block.stream, block.member);
+        let (Some(stream), Some(stats)) = (standing, self.replayed.pmu_stats(block.key)) else {
+            return Ok(());
+        };
+        let Some(member) = &stream.member else {
+            return Ok(());
+        };
+        let fate = if stats.taken == block.stats.taken {
+            match reason_of(&block.stats, &stats) {
+                Some(refusal) => Fate::Refused(at, refusal),
+                None => return Ok(()),
+            }
+        } else if member.late > block.late {
+            Fate::Late(at)
+        } else if stream.is_on && member.is_effective {
+            Fate::Came(at)
+        } else {
+            return Ok(());
+        };
+        self.note(block, fate)
+    }
+
+    /// Notes the fate of a block: in the frame of its slot where that has left, else for that frame.
+    fn note(&mut self, block: &Expected, fate: Fate) -> Result<(), Fault> {
+        let alloc = self.alloc;
+        let Some(track) = self.streams.get_mut(block.stream) else {
+            return Ok(());
+        };
+        let (stream, slot) = (track.id, block.slot);
+        if matches!(fate, Fate::Came(_)) {
+            return Ok(track.note(alloc, slot, block.member, fate)?);
+        }
+        let at = self
+            .frames
+            .iter()
+            .rposition(|it| it.stream == stream && it.slot == slot);
+        let Some(frame) = at.and_then(|it| self.frames.get_mut(it)) else {
+            return Ok(track.note(alloc, slot, block.member, fate)?);
+        };
+        if let Some((_, noted)) = frame.fates.get_mut(block.member) {
+            if *noted == Fate::Nothing {
+                *noted = fate;
+            }
+        }
+        Ok(())
+    }
+
+    /// Notes the frames that have left.
+    fn collect(&mut self, at: u64) -> Result<(), Fault> {
+        for stream in 0..self.streams.len() {
+            let standing = self.replayed.standing(self.inquiry.subscriber, stream, 0);
+            let Some(counted) = standing else {
+                continue;
+            };
+            let Some(track) = self.streams.get_mut(stream) else {
+                break;
+            };
+            let now = Causes::counted(&counted);
+            let causes = now.since(track.causes);
+            track.causes = now;
+            if causes.sum() > 0 {
+                self.collect_of(stream, causes, at)?;
+            }
+        }
+        Ok(())
+    }
+
+    /// Notes the frames of a stream that have left for these causes.
+    fn collect_of(&mut self, stream: usize, mut causes: Causes, at: u64) -> Result<(), Fault> {
+        let Some(id) = self.streams.get(stream).map(|it| it.id) else {
+            return Ok(());
+        };
+        let stamps = self.newest(id, causes.sum())?;
+        let unseen = causes.sum().saturating_sub(stamps.len() as u64);
+        self.totals.unseen = self.totals.unseen.saturating_add(unseen);
+        for (soc, frac) in &stamps {
+            let Some(track) = self.streams.get_mut(stream) else {
+                break;
+            };
+            let Some(slot) = track.slot_of_stamp(*soc, *frac) else {
+                continue;
+            };
+            let time = track.time_of(slot);
+            let fates = if self.inquiry.asks_for(id, time) {
+                track.take(self.alloc, slot)?
+            } else {
+                Vec::new(self.alloc)
+            };
+            let has_filler = fates.iter().any(|(_, fate)| is_filler(*fate));
+            let frame = MadeFrame {
+                stream: id,
+                slot,
+                stamp: (*soc, *frac),
+                time,
+                left: at,
+                cause: causes.take(has_filler),
+                fates,
+                handing: Handing::Waiting,
+            };
+            self.frames.push_back(frame)?;
+        }
+        Ok(())
+    }
+
+    /// Notes how the members of the streams stand.
+    fn look(&mut self) -> Result<(), Fault> {
+        let subscriber = self.inquiry.subscriber;
+        for stream in 0..self.streams.len() {
+            let Some(track) = self.streams.get_mut(stream) else {
+                break;
+            };
+            let mut places = Vec::with_capacity(self.alloc, track.members.len())?;
+            for member in 0..track.members.len() {
+                let place = self.replayed.standing(subscriber, stream, member);
+                places.push(match place.and_then(|it| it.member) {
+                    Some(member) => Place {
+                        is_granted: member.is_granted,
+                        is_effective: member.is_effective,
+                    },
+                    None => Place {
+                        is_granted: false,
+                        is_effective: false,
+                    },
+                })?;
+            }
+            track.places = places;
+        }
+        Ok(())
+    }
+
+    /// SOC and FRACSEC's numerator of the newest frames of a stream that are in the queue, so many at most, the oldest first.
+    fn newest(&self, stream: StreamId, count: u64) -> Result<Vec<(u32, u32)>, AllocError> {
+        let mut stamps = Vec::new(self.alloc);
+        let Some(queue) = self.replayed.queue(self.inquiry.subscriber) else {
+            return Ok(stamps);
+        };
+        let frames = queue.frames();
+        for back in 1..=frames {
+            if stamps.len() as u64 >= count {
+                break;
+            }
+            let Some((frame, _)) = queue.frame_at(frames - back) else {
+                break;
+            };
+            if let Some((id, soc, frac)) = stamp_in(frame) {
+                if id == stream.get() {
+                    stamps.push((soc, frac))?;
+                }
+            }
+        }
+        stamps.reverse();
+        Ok(stamps)
+    }
+
+    /// Notes which frames these bytes are that were handed out.
+    fn hand(&mut self, bytes: &[u8], at: u64) -> Result<(), Fault> {
+        let frames = whole_frames(self.alloc, &mut self.handed, bytes)?;
+        for frame in &frames {
+            self.hand_frame(frame, at)?;
+        }
+        Ok(())
+    }
+
+    /// Notes that a frame was handed out.
+    fn hand_frame(&mut self, frame: &[u8], at: u64) -> Result<(), Fault> {
+        self.capture_frame(frame, at)?;
+        let Some((id, soc, frac)) = stamp_in(frame) else {
+            return Ok(());
+        };
+        let found = self.frames.iter().position(|it| {
+            it.handing == Handing::Waiting && it.stream.get() == id && it.stamp == (soc, frac)
+        });
+        let Some(at_index) = found else {
+            return Ok(());
+        };
+        let mut gap = 0u64;
+        for index in 0..=at_index {
+            let Some(made) = self.frames.get_mut(index) else {
+                break;
+            };
+            if index == at_index {
+                made.handing = Handing::Handed(at, gap);
+            } else if made.handing == Handing::Waiting {
+                made.handing = Handing::Dropped;
+                if made.stream.get() == id {
+                    gap = gap.saturating_add(1);
+                }
+            }
+        }
+        Ok(())
+    }
+
+    /// Writes a frame that was handed out to the capture.
+    fn capture_frame(&mut self, frame: &[u8], at: u64) -> Result<(), Fault> {
+        let is_asked = match self.inquiry.stream {
+            Some(stream) => id_in(frame) == Some(stream.get()),
+            None => true,
+        };
+        let is_within = self.inquiry.is_within(at);
+        match &mut self.capture {
+            Some(capture) if is_asked && is_within => capture.send(at, frame),
+            Some(capture) if is_asked && at < self.inquiry.from => {
+                Ok(capture.keep_configuration(self.alloc, at, frame)?)
+            }
+            _ => Ok(()),
+        }
+    }
+
+    /// Writes a command of the subscriber to the capture.
+    fn capture_command(&mut self, timed: &Timed) -> Result<(), Fault> {
+        let record = &timed.record;
+        let is_own = record.kind == RecordKind::Command
+            && record.number == self.inquiry.subscriber.get();
+        if !is_own || !self.inquiry.is_within(timed.at) {
+            return Ok(());
+        }
+        let Some(capture) = &mut self.capture else {
+            return Ok(());
+        };
+        match command(self.alloc, &timed.body)? {
+            Some(frame) => capture.receive(timed.at, frame.as_slice()),
+            None => Ok(()),
+        }
+    }
+
+    /// Prints the frames of which nothing is to come any more.
+    fn print_settled<W: Write>(&mut self, now: u64, out: &mut W) -> Result<(), Fault> {
+        for _ in 0..u64::MAX {
+            let is_settled = match self.frames.front() {
+                Some(frame) => {
+                    frame.handing != Handing::Waiting
+                        && (frame.fates.is_empty() || now >= frame.left.saturating_add(LATEST_MS))
+                }
+                None => false,
+            };
+            if !is_settled {
+                break;
+            }
+            self.print_first(out)?;
+        }
+        Ok(())
+    }
+
+    /// Prints the first frame.
+    fn print_first<W: Write>(&mut self, out: &mut W) -> Result<(), Fault> {
+        let Some(frame) = self.frames.pop_front() else {
+            return Ok(());
+        };
+        if !self.inquiry.asks_for(frame.stream, frame.time) {
+            return Ok(());
+        }
+        self.totals.count(&frame);
+        print_frame(self.alloc, self.inquiry.form(), &frame, out)
+    }
+
+    /// Prints what is left, and the totals.
+    fn end<W: Write>(mut self, out: &mut W) -> Result<Totals, Fault> {
+        for _ in 0..self.frames.len() {
+            self.print_first(out)?;
+        }
+        if let Some(capture) = &mut self.capture {
+            capture.end()?;
+        }
+        self.totals.print(self.alloc, self.inquiry.form(), out)?;
+        match out.flush() {
+            Ok(()) => Ok(self.totals),
+            Err(_) => Err(Fault::NotWritten),
+        }
+    }
+}
+
+/// Whether a frame has a filler for a block with this fate.
+pub(crate) fn is_filler(fate: Fate) -> bool {
+    matches!(fate, Fate::Late(_) | Fate::Refused(..) | Fate::Nothing)
+}
+
+/// The reason that was counted since.
+fn reason_of(before: &PmuStats, after: &PmuStats) -> Option<Refusal> {
+    REASONS.iter().copied().find(|it| {
+        let number = usize::from(it.number());
+        before.by_reason.get(number) != after.by_reason.get(number)
+    })
+}
+
+/// The whole frames that come with these bytes.
+fn whole_frames(
+    alloc: Global,
+    deframer: &mut Deframer,
+    bytes: &[u8],
+) -> Result<Vec<Vec<u8>>, AllocError> {
+    let mut frames = Vec::new(alloc);
+    let mut rest = bytes;
+    for _ in 0..=bytes.len() {
+        let (piece, behind) = rest.split_at(rest.len().min(deframer.room()));
+        deframer.feed(piece);
+        rest = behind;
+        for _ in 0..MOST_FRAMES {
+            match deframer.next() {
+                Taken::Frame(frame) => frames.push(frame.to_vec(alloc)?)?,
+                _ => break,
+            }
+        }
+        if rest.is_empty() {
+            break;
+        }
+    }
+    Ok(frames)
+}
+
+/// The IDCODE of a frame.
+fn id_in(frame: &[u8]) -> Option<u16> {
+    let (_, behind) = frame.split_at_checked(4)?;
+    let (id, _) = behind.split_first_chunk::<2>()?;
+    Some(u16::from_be_bytes(*id))
+}
+
+/// IDCODE, SOC and FRACSEC's numerator of a data frame (C37.118.2, 6.2); `None` where it is none.
+fn stamp_in(frame: &[u8]) -> Option<(u16, u32, u32)> {
+    if !is_frame(frame) {
+        return None;
+    }
+    let head = read_head(frame);
+    match head.kind {
+        Kind::Measured => Some((head.id, head.soc, head.frac)),
+        _ => None,
+    }
+}
