@@ -1,14 +1,13 @@
 #!/usr/bin/env python3
-"""Tries `pdcgw bridge` with real brokers and databases, as docs/integration/pdcgw-bridge@.service starts it. Meanwhile they are stopped and started,
-frozen (SIGSTOP) and cut off (their packets are dropped), the gateway is frozen and killed, and a PMU is revoked and granted.
+"""Tries `pdcgw bridge` with real brokers and databases, as docs/integration/pdcgw-bridge@.service starts it. Meanwhile they are frozen
+(SIGSTOP), cut off (their packets are dropped), and stopped and started, the gateway is frozen and killed, and a PMU is revoked and granted.
 
     python3 bench/bridges.py PROGRAM mosquitto|kafka|postgresql|influxdb|redis
 
 What arrived is read back: the slots of the data lines of PMU 7 and those of the gaps have to be all slots of the stream from the first line to the
-last, and none twice, but for what a broker delivers at least once and the same again. Each line has to be one of its format. It prints what came
-and which gaps, and ends with status 1 where this is not so. Of Debian's packages it needs iptables, and mosquitto and mosquitto-clients, or kafkacat
-(whose own mock of a broker stands for Kafka: it is in kcat's process, so that it is not stopped), or postgresql, or influxdb and curl, or redis-server
-and redis-tools. Run as root it starts PostgreSQL as the user postgres.
+last, and none twice. Each line has to be one of its format. It prints what came and which gaps, and ends with status 1 where this is not so. Of Debian's
+packages it needs iptables, and mosquitto and mosquitto-clients, or kcat (kafka_broker.py stands for Kafka), or postgresql, or influxdb and curl, or
+redis-server and redis-tools. Run as root it starts PostgreSQL as the user postgres.
 """
 import json
 import os
@@ -49,7 +48,7 @@ members = [7, "7/8"]
 
 
 def run(*words, **keys):
-    return subprocess.Popen(words, stdin=subprocess.DEVNULL, **{"stdout": subprocess.DEVNULL, "stderr": subprocess.DEVNULL, **keys})
+    return subprocess.Popen(words, **{**dict.fromkeys(["stdin", "stdout", "stderr"], subprocess.DEVNULL), **keys})
 
 
 def done(*words, **keys):
@@ -64,7 +63,7 @@ def slot(text):
 
 class Broker:
     """A broker or a database, a process of this script."""
-    port, output = None, subprocess.DEVNULL
+    port = None
 
     def stop(self):
         self.server.terminate()
@@ -104,8 +103,8 @@ class Broker:
 
 
 class Mosquitto(Broker):
-    """A broker that keeps what a subscriber of it has not got; the bridge's client waits where it is away."""
-    options, client, may_come_again = ["--format", "json"], "mosquitto_pub -p 26883 -q 1 -l -t pmu/101", True
+    """QoS 2, and sessions that the broker keeps over a restart, of the bridge's client and of the reader: it waits where the broker is away."""
+    options, client = ["--format", "json"], f"mosquitto_pub -p 26883 -q 2 -c -i pdcgw-{STREAM} -l -t pmu/{STREAM}"
     port = 26883
 
     def __init__(self, folder):
@@ -115,7 +114,7 @@ class Mosquitto(Broker):
         self.begin()
         time.sleep(1)
         with open(self.seen, "w", encoding="utf-8") as file:
-            self.reader = run("mosquitto_sub", "-p", "26883", "-q", "1", "-c", "-i", "reader", "-t", "pmu/101", stdout=file)
+            self.reader = run("mosquitto_sub", "-p", "26883", "-q", "2", "-c", "-i", "reader", "-t", f"pmu/{STREAM}", stdout=file)
         time.sleep(1)
 
     def begin(self):
@@ -133,43 +132,48 @@ class Mosquitto(Broker):
 
 
 class Kafka(Broker):
-    """kcat with the mock of a broker that its library has, which keeps nothing: what was sent is read where kcat prints it."""
-    options, may_come_again = ["--format", "json", "--key"], False
-    client = "kcat -P -T -b mock -X test.mock.num.brokers=1 -t pmu -K \\t -E -X message.timeout.ms=0"
+    """kafka_broker.py, which closes its port and opens it again where a broker is restarted."""
+    options = ["--format", "json", "--key"]
 
     def __init__(self, folder):
-        self.seen = f"{folder}/seen"
-        self.output = open(self.seen, "w", encoding="utf-8")
+        script = os.path.join(os.path.dirname(os.path.abspath(__file__)), "kafka_broker.py")
+        self.server = run(sys.executable, script, stdin=subprocess.PIPE, stdout=subprocess.PIPE, stderr=None, text=True)
+        self.address = self.server.stdout.readline().strip()
+        self.port = int(self.address.rsplit(":", 1)[1])
+        self.client = f"kcat -P -b {self.address} -t pmu -K \\t -E -X enable.idempotence=true -X message.timeout.ms=0"
 
-    def processes(self):
-        return [int(it) for it in done("pgrep", "-x", "kcat").split()]
+    def asks(self, word):
+        print(word, file=self.server.stdin, flush=True)
+        if self.server.stdout.readline() != f"{word}\n":
+            sys.exit(f"kafka_broker.py does not take `{word}`")
 
-    @property
-    def port(self):
-        """The port of the mock, which kcat connects to as to any broker."""
-        line = next(it for it in done("ss", "-Hltnp").splitlines() if '"kcat"' in it)
-        return int(line.split()[3].rsplit(":", 1)[1])
+    def stop(self):
+        self.asks("down")
+
+    def begin(self):
+        self.asks("up")
 
     def lines(self):
-        # kcat prints keys, tabs and lines, and nothing between them.
         time.sleep(3)
-        with open(self.seen, encoding="utf-8") as file:
-            text, at, found, reader = file.read(), 0, [], json.JSONDecoder()
-        while "}" in text[at:at + 4096] and text.rfind("}") > at + 4096:
-            key, begin = text[at:text.index("\t", at)], text.index("\t", at) + 1
-            line, at = reader.raw_decode(text, begin)
+        found, offsets = [], {}
+        for text in done("kcat", "-C", "-e", "-b", self.address, "-t", "pmu", "-f", "%p\t%o\t%k\t%s\n", stderr=subprocess.DEVNULL).splitlines():
+            partition, offset, key, text = text.split("\t", 3)
+            line = json.loads(text)
             if key != f"{line['stream']}/{line.get('idcode', line['stream'])}":
                 sys.exit(f"the key {key} of {line}")
+            if int(offset) != offsets.get(partition, 0):
+                sys.exit(f"partition {partition} has {offset} where {offsets.get(partition, 0)} comes next")
+            offsets[partition] = int(offset) + 1
             found.append(line)
         return found
 
     def end(self):
-        self.output.close()
+        self.server.kill()
 
 
 class Postgresql(Broker):
     port = 26432
-    options, may_come_again = ["--format", "csv"], False
+    options = ["--format", "csv"]
     client = f"{FILES}/in-batches.sh 60 {FILES}/to-postgresql.sh"
     bin = "/usr/lib/postgresql/15/bin"
 
@@ -205,7 +209,7 @@ class Postgresql(Broker):
 
 class Influxdb(Broker):
     port = 26086
-    options, may_come_again = ["--format", "influx"], False
+    options = ["--format", "influx"]
     client = f"{FILES}/in-batches.sh 60 {FILES}/to-influxdb.sh"
 
     def __init__(self, folder):
@@ -222,7 +226,8 @@ class Influxdb(Broker):
         self.server = run("influxd", "-config", f"{self.folder}/influx.conf")
 
     def rows(self, measurement):
-        found = json.loads(done("curl", "-sSfG", "http://127.0.0.1:26086/query", "--data-urlencode", "db=pmu", "--data-urlencode", f"q=select * from {measurement}"))
+        query = f"q=select * from {measurement}"
+        found = json.loads(done("curl", "-sSfG", "http://127.0.0.1:26086/query", "--data-urlencode", "db=pmu", "--data-urlencode", query))
         for it in found["results"][0].get("series", []):
             for row in it["values"]:
                 yield dict(zip(it["columns"], row))
@@ -236,7 +241,7 @@ class Influxdb(Broker):
 
 class Redis(Broker):
     port = 26379
-    options, may_come_again = ["--format", "json"], False
+    options = ["--format", "json"]
     client = f"{FILES}/in-batches.sh 60 {FILES}/to-redis.sh"
 
     def __init__(self, folder):
@@ -267,30 +272,29 @@ def bridge(program, folder, broker):
     os.symlink(program, f"{folder}/bin/pdcgw")
     keys = {"PATH": f"{folder}/bin:{os.environ['PATH']}", "ADDRESS": "127.0.0.1:26801", "OPTIONS": " ".join(broker.options), "CLIENT": broker.client}
     again = f"while :; do {shlex.join(unit_words())}; echo the unit starts again >&2; sleep 2; done"
-    return run("bash", "-c", again, stdout=broker.output, stderr=None, start_new_session=True, env={**os.environ, **keys})
+    return run("bash", "-c", again, stderr=None, start_new_session=True, env={**os.environ, **keys})
 
 
-def judge(lines, may_come_again):
-    """Whether the data lines and the gaps are all slots, each once; some brokers deliver a line again."""
-    wrong, seen, gaps = 0, {}, {}
+def judge(lines):
+    """Whether the data lines of PMU 7 and the gaps are all slots, and no data line is there twice."""
+    wrong, seen, gaps = 0, {7: set(), 8: set()}, {}
     for line in lines:
-        if line["type"] == "data" and line["idcode"] == 7:
-            before = seen.get(slot(line["time"]))
-            if before:
-                print(f"twice: {line['time']}")
-                wrong += not may_come_again or before != line
-            seen[slot(line["time"])] = line
+        if line["type"] == "data":
+            at, of_pmu = slot(line["time"]), seen[line["idcode"]]
+            if at in of_pmu:
+                print(f"twice: PMU {line['idcode']} at {line['time']}")
+                wrong += 1
+            of_pmu.add(at)
         elif line["type"] == "gap":
             at = slot(line["time"])
             gaps[at] = gaps.get(at, 0) + int(line["slots"])
             print(f"gap before {line['time']}: {line['slots']} slots, {line['why']}")
-    slots = sorted(seen)
+    slots = sorted(seen[7])
     for before, after in zip(slots, slots[1:]):
         if after - before - 1 != gaps.get(after, 0):
             print(f"between the slots {before} and {after} are {after - before - 1}, and in gaps {gaps.get(after, 0)}")
             wrong += 1
-    other = sum(1 for line in lines if line["type"] == "data" and line["idcode"] == 8)
-    print(f"{len(lines)} lines; {len(slots)} data lines of PMU 7, {other} of PMU 8, {sum(gaps.values())} slots in gaps, {wrong} wrong")
+    print(f"{len(lines)} lines; {len(slots)} data lines of PMU 7, {len(seen[8])} of PMU 8, {sum(gaps.values())} slots in gaps, {wrong} wrong")
     return not wrong and len(slots) > 20 * RATE
 
 
@@ -309,11 +313,10 @@ def main():
             held = [run(program, "simulate", "--listen", "127.0.0.1:26712", "--pmus", "2", "--rate", str(RATE)), gateway()]
             time.sleep(2)
             held.append(bridge(program, folder, broker))
-            steps = [("the broker is frozen (SIGSTOP)", broker.freeze), ("the broker goes on", broker.thaw)]
-            if hasattr(broker, "begin"):
-                steps += [("the broker stops", broker.stop), ("the broker begins", broker.begin)]
-            steps += [("the broker is cut off", broker.cut), ("the broker is back", broker.join)]
-            for what, do in [("starts", lambda: None), *steps, ("PMU 8 is revoked", lambda: ctl("revoke 1 7/8")),
+            # Cut off before it stops: after that kcat waits for up to 10 seconds until it connects again.
+            for what, do in [("starts", lambda: None), ("the broker is frozen (SIGSTOP)", broker.freeze), ("the broker goes on", broker.thaw),
+                             ("the broker is cut off", broker.cut), ("the broker is back", broker.join), ("the broker stops", broker.stop),
+                             ("the broker begins", broker.begin), ("PMU 8 is revoked", lambda: ctl("revoke 1 7/8")),
                              ("PMU 8 is granted", lambda: ctl("grant 1 7/8")), ("the gateway is frozen (SIGSTOP)", lambda: held[1].send_signal(signal.SIGSTOP)),
                              ("the gateway goes on", lambda: held[1].send_signal(signal.SIGCONT)), ("the gateway is killed", held[1].kill)]:
                 print(what, flush=True)
@@ -322,7 +325,7 @@ def main():
             held.append(gateway())
             print("the gateway begins", flush=True)
             time.sleep(10)
-            is_well = judge(broker.lines(), broker.may_come_again)
+            is_well = judge(broker.lines())
         finally:
             broker.restore()
             for it in held:
