@@ -23,7 +23,7 @@ sys.path.insert(0, os.path.join(os.path.dirname(os.path.abspath(__file__)), ".."
 import c37118  # noqa: E402
 
 # (its own, so that it can run beside the other scripts)
-service.FIRST_SOURCE_PORT, service.FIRST_PORT = 37_000, 37_300
+service.FIRST_SOURCE_PORT, service.FIRST_PORT = 22_500, 22_700
 DAY = 86_400
 
 

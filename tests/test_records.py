@@ -206,6 +206,75 @@ def test_a_killed_service_leaves_what_was_written(bench):
     expect(all(it > found["records"] - 400 for it in missing), f"what is missing is at the end: {out}")
 
 
+def explained(bench, files, begin):
+    """The lines of `explain` for the frames of stream 101 from a second on."""
+    words = [*files, "--subscriber", "1", "--stream", "101", "--from", begin, "--to", "2100-01-01T00:00:00Z"]
+    status, out, errors = tool(bench, "explain", words)
+    same((status, errors), (0, ""), f"`explain`: {out}")
+    return [it for it in out.splitlines() if it.startswith(begin[:4])]
+
+
+@takes(12)
+def test_without_its_first_files(bench):
+    """The first file is removed: from the next one on the recording is replayed, as the service was set up then. A subscriber that connects after that
+    is compared, and each of its frames explained as by the whole recording."""
+    folder, fast = folder_of(bench), bench.source(8)
+    text, taps = service(bench, folder, more="record_mb = 16\n")
+    gateway = bench.gateway(text + pmu(8, ahead_ms=None, connect=fast.address)).serves(1, 2, 3)
+    link = fast.come()
+    taps[1].connect(101)
+    taps[2].connect(201, 202)
+    gateway.does("revoke 1 9/91", "done 0 0")
+    taps[3].connect(301)
+    taps[3].stop(301)
+    first = now_soc() * fast.rate
+    frames = b"".join(fast.data(first + at, at) for at in range(fast.rate))
+    link.socket.settimeout(60)
+    while len(files_in(folder)) < 3:
+        link.send(frames * 100)
+        time.sleep(0.3)
+    gateway.does("grant 1 9/91", "done 0 0")
+    taps[1].stop(101)
+    begin = time.strftime("%Y-%m-%dT%H:%M:%SZ", time.gmtime(time.time() + 2))
+    taps[1].connect(101)
+    taps[3].connect(301)
+    taps[1].comes(6_000)
+    taps[1].stop(101)
+    gateway.quit()
+    whole, files = verified(bench, folder), files_in(folder)
+    status, out, errors = tool(bench, "verify", files[2:])
+    lines, found = out.splitlines(), verdict_in(out)
+    same((status, errors, len(lines)), (0, "", 3), out)
+    expect(re.fullmatch(r"\S+Z: begins at place \d+, as the service was set up then", lines[0]), lines[0])
+    expect(re.fullmatch(r"not compared: \d+ drains, of subscribers whose queues may have had frames of before the recording", lines[1]), lines[1])
+    expect(50 < found["drains"] < whole["drains"], f"{found} of {whole}")
+    wanted = explained(bench, files, begin)
+    expect(len(wanted) > 30, f"{len(wanted)} lines")
+    same(explained(bench, files[2:], begin), wanted, "the lines of `explain`")
+
+
+@takes(6)
+def test_two_starts_in_one_folder(bench):
+    """The service is started again: `verify` and `explain` take both recordings, one after the other."""
+    folder = folder_of(bench)
+    text, taps = service(bench, folder)
+    counts = []
+    begin = time.strftime("%Y-%m-%dT%H:%M:%SZ", time.gmtime())
+    for _ in range(2):
+        gateway = bench.gateway(text).serves(1, 2, 3)
+        taps[1].connect(101)
+        taps[1].comes(2000)
+        taps[1].stop(101)
+        gateway.quit()
+        status, out, errors = tool(bench, "verify", files_in(folder))
+        same((status, errors), (0, ""), out)
+        counts.append((verdict_in(out)["drains"], len(explained(bench, files_in(folder), begin)), out.count("\n")))
+    (drains, frames, lines), (both, frames_of_both, lines_of_both) = counts
+    expect(both > drains + 20 and frames_of_both > frames + 10, f"{counts}")
+    same((lines, lines_of_both), (1, 2), "lines of `verify`")
+    expect(re.match(r"\S+Z: the service started again\n", out), out)
+
+
 def recorded(page):
     """What the metrics say of the recording: bytes written and not written, calls missed and unspelled."""
     found = metrics(page)

@@ -19,14 +19,17 @@ Exit status:
 /// Of `script`.
 pub const SCRIPT: &str = "\
 Prints a line for each call of the gateway that the service recorded, in their order, and comments with the time and the place of
-what follows. A place without a record is printed as missing.
+what follows. A place without a record is printed as missing. Where the first files are not given, the first lines set the gateway
+up as it was at the next one. The script of a second start of the service has to be replayed by itself.
 
   pdcgw script RECORDS/*.pdcrec | pdcgw replay";
 
 /// Of `verify`.
 pub const VERIFY: &str = "\
-Replays a recording from the start of the service on, and compares what each drain hands out with what the service handed to
-the subscriber. The last line is
+Replays a recording, and compares what each drain hands out with what the service handed to the subscriber. Where the first files
+are not given, it begins as the service was set up at the next one: a subscriber is compared from its next connection on, or a minute
+later from where its queue is empty; `not compared` has the drains before. Files of several starts of the service are replayed one
+start after the other. The last line is
 
   records N missing N unspelled N drains N differing N answers differing N
 
@@ -38,8 +41,8 @@ Exit status:
 
 /// Of `explain`.
 pub const EXPLAIN: &str = "\
-Replays a recording from the start of the service on, and prints a line for each data frame of the subscriber whose time, that of
-its SOC and FRACSEC, lies from --from on and before --to:
+Replays a recording, and prints a line for each data frame of the subscriber whose time, that of its SOC and FRACSEC, lies from --from
+on and before --to. Give the file before that time too: frames that were open or queued where the first file begins lack blocks.
 
   TIME stream N CAUSE left +MS ms handed +MS ms gap N: PMU +MS ms, PMU filler, late +MS ms, ..
 
@@ -236,7 +239,7 @@ pub const BRIDGE: &str = "\
 Connects to ADDRESS as `watch` does, starts the stream, and prints it as lines, each of which stands by itself. They are meant for
 a pipe to the client of a message broker or a database:
 
-    pdcgw bridge 127.0.0.1:4800 --stream 101 | mosquitto_pub -l -q 1 -t pmu/101
+    pdcgw bridge 127.0.0.1:4800 --stream 101 | mosquitto_pub -l -q 2 -c -i pdcgw-101 -t pmu/101
 
 Formats: json, an object; influx, InfluxDB line protocol; csv, always the same 18 columns without a heading: type, time, gateway,
 stream, idcode, station, stat, good, filled, time_quality, leap_second, frequency, rocof, from, to, slots, why, detail (JSON).

@@ -9,6 +9,10 @@ use crate::numbers::{eight, four, two};
 /// How many bytes a block has before its records.
 pub const BLOCK_HEAD: usize = 30;
 
+/// The number of a block that is no worker's, at the head of a file. Its records set a replay up, at the places of their calls, and what follows
+/// begins behind the highest of them. That of the first file is empty.
+pub const PRELUDE: u16 = 65_535;
+
 /// What a block begins with, in ASCII: the name of the format, with its version, "pdcgrec1".
 const MAGIC: u64 = 0x7064_6367_7265_6331;
 

@@ -23,7 +23,8 @@ pub fn sum(bytes: &[u8]) -> u64 {
     sum
 }
 
-/// The low 32 bits of the same, for what a drain handed out.
+/// Both halves of the same in 32 bits, for what a drain handed out. (The low half alone has nothing of the last four of eight bytes.)
 pub fn short_sum(bytes: &[u8]) -> u32 {
-    (sum(bytes) & 0xFFFF_FFFF) as u32
+    let sum = sum(bytes);
+    ((sum ^ (sum >> 32)) & 0xFFFF_FFFF) as u32
 }

@@ -14,7 +14,9 @@ mod tape;
 #[cfg(test)]
 mod tests;
 
-pub use block::{BLOCK_HEAD, BlockHead, FoundBlock, block_head, next_block, read_block_head};
+pub use block::{
+    BLOCK_HEAD, BlockHead, FoundBlock, PRELUDE, block_head, next_block, read_block_head,
+};
 pub use checksum::{short_sum, sum};
 pub use laws::{block_head_is_read, record_is_read};
 pub use merge::{Merge, Merged, Timed};

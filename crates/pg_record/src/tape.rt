@@ -121,7 +121,11 @@ impl TapedCalls {
     }
 
     /// Appends the record of a call to these bytes. One whose body has more bytes than two bytes count is left out.
-    fn write_call(&self, call: &TapedCall, out: &mut Vec<u8>) -> Result<(), AllocError>
+    ///
+    /// # Errors
+    ///
+    /// There is no memory for it.
+    pub fn write_call(&self, call: &TapedCall, out: &mut Vec<u8>) -> Result<(), AllocError>
         ensures written { IfOk result (λ _. out.new.items ≡ out.old.items ++ spelled_call self.now.bodies.items call.now) }
     {
         let rest = self.rest_of(call);

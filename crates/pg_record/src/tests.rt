@@ -4,7 +4,7 @@ ghost use Rattle.std.specs.Prelude.{◌≡◌};
 
 use crate::{
     BlockHead, DONE, FoundBlock, Front, LOST, Merge, Merged, Record, RecordKind, Recording,
-    Records, Tape, TapedCalls, block_head, next_block, read_record, sum,
+    Records, Tape, TapedCalls, block_head, next_block, read_record, short_sum, sum,
 };
 use pg_turn::{Machine, Seat, Turnstile};
 use std::alloc::{AllocError, Global};
@@ -110,6 +110,24 @@ fn sums(rt: HostRuntime) -> Result<(), Fail> {
     assert!(rt; sum(b"a") == 0xaf63_dc4c_8601_ec8c);
     assert!(rt; sum(b"12345678") == 0x49f2_564e_2d00_04fc);
     assert!(rt; sum(b"123456789") == 0xa6cd_6bd6_7708_1abf);
+    let mut bytes = [0; 75];
+    for (at, byte) in bytes.iter_mut().enumerate() {
+        *byte = u8::try_from(at).unwrap_or(0);
+    }
+    assert!(rt; sum(&bytes) == 0x57dc_59d4_d1f0_657a);
+    assert!(rt; short_sum(&bytes) == 0x862c_3cae);
+    Ok(())
+}
+
+/// The short sum of bytes is another one where one of them is changed, whichever it is.
+#[test]
+fn short_sums_differ(rt: HostRuntime) -> Result<(), Fail> {
+    let before = short_sum(&[7; 75]);
+    for at in 0..75 {
+        let mut bytes = [7; 75];
+        bytes[at] = 8;
+        assert!(rt; short_sum(&bytes) != before);
+    }
     Ok(())
 }
 

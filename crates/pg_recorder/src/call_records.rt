@@ -12,8 +12,8 @@ pub trait CallRecords: Sized + Drop {
     /// Those of one more worker of this recorder.
     fn of<R: Wait>(rt: &R, recorder: Option<&Recorder>) -> Self;
 
-    /// A round of the worker begins: what it records has this machine's time by now.
-    fn begin_round<R: Clock>(&mut self, rt: &R);
+    /// A round of the worker begins: what it records has this machine's time by now. What is left of the round before is handed over.
+    fn begin_round<R: Wait + Clock>(&mut self, rt: &R);
 
     /// A round of the worker ends: what it recorded is handed over.
     fn end_round<R: Wait>(&mut self, rt: &R);
@@ -38,7 +38,7 @@ impl CallRecords for Unrecorded {
     }
 
     #[inline(always)]
-    fn begin_round<R: Clock>(&mut self, _: &R) {}
+    fn begin_round<R: Wait + Clock>(&mut self, _: &R) {}
 
     #[inline(always)]
     fn end_round<R: Wait>(&mut self, _: &R) {}
@@ -65,8 +65,9 @@ impl CallRecords for Recorded {
         }
     }
 
-    fn begin_round<R: Clock>(&mut self, rt: &R) {
+    fn begin_round<R: Wait + Clock>(&mut self, rt: &R) {
         if let Some(tape) = &mut self.tape {
+            tape.hand_over(rt);
             tape.begin_round(rt);
         }
     }
@@ -111,7 +112,7 @@ impl CallRecords for RecordedAtOnce {
         }
     }
 
-    fn begin_round<R: Clock>(&mut self, _: &R) {}
+    fn begin_round<R: Wait + Clock>(&mut self, _: &R) {}
 
     fn end_round<R: Wait>(&mut self, _: &R) {}
 

@@ -1,5 +1,6 @@
 //! Where threads that record hand their records over, and where the writer takes them.
 
+use crate::prelude::Prelude;
 use pg_record::{Tape, TapedCalls};
 use pg_wire::Refusal;
 use std::alloc::{AllocError, Global};
@@ -11,6 +12,11 @@ use std::sync::{Arc, Mutex, Wait};
 const MOST_CALLS: usize = 32_768;
 
 const MOST_BYTES: usize = 4_194_304;
+
+/// From how many calls on, and how many bytes of their bodies, a thread hands them over before the end of its round, and the writer does not wait.
+pub(crate) const MANY_CALLS: usize = 2_048;
+
+pub(crate) const MANY_BYTES: usize = 65_536;
 
 /// Calls that were handed over.
 #[derive(Drop)]
@@ -28,6 +34,8 @@ pub struct TapeSlot {
     handed: Mutex<Handed>,
     // Whether calls wait to be written, so that a thread sees that without a lock.
     is_full: AtomicBool,
+    // Whether the thread has many calls to be written.
+    has_many: AtomicBool,
     // The last calls of the thread, where others still waited when it ended.
     last: Mutex<Option<Handed>>,
     missed: AtomicU64,
@@ -42,6 +50,7 @@ impl TapeSlot {
             alloc,
             handed: Mutex::new(Handed { calls, start: 0 }),
             is_full: AtomicBool::new(false),
+            has_many: AtomicBool::new(false),
             last: Mutex::new(None),
             missed: AtomicU64::new(0),
             unspelled: AtomicU64::new(0),
@@ -50,6 +59,9 @@ impl TapeSlot {
 
     /// Hands the calls of a tape over, where those that were handed over last were taken.
     pub(crate) fn hand_over<R: Wait>(&self, rt: &R, tape: &mut Tape, start: u64) -> bool {
+        if tape.calls() >= MANY_CALLS || tape.bytes() >= MANY_BYTES {
+            self.has_many.store(true, Ordering::SeqCst);
+        }
         if self.is_full.load(Ordering::SeqCst) {
             return false;
         }
@@ -83,6 +95,7 @@ impl TapeSlot {
 
     /// Exchanges what was handed over for this room for the next calls; `None` where nothing was handed over, and then the room is as it was.
     pub fn take<R: Wait>(&self, rt: &R, room: &mut TapedCalls) -> Option<Handed> {
+        self.has_many.store(false, Ordering::SeqCst);
         if !self.is_full.load(Ordering::SeqCst) {
             return None;
         }
@@ -93,6 +106,11 @@ impl TapeSlot {
         drop(handed);
         self.is_full.store(false, Ordering::SeqCst);
         Some(Handed { calls, start })
+    }
+
+    /// Whether the thread has so many calls to be written that it may have no room soon.
+    pub(crate) fn has_many(&self) -> bool {
+        self.has_many.load(Ordering::SeqCst)
     }
 
     /// How many records found no room so far.
@@ -117,6 +135,8 @@ pub struct Recorder {
     alloc: Global,
     slots: Vec<Arc<TapeSlot>>,
     tapes: Mutex<Vec<Tape>>,
+    // What was set up by the calls that the writer took. (The writer alone locks it.)
+    pub(crate) prelude: Mutex<Prelude>,
     // The bytes that were written, and those that could not be.
     written: AtomicU64,
     unwritten: AtomicU64,
@@ -139,6 +159,7 @@ impl Recorder {
             alloc,
             slots,
             tapes: Mutex::new(tapes),
+            prelude: Mutex::new(Prelude::new(alloc)),
             written: AtomicU64::new(0),
             unwritten: AtomicU64::new(0),
         })

@@ -5,6 +5,7 @@
 
 mod call_records;
 mod exchange;
+mod prelude;
 mod script_lines;
 mod segments;
 mod worker_gate;

@@ -1,9 +1,10 @@
 //! The files of a recording: segments, each begun at a time, of which the oldest are removed.
 
+use crate::prelude::Prelude;
 use crate::writer::ms_of;
 use jiff_core::Timestamp;
 use jiff_fmt::temporal::DateTimePrinter;
-use pg_record::{BlockHead, block_head, sum};
+use pg_record::{BlockHead, PRELUDE, block_head, sum};
 use std::alloc::{AllocError, Global};
 use std::collections::VecDeque;
 use std::fs::{File, Metadata, OpenOptions};
@@ -107,19 +108,27 @@ impl<'a> Segments<'a> {
     }
 
     /// Writes a block with these records, which were begun at `start`; `now` is this machine's time. Where it can't be written it is left out, and
-    /// so are all blocks of the next ten seconds; then a segment is begun. Returns how many bytes were written.
+    /// so are all blocks of the next ten seconds; then a segment is begun. A segment begins with what was set up before this block. Returns how
+    /// many bytes were written.
     ///
     /// # Errors
     ///
     /// That of the system, and `OutOfMemory`.
-    pub fn write(&mut self, worker: u16, start: u64, records: &[u8], now: u64) -> io::Result<u64> {
+    pub(crate) fn write(
+        &mut self,
+        worker: u16,
+        start: u64,
+        records: &[u8],
+        now: u64,
+        prelude: &mut Prelude,
+    ) -> io::Result<u64> {
         if let Some(failed) = self.failed {
             if failed <= now && now < failed.saturating_add(RETRY_MS) {
                 return Ok(0);
             }
             self.failed = None;
         }
-        let written = self.write_block(worker, start, records, now);
+        let written = self.write_due(worker, start, records, now, prelude);
         if written.is_err() {
             self.open = None;
             self.failed = Some(now);
@@ -127,7 +136,26 @@ impl<'a> Segments<'a> {
         written
     }
 
-    /// Writes a block.
+    /// Writes a block, behind a prelude where a segment begins with it.
+    fn write_due(
+        &mut self,
+        worker: u16,
+        start: u64,
+        records: &[u8],
+        now: u64,
+        prelude: &mut Prelude,
+    ) -> io::Result<u64> {
+        let mut size: u64 = 0;
+        if self.begin_if_due(now)? {
+            let mut before = Vec::new(self.alloc);
+            if prelude.write_to(now, &mut before)? && before.len() as u64 <= self.part() / 2 {
+                size = self.write_block(PRELUDE, now, &before, now)?;
+            }
+        }
+        Ok(size.saturating_add(self.write_block(worker, start, records, now)?))
+    }
+
+    /// Writes a block to the open segment.
     fn write_block(
         &mut self,
         worker: u16,
@@ -138,7 +166,6 @@ impl<'a> Segments<'a> {
         let Ok(size) = u32::try_from(records.len()) else {
             return Err(io::Error::from(ErrorKind::InvalidInput));
         };
-        self.begin_if_due(now)?;
         let head = block_head(&BlockHead {
             worker,
             size,
@@ -158,12 +185,17 @@ impl<'a> Segments<'a> {
         Ok(size)
     }
 
-    /// Begins a segment where none is open, or the open one is large or old. Before that the oldest ones are removed.
-    fn begin_if_due(&mut self, now: u64) -> io::Result<()> {
-        let is_large = self.size >= (self.room / PARTS).min(MOST);
+    /// How many bytes a segment has before the next one is begun.
+    fn part(&self) -> u64 {
+        (self.room / PARTS).min(MOST)
+    }
+
+    /// Begins a segment where none is open, or the open one is large or old, and says whether it did. Before that the oldest ones are removed.
+    fn begin_if_due(&mut self, now: u64) -> io::Result<bool> {
+        let is_large = self.size >= self.part();
         let is_old = now.saturating_sub(self.begun) >= SPAN_MS.min(self.span / PARTS);
         if self.open.is_some() && !is_large && !is_old {
-            return Ok(());
+            return Ok(false);
         }
         self.open = None;
         self.remove_oldest(now);
@@ -179,13 +211,13 @@ impl<'a> Segments<'a> {
             size: 0,
             until: now,
         })?;
-        Ok(())
+        Ok(true)
     }
 
     /// Removes the oldest segments while there are more bytes than are kept, or they are older than they are kept. A segment that can't be
     /// removed is not looked at any more.
     fn remove_oldest(&mut self, now: u64) {
-        let part = (self.room / PARTS).min(MOST);
+        let part = self.part();
         for _ in 0..self.kept.len() {
             let mut size: u64 = 0;
             for kept in &self.kept {

@@ -1,6 +1,6 @@
 //! What one thread records of its calls.
 
-use crate::exchange::{Recorder, TapeSlot};
+use crate::exchange::{MANY_BYTES, MANY_CALLS, Recorder, TapeSlot};
 use crate::script_lines::edit_line;
 use crate::writer::now_ms;
 use pg_config::{SourceConfig, write_source};
@@ -10,11 +10,6 @@ use pg_wire::Refusal;
 use std::alloc::Global;
 use std::rt::Clock;
 use std::sync::{Arc, Wait};
-
-/// From how many calls on, and how many bytes of their bodies, they are handed over before the end of the round.
-const MANY_CALLS: usize = 2_048;
-
-const MANY_BYTES: usize = 65_536;
 
 /// The records of one thread. It keeps them until the writer has taken what it handed over before.
 #[derive(Drop)]

@@ -12,8 +12,11 @@ use std::sync::Wait;
 use std::time::{Duration, SystemTime};
 use std::{io, thread};
 
-/// How long is waited in one turn, in milliseconds. What a thread has handed over is written so late at most.
-const WAIT_MS: u64 = 100;
+/// How long is waited at a time, in milliseconds, and how often in one turn: what a thread has handed over is written 100 ms later at most. Where a thread
+/// has many calls it is not waited again.
+const WAIT_MS: u64 = 10;
+
+const WAITS: usize = 10;
 
 /// A worker that writes what the threads of a recorder hand over. No other worker waits for it.
 #[derive(Drop)]
@@ -71,17 +74,23 @@ impl<'a, R: Wait + Clock> RecordWriter<'a, R> {
     fn write(&mut self, worker: u16, handed: &Handed) {
         let now = now_ms(self.rt).unwrap_or(handed.start);
         self.records.clear();
+        let recorder = self.recorder;
+        let mut prelude = recorder.prelude.lock(self.rt);
         let written = match handed.calls.write_to(&mut self.records) {
-            Ok(()) => self
-                .segments
-                .write(worker, handed.start, &self.records, now),
+            Ok(()) => {
+                let start = handed.start;
+                self.segments
+                    .write(worker, start, &self.records, now, &mut prelude)
+            }
             Err(_) => Err(io::Error::from(ErrorKind::OutOfMemory)),
         };
+        prelude.keep(&handed.calls);
+        drop(prelude);
         match written {
-            Ok(0) => self.recorder.count_unwritten(self.records.len()),
-            Ok(size) => self.recorder.count_written(size),
+            Ok(0) => recorder.count_unwritten(self.records.len()),
+            Ok(size) => recorder.count_written(size),
             Err(error) => {
-                self.recorder.count_unwritten(self.records.len());
+                recorder.count_unwritten(self.records.len());
                 self.report(&error);
             }
         }
@@ -120,7 +129,12 @@ pub(crate) fn ms_of(time: SystemTime) -> Option<u64> {
 
 impl<R: Wait + Clock> Work for RecordWriter<'_, R> {
     fn turn(&mut self) -> bool {
-        thread::sleep(self.rt, Duration::from_millis(WAIT_MS));
+        for _ in 0..WAITS {
+            if self.recorder.slots().iter().any(|slot| slot.has_many()) {
+                break;
+            }
+            thread::sleep(self.rt, Duration::from_millis(WAIT_MS));
+        }
         self.write_all();
         true
     }

@@ -4,9 +4,9 @@ use crate::capture::Capture;
 use crate::explained::{Form, Totals, print_frame, print_heading};
 use crate::fates::{Causes, Fate, Handing, MadeFrame, Place, StreamTrack};
 use crate::input::command;
-use crate::reader::{Fault, RecordReader, Step};
+use crate::reader::{Fault, RecordReader, Start, Step};
 use crate::replayed::Replayed;
-use crate::script::{notice_text, print_line};
+use crate::script::{notice_text, print_line, start_text};
 use pg_audit::PmuStats;
 use pg_data::DataFrame;
 use pg_gateway::{Event, Reply};
@@ -77,6 +77,8 @@ struct Explanation<C> {
     alloc: Global,
     inquiry: Inquiry,
     replayed: Replayed,
+    // Whether a recording has begun.
+    is_begun: bool,
     streams: Vec<StreamTrack>,
     // Those that are not printed yet.
     frames: VecDeque<MadeFrame>,
@@ -105,6 +107,7 @@ pub fn explain<W: Write, C: Write + Drop>(
         alloc,
         inquiry,
         replayed: Replayed::new(alloc)?,
+        is_begun: false,
         streams: Vec::new(alloc),
         frames: VecDeque::new(alloc),
         handed,
@@ -117,6 +120,7 @@ pub fn explain<W: Write, C: Write + Drop>(
     print_heading(inquiry.form(), out)?;
     for _ in 0..u64::MAX {
         match reader.next()? {
+            Step::Start(start) => explanation.begin(start, out)?,
             Step::Record(timed) => {
                 if explanation.is_over(timed.at) {
                     break;
@@ -169,6 +173,21 @@ impl<C: Write + Drop> Explanation<C> {
     /// Whether all frames that are asked for have left, and are settled.
     fn is_over(&self, now: u64) -> bool {
         self.frames.is_empty() && now >= self.inquiry.to.saturating_add(2 * LATEST_MS)
+    }
+
+    /// Begins a recording. What waited at the end of one before it is not handed out any more.
+    fn begin<W: Write>(&mut self, start: Start, out: &mut W) -> Result<(), Fault> {
+        let is_first = !self.is_begun;
+        self.is_begun = true;
+        if !is_first {
+            self.replayed = Replayed::new(self.alloc)?;
+            self.streams.clear();
+            self.disconnect(start.at)?;
+        }
+        match start_text(self.alloc, start, is_first)? {
+            Some(text) => print_comment(self.alloc, text.as_str(), out),
+            None => Ok(()),
+        }
     }
 
     /// Notes places without a record.
@@ -425,7 +444,12 @@ impl<C: Write + Drop> Explanation<C> {
         let Some(id) = self.streams.get(stream).map(|it| it.id) else {
             return Ok(());
         };
-        let stamps = self.newest(id, causes.sum())?;
+        let last = self
+            .frames
+            .iter()
+            .rposition(|it| it.stream == id && it.handing == Handing::Waiting);
+        let known = last.and_then(|it| self.frames.get(it)).map(|it| it.stamp);
+        let stamps = self.newest(id, causes.sum(), known)?;
         let unseen = causes.sum().saturating_sub(stamps.len() as u64);
         self.totals.unseen = self.totals.unseen.saturating_add(unseen);
         for (soc, frac) in &stamps {
@@ -483,8 +507,14 @@ impl<C: Write + Drop> Explanation<C> {
         Ok(())
     }
 
-    /// SOC and FRACSEC's numerator of the newest frames of a stream that are in the queue, so many at most, the oldest first.
-    fn newest(&self, stream: StreamId, count: u64) -> Result<Vec<(u32, u32)>, AllocError> {
+    /// SOC and FRACSEC's numerator of the frames of a stream in the queue that are newer than the known one, so many at most, the oldest first. (Where
+    /// the queue has no room for a frame none is newer.)
+    fn newest(
+        &self,
+        stream: StreamId,
+        count: u64,
+        known: Option<(u32, u32)>,
+    ) -> Result<Vec<(u32, u32)>, AllocError> {
         let mut stamps = Vec::new(self.alloc);
         let Some(queue) = self.replayed.queue(self.inquiry.subscriber) else {
             return Ok(stamps);
@@ -499,6 +529,9 @@ impl<C: Write + Drop> Explanation<C> {
             };
             if let Some((id, soc, frac)) = stamp_in(frame) {
                 if id == stream.get() {
+                    if known == Some((soc, frac)) {
+                        break;
+                    }
                     stamps.push((soc, frac))?;
                 }
             }

@@ -20,6 +20,6 @@ pub use explanation::{Inquiry, explain};
 pub use input::input_of;
 pub use laws::records_are_spelled;
 pub use line::line_of;
-pub use reader::{Fault, Notice, RecordReader, Step};
+pub use reader::{Fault, Notice, RecordReader, Start, Step};
 pub use script::{print_script, read_time};
 pub use verification::{Verdict, verify};

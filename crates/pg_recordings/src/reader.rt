@@ -1,6 +1,9 @@
 //! The records of files, in the order of their places.
 
-use pg_record::{BLOCK_HEAD, BlockHead, Merge, Merged, Timed, read_block_head, sum};
+use pg_record::{
+    BLOCK_HEAD, BlockHead, Merge, Merged, PRELUDE, RecordKind, Timed, read_block_head, read_record,
+    sum,
+};
 use std::alloc::{AllocError, AllocFailed, Global};
 use std::fs::{File, OpenOptions};
 use std::io;
@@ -47,9 +50,20 @@ pub enum Notice {
     Other(u64),
 }
 
+/// Where a recording begins.
+#[derive(Clone, Copy, Debug, PartialEq, Eq)]
+pub struct Start {
+    /// Its first place. The records before that set a replay up as the service was then.
+    pub place: u64,
+    /// When its first file was begun: milliseconds since 1970-01-01 00:00 UTC.
+    pub at: u64,
+}
+
 /// What comes next.
 #[derive(Drop)]
 pub enum Step {
+    /// A recording begins: that of another start of the service, where one came before.
+    Start(Start),
     /// The record of the next place.
     Record(Timed),
     /// The places from the first one on, up to the second one and without it, have no record.
@@ -76,6 +90,16 @@ struct Open {
     at: u64,
 }
 
+/// What a recording begins with.
+#[derive(Drop)]
+struct Prelude {
+    start: Start,
+    // When the first file of the recording was begun, by which it is known.
+    recording: u64,
+    head: BlockHead,
+    records: Vec<u8>,
+}
+
 /// Reads recordings, one file after another.
 #[derive(Drop)]
 pub struct RecordReader<'a> {
@@ -85,6 +109,10 @@ pub struct RecordReader<'a> {
     next: usize,
     open: Option<Open>,
     merge: Merge,
+    // The recording that is read, and its first place; and the next one, of which a file was opened.
+    recording: Option<u64>,
+    first: u64,
+    following: Option<Prelude>,
 }
 
 impl<'a> RecordReader<'a> {
@@ -97,6 +125,9 @@ impl<'a> RecordReader<'a> {
             next: 0,
             open: None,
             merge: Merge::new(alloc, 0),
+            recording: None,
+            first: 0,
+            following: None,
         }
     }
 
@@ -110,7 +141,7 @@ impl<'a> RecordReader<'a> {
         self.merge.repeated()
     }
 
-    /// What comes next.
+    /// What comes next. Of the places before the first one of a recording only records come, and of them those that set a replay up.
     ///
     /// # Errors
     ///
@@ -118,11 +149,21 @@ impl<'a> RecordReader<'a> {
     pub fn next(&mut self) -> Result<Step, Fault> {
         for _ in 0..u64::MAX {
             let is_ended = self.open.is_none() && self.next >= self.paths.len();
-            match self.merge.next(is_ended) {
-                Merged::Record(timed) => return Ok(Step::Record(timed)),
-                Merged::Gap(from, to) => return Ok(Step::Gap(from, to)),
-                Merged::More if is_ended => return Ok(Step::End),
+            match self.merge.next(is_ended || self.following.is_some()) {
+                Merged::Record(timed) if self.sets_up_or_counts(&timed) => {
+                    return Ok(Step::Record(timed));
+                }
+                Merged::Gap(from, to) if to > self.first => {
+                    return Ok(Step::Gap(from.max(self.first), to));
+                }
+                Merged::Record(_) | Merged::Gap(..) => continue,
                 Merged::More => {}
+            }
+            if let Some(prelude) = self.following.take() {
+                return self.begin(&prelude);
+            }
+            if is_ended {
+                return Ok(Step::End);
             }
             if let Some(notice) = self.read()? {
                 let file = self.next.saturating_sub(1);
@@ -130,6 +171,24 @@ impl<'a> RecordReader<'a> {
             }
         }
         Ok(Step::End)
+    }
+
+    /// Whether a record is one of the recording, or one before it that sets a replay up.
+    fn sets_up_or_counts(&self, timed: &Timed) -> bool {
+        timed.record.place >= self.first
+            || !matches!(
+                timed.record.kind,
+                RecordKind::Measurement | RecordKind::Drain | RecordKind::Question
+            )
+    }
+
+    /// Begins a recording.
+    fn begin(&mut self, prelude: &Prelude) -> Result<Step, Fault> {
+        self.merge = Merge::new(self.alloc, 0);
+        self.recording = Some(prelude.recording);
+        self.first = prelude.start.place;
+        self.merge.add(&prelude.head, &prelude.records)?;
+        Ok(Step::Start(prelude.start))
     }
 
     /// Reads a block, or opens the next file.
@@ -140,6 +199,14 @@ impl<'a> RecordReader<'a> {
         };
         let at = self.next.saturating_sub(1);
         match open.piece(self.alloc) {
+            Ok(Piece::Block(head, records)) if head.worker == PRELUDE => {
+                let prelude = prelude_of(head, records);
+                // (The files of one recording are read in a row.)
+                if self.recording != Some(prelude.recording) {
+                    self.following = Some(prelude);
+                }
+                Ok(None)
+            }
             Ok(Piece::Block(head, records)) => {
                 self.merge.add(&head, &records)?;
                 Ok(None)
@@ -222,6 +289,33 @@ impl Open {
         }
         self.at = self.at.saturating_add(filled as u64);
         Ok(filled)
+    }
+}
+
+/// What a recording begins with, of the block at the head of a file: the last record is at the highest place, and its body says when the first file
+/// was begun. The first file has an empty block.
+fn prelude_of(head: BlockHead, records: Vec<u8>) -> Prelude {
+    let (mut place, mut recording) = (0, head.start);
+    let mut rest = records.as_slice();
+    for _ in 0..records.len() {
+        let Some((record, body, behind)) = read_record(rest) else {
+            break;
+        };
+        place = record.place.saturating_add(1);
+        if let Some((begun, _)) = body.split_first_chunk::<8>() {
+            recording = u64::from_be_bytes(*begun);
+        }
+        rest = behind;
+    }
+    let start = Start {
+        place,
+        at: head.start,
+    };
+    Prelude {
+        start,
+        recording,
+        head,
+        records,
     }
 }
 

@@ -1,7 +1,7 @@
 //! The script that replays a recording.
 
 use crate::line::line_of;
-use crate::reader::{Fault, Notice, RecordReader, Step};
+use crate::reader::{Fault, Notice, RecordReader, Start, Step};
 use jiff_core::Timestamp;
 use jiff_fmt::temporal::{DateTimePrinter, parse_timestamp};
 use pg_record::{RecordKind, Timed};
@@ -50,6 +50,23 @@ pub(crate) fn notice_text(alloc: Global, file: &str, notice: Notice) -> Result<S
     }
 }
 
+/// Where a recording begins, as text; `None` where it is the first one, and whole.
+pub(crate) fn start_text(
+    alloc: Global,
+    start: Start,
+    is_first: bool,
+) -> Result<Option<String>, AllocError> {
+    let time = time_text(alloc, start.at)?;
+    let (time, place) = (time.as_str(), start.place);
+    Ok(match (place, is_first) {
+        (0, true) => None,
+        (0, false) => Some(format!(in alloc; "{time}: the service started again")?),
+        _ => Some(format!(in alloc;
+            "{time}: begins at place {place}, as the service was set up then"
+        )?),
+    })
+}
+
 /// Prints the script of a recording: a line for each record that is one, and comments with the place and the time of what follows, and with
 /// what is missing.
 ///
@@ -62,9 +79,20 @@ pub fn print_script<W: Write>(
     out: &mut W,
 ) -> Result<(), Fault> {
     let mut shown = 0;
+    let mut is_first = true;
     for _ in 0..u64::MAX {
         match reader.next()? {
-            Step::Record(timed) => print_record(alloc, &timed, &mut shown, out)?,
+            Step::Start(start) => {
+                if let Some(text) = start_text(alloc, start, is_first)? {
+                    let line = format!(in alloc; "# {}", text.as_str())?;
+                    print_line(line.as_str(), out)?;
+                }
+                is_first = false;
+            }
+            Step::Record(timed) => {
+                is_first = false;
+                print_record(alloc, &timed, &mut shown, out)?;
+            }
             Step::Gap(from, to) => {
                 let last = to.saturating_sub(1);
                 let text = format!(in alloc; "# missing: places {from} to {last}")?;

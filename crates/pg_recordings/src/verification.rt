@@ -2,14 +2,17 @@
 
 ghost use Rattle.std.specs.Prelude.{◌≡◌, ◌&&◌, nat_eq};
 
-use crate::input::input_of;
-use crate::reader::{Fault, Notice, RecordReader, Step};
-use crate::script::{notice_text, print_line, time_text};
+use crate::input::{four, input_of};
+use crate::reader::{Fault, Notice, RecordReader, Start, Step};
+use crate::script::{notice_text, print_line, start_text, time_text};
 use pg_gateway::Reply;
 use pg_record::{DONE, LOST, RecordKind, Timed, short_sum};
 use pg_serve::{Note, Output, World};
 use std::alloc::{AllocError, Global};
 use std::io::Write;
+
+/// How long after the start of a recording slots may still be open, and frames queued, that were so before it: milliseconds.
+const SETTLED_MS: u64 = 60_000;
 
 /// What `verify` found.
 #[derive(Clone, Copy, Debug, PartialEq, Eq)]
@@ -43,7 +46,7 @@ impl Verdict {
         }
     }
 
-    /// Whether the recording is whole from the start of the service, and its replay hands out the same.
+    /// Whether the recording is whole from its start on, and its replay hands out the same.
     pub fn is_right(&self) -> bool
         ensures { result ≡ (nat_eq self.now.missing 0 && nat_eq self.now.notices 0 && nat_eq self.now.unspelled 0
             && nat_eq self.now.differing 0 && nat_eq self.now.answers 0) }
@@ -63,6 +66,12 @@ struct Replay {
     world: World,
     output: Output,
     verdict: Verdict,
+    // Where the recording begins; `None` before the first record.
+    start: Option<Start>,
+    // The subscribers that stand as they did in the service, where it does not begin with the start of that.
+    in_step: Vec<u16>,
+    // How many drains of others there were.
+    left_out: u64,
 }
 
 /// Replays a recording, compares what each drain hands out with what the service handed out, and prints what is missing, what differs first,
@@ -76,18 +85,18 @@ pub fn verify<W: Write>(
     reader: &mut RecordReader<'_>,
     out: &mut W,
 ) -> Result<Verdict, Fault> {
-    let world = match World::new(alloc) {
-        Ok(world) => world,
-        Err(_) => return Err(Fault::NoMemory),
-    };
     let mut replay = Replay {
         alloc,
-        world,
+        world: new_world(alloc)?,
         output: Output::new(alloc),
         verdict: Verdict::nothing(),
+        start: None,
+        in_step: Vec::new(alloc),
+        left_out: 0,
     };
     for _ in 0..u64::MAX {
         match reader.next()? {
+            Step::Start(start) => replay.begin(start, out)?,
             Step::Record(timed) => replay.take(&timed, out)?,
             Step::Gap(from, to) => replay.note_gap(from, to, out)?,
             Step::Notice(file, notice) => {
@@ -101,7 +110,51 @@ pub fn verify<W: Write>(
     replay.print_end(out)
 }
 
+/// A world without PMUs and subscribers.
+fn new_world(alloc: Global) -> Result<World, Fault> {
+    match World::new(alloc) {
+        Ok(world) => Ok(world),
+        Err(_) => Err(Fault::NoMemory),
+    }
+}
+
 impl Replay {
+    /// Begins a recording.
+    fn begin<W: Write>(&mut self, start: Start, out: &mut W) -> Result<(), Fault> {
+        let is_first = self.start.is_none();
+        self.print_left_out(out)?;
+        self.start = Some(start);
+        if !is_first {
+            self.world = new_world(self.alloc)?;
+            self.in_step.clear();
+        }
+        match start_text(self.alloc, start, is_first)? {
+            Some(text) => print_line(text.as_str(), out),
+            None => Ok(()),
+        }
+    }
+
+    /// The place at which the recording begins.
+    fn first(&self) -> u64 {
+        match self.start {
+            Some(start) => start.place,
+            None => 0,
+        }
+    }
+
+    /// Prints how many drains were not compared.
+    fn print_left_out<W: Write>(&mut self, out: &mut W) -> Result<(), Fault> {
+        if self.left_out == 0 {
+            return Ok(());
+        }
+        let left_out = self.left_out;
+        self.left_out = 0;
+        let text = format!(in self.alloc;
+            "not compared: {left_out} drains, of subscribers whose queues may have had frames of before the recording"
+        )?;
+        print_line(text.as_str(), out)
+    }
+
     /// Notes places without a record.
     fn note_gap<W: Write>(&mut self, from: u64, to: u64, out: &mut W) -> Result<(), Fault> {
         self.verdict.missing = self.verdict.missing.saturating_add(to.saturating_sub(from));
@@ -119,9 +172,12 @@ impl Replay {
 
     /// Replays a record.
     fn take<W: Write>(&mut self, timed: &Timed, out: &mut W) -> Result<(), Fault> {
-        self.verdict.records = self.verdict.records.saturating_add(1);
+        let is_setup = timed.record.place < self.first();
+        if !is_setup {
+            self.verdict.records = self.verdict.records.saturating_add(1);
+        }
         let Some(input) = input_of(self.alloc, &timed.record, &timed.body)? else {
-            if timed.record.kind != RecordKind::Question {
+            if timed.record.kind != RecordKind::Question && !is_setup {
                 self.verdict.unspelled = self.verdict.unspelled.saturating_add(1);
             }
             return Ok(());
@@ -129,7 +185,36 @@ impl Replay {
         if self.world.take(&input, &mut self.output).is_err() {
             return Err(Fault::NoMemory);
         }
+        if is_setup {
+            return Ok(());
+        }
         self.compare(timed, out)
+    }
+
+    /// Whether a drain is compared: the subscriber stands as it did in the service. Where the recording does not begin with the start of that, it
+    /// does behind a connection, and a minute later behind a drain that left nothing in its queue.
+    fn is_compared(&mut self, timed: &Timed, handed: u64) -> Result<bool, Fault> {
+        let record = &timed.record;
+        let Some(start) = self.start else {
+            return Ok(true);
+        };
+        if start.place == 0 || self.in_step.contains(&record.number) {
+            return Ok(true);
+        }
+        let room = u64::from(four(&timed.body).unwrap_or(0));
+        let is_empty = handed < room && u64::from(record.handed) < room;
+        if is_empty && timed.at >= start.at.saturating_add(SETTLED_MS) {
+            self.in_step.push(record.number)?;
+        }
+        Ok(false)
+    }
+
+    /// Notes that a subscriber has connected, so that it stands as it did in the service.
+    fn note_connection(&mut self, subscriber: u16) -> Result<(), Fault> {
+        if !self.in_step.contains(&subscriber) {
+            self.in_step.push(subscriber)?;
+        }
+        Ok(())
     }
 
     /// Compares the answer of the replay with that of the service.
@@ -145,14 +230,21 @@ impl Replay {
                 self.verdict.answers = self.verdict.answers.saturating_add(1);
                 return self.print_difference(timed, answer, self.verdict.answers == 1, out);
             }
+            if record.kind == RecordKind::Connect && record.answer == DONE {
+                return self.note_connection(record.number);
+            }
             return Ok(());
         }
-        self.verdict.drains = self.verdict.drains.saturating_add(1);
         let answer = replies.unwrap_or(Answered {
             answer: DONE,
             handed: 0,
             sum: 0,
         });
+        if !self.is_compared(timed, answer.handed)? {
+            self.left_out = self.left_out.saturating_add(1);
+            return Ok(());
+        }
+        self.verdict.drains = self.verdict.drains.saturating_add(1);
         let is_same = answer.answer == record.answer
             && answer.handed == u64::from(record.handed)
             && (answer.handed == 0 || answer.sum == record.sum);
@@ -194,7 +286,8 @@ impl Replay {
     }
 
     /// Prints what there is.
-    fn print_end<W: Write>(self, out: &mut W) -> Result<Verdict, Fault> {
+    fn print_end<W: Write>(mut self, out: &mut W) -> Result<Verdict, Fault> {
+        self.print_left_out(out)?;
         let Verdict {
             records,
             missing,
