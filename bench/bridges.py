@@ -19,32 +19,15 @@ import tempfile
 import time
 from datetime import datetime, timezone
 
+for place in ("tools", "tests"):
+    sys.path.insert(0, os.path.join(os.path.dirname(os.path.abspath(__file__)), "..", place))
+from peers import pmu, stream, subscriber  # noqa: E402
+
 RATE, STREAM = 30, 101
 FILES = os.path.join(os.path.dirname(os.path.abspath(__file__)), "..", "docs", "integration")
-SETUP = f"""\
-control = "FOLDER/control"
-[[pmu]]
-id = 7
-connect = "127.0.0.1:26712"
-silence = 3
-[[pmu]]
-id = 8
-source = 7
-[[subscriber]]
-id = 1
-port = 26801
-address = "127.0.0.1"
-takeover = true
-ring = 64
-grants = [7, "7/8"]
-[[subscriber.stream]]
-id = {STREAM}
-rate = {RATE}
-base = 1000000
-wait = 10
-window = 8
-members = [7, "7/8"]
-"""
+SETUP = "".join([
+    'control = "FOLDER/control"\n', pmu(7, None, connect="127.0.0.1:26712", silence=3), pmu(8, None, source=7),
+    subscriber(1, 26801, address="127.0.0.1", takeover=True, grants=[7, "7/8"]), stream(STREAM, [7, "7/8"], RATE, wait=10, window=8)])
 
 
 def run(*words, **keys):

@@ -18,33 +18,16 @@ import threading
 import time
 
 TOP = os.path.join(os.path.dirname(os.path.abspath(__file__)), "..")
-sys.path.insert(0, os.path.join(TOP, "tools"))
+for folder in ("tools", "tests"):
+    sys.path.insert(0, os.path.join(TOP, folder))
 import c37118  # noqa: E402
+from peers import pmu, stream, subscriber  # noqa: E402
 
 RATE, STREAM = 30, 101
 HOSTS = {"a": "10.9.0.1", "b": "10.9.0.2", "source": "10.9.0.3", "subscriber": "10.9.0.4"}
-SETUP = f"""\
-name = "gateway NAME"
-control = "FOLDER/NAME.control"
-status = "0.0.0.0:9100"
-[[pmu]]
-id = 7
-connect = "{HOSTS['source']}:4712"
-silence = 3
-[[subscriber]]
-id = 1
-port = 4801
-takeover = true
-ring = 64
-grants = [7]
-[[subscriber.stream]]
-id = {STREAM}
-rate = {RATE}
-base = 1000000
-wait = 10
-window = 8
-members = [7]
-"""
+SETUP = "".join([
+    'name = "gateway NAME"\ncontrol = "FOLDER/NAME.control"\nstatus = "0.0.0.0:9100"\n', pmu(7, None, connect=f"{HOSTS['source']}:4712", silence=3),
+    subscriber(1, 4801, takeover=True, grants=[7]), stream(STREAM, [7], RATE, wait=10, window=8)])
 
 
 def ip(*words):

@@ -46,7 +46,7 @@ def opened(port, receive):
     return made
 
 
-class Guest:
+class Client:
     """A subscriber that keeps the bytes of each of its connections, and whether that ended whole."""
 
     def __init__(self, port, streams):
@@ -130,10 +130,10 @@ def handed_by_replay(program, files):
 
 
 class Recorded:
-    """A gateway that records, and its guests, whose connections are compared with a replay at the end."""
+    """A gateway that records, and its clients, whose connections are compared with a replay at the end."""
 
-    def __init__(self, program, name, text, guests):
-        self.program, self.name, self.guests, self.room, self.missed = program, name, guests, tempfile.TemporaryDirectory(), 0
+    def __init__(self, program, name, text, clients):
+        self.program, self.name, self.clients, self.room, self.missed = program, name, clients, tempfile.TemporaryDirectory(), 0
         self.records, self.control = f"{self.room.name}/records", f"{self.room.name}/control"
         os.mkdir(self.records)
         self.text = f'record = "{self.records}"\ncontrol = "{self.control}"\nstatus = "127.0.0.1:{service.PAGE_PORT}"\n' + text
@@ -143,7 +143,7 @@ class Recorded:
         return self
 
     def connect(self):
-        for it in self.guests.values():
+        for it in self.clients.values():
             it.connect()
         time.sleep(0.5)
 
@@ -152,12 +152,12 @@ class Recorded:
         size, before = 0, -1
         while size != before:
             time.sleep(1)
-            size, before = sum(len(it.kept) for it in self.guests.values()), size
+            size, before = sum(len(it.kept) for it in self.clients.values()), size
 
     def __exit__(self, kind, *_):
         try:
             if not kind:
-                for it in self.guests.values():
+                for it in self.clients.values():
                     it.leave()
         finally:
             status = self.gateway.quit()
@@ -169,12 +169,12 @@ class Recorded:
         files = sorted(glob.glob(f"{self.records}/*.pdcrec"))
         done = subprocess.run([self.program, "verify", *files], stdout=subprocess.PIPE, text=True)
         found, handed, differ = verdict_in(done.stdout), handed_by_replay(self.program, files), []
-        for number, guest in self.guests.items():
-            wanted, came = handed.get(number, []), [it for it, _ in guest.ended]
-            alike = [it if is_whole else it[:len(own)] for it, (own, is_whole) in zip(wanted, guest.ended)]
-            if came != alike or len(came) != len(wanted) or sum(not is_whole for _, is_whole in guest.ended) != guest.broken:
+        for number, client in self.clients.items():
+            wanted, came = handed.get(number, []), [it for it, _ in client.ended]
+            alike = [it if is_whole else it[:len(own)] for it, (own, is_whole) in zip(wanted, client.ended)]
+            if came != alike or len(came) != len(wanted) or sum(not is_whole for _, is_whole in client.ended) != client.broken:
                 differ.append(f"    subscriber {number}: bytes {list(map(len, came))}, of the replay {list(map(len, wanted))}")
-        ended = [it for guest in self.guests.values() for it, _ in guest.ended]
+        ended = [it for client in self.clients.values() for it, _ in client.ended]
         service.tell(f"{self.name}: records, drains, missing; connections, bytes",
                      f"{found['records']:,}, {found['drains']:,}, {found['missing']:,}; {len(ended):,}, {sum(map(len, ended)):,}",
                      "the same, missing as metrics" if self.missed else "the same, 0 missing",
@@ -184,8 +184,8 @@ class Recorded:
 
 
 def recorded(program, name, sources, subscribers):
-    guests = {sub: Guest(service.FIRST_PORT + sub, [it for it, _, _ in streams]) for sub, _, streams in subscribers}
-    return Recorded(program, name, service.setup_text(10, sources, subscribers, ingest=2, serve=2), guests)
+    clients = {sub: Client(service.FIRST_PORT + sub, [it for it, _, _ in streams]) for sub, _, streams in subscribers}
+    return Recorded(program, name, service.setup_text(10, sources, subscribers, ingest=2, serve=2), clients)
 
 
 def case_demo(program):
@@ -193,13 +193,13 @@ def case_demo(program):
     with tempfile.TemporaryDirectory() as room:
         bench = peers.Bench(program, room)
         text, keys = "tick_ms = 10\ningest = 2\nserve = 2\n", {"wait": 6_000, "window": 64, "header": "pdcgw demo"}
-        guests = {number: Guest(bench.port(), [100 + number]) for number in (1, 2)}
+        clients = {number: Client(bench.port(), [100 + number]) for number in (1, 2)}
         for number in (7, 8):
             text += peers.pmu(number, ahead_ms=None, connect=peers.Simulated(bench, "--source", str(number)).address)
         for number, members in ((1, [7, 8]), (2, [8])):
-            text += peers.subscriber(number, guests[number].port, ring=1_024, grants=members) + peers.stream(100 + number, members, **keys)
+            text += peers.subscriber(number, clients[number].port, ring=1_024, grants=members) + peers.stream(100 + number, members, **keys)
         try:
-            with Recorded(program, "the demo for 10 s", text, guests) as it:
+            with Recorded(program, "the demo for 10 s", text, clients) as it:
                 it.connect()
                 for line in ("revoke 1 8", "grant 1 8", "droppmu 7", "addpmu 7", "stats 1"):
                     time.sleep(2)
@@ -214,7 +214,7 @@ def played(program, name, load, play, *words, deaf=None):
     told.get()
     with recorded(program, name, *load) as it:
         told.get()
-        late = it.guests.pop(deaf, None)
+        late = it.clients.pop(deaf, None)
         it.connect()
         if late:
             late.connect(receive=4_096)
@@ -222,7 +222,7 @@ def played(program, name, load, play, *words, deaf=None):
         told.get()
         it.settle()
         if late:
-            it.guests[deaf] = late
+            it.clients[deaf] = late
             late.read()
             it.settle()
             lost = int(it.gateway.ask(f"stats {deaf}").split()[4])
@@ -256,7 +256,7 @@ def send_all(peer, junk, _rest):
 def edit_and_reload(it):
     """`pdcgw ctl` revokes and grants PMUs of subscriber 5; then subscriber 6 has one more stream by a reload, and starts it. (Between two data
     frames both a revocation and a grant would disconnect subscriber 5, with a frame held back.)"""
-    peers.until(lambda: it.guests[5].last == DATA, "a data frame of subscriber 5", PATIENCE)
+    peers.until(lambda: it.clients[5].last == DATA, "a data frame of subscriber 5", PATIENCE)
     for line in ["revoke 5 100/100", "revoke 5 103/103", "grant 5 103/103", "grant 5 100/100"] * 2:
         done = subprocess.run([it.program, "ctl", "--control", it.control, line], stdout=subprocess.PIPE, text=True)
         peers.same((done.returncode, done.stdout[:5]), (0, "done "), line)
@@ -264,8 +264,8 @@ def edit_and_reload(it):
     with open(it.gateway.file.name, "w") as f:
         f.write(it.text.replace("[[subscriber]]\nid = 7\n", peers.stream(3_000, ["104/104"], rate=60) + "[[subscriber]]\nid = 7\n"))
     peers.same(it.gateway.ask("reload"), "reloaded: 1 edit, 0 changes of connections and ports", "reload")
-    it.guests[6].streams.append(3_000)
-    it.guests[6].say(3_000, words=(SEND_CONFIG_2, START))
+    it.clients[6].streams.append(3_000)
+    it.clients[6].say(3_000, words=(SEND_CONFIG_2, START))
 
 
 def case_trouble(program):
@@ -277,7 +277,7 @@ def case_trouble(program):
     told.get()
     works = [(service.flood_source, service.FIRST_SOURCE_PORT + 8 + at, kind) for at, kind in enumerate(("whole", "wrong", "garbage"))]
     with recorded(program, "8 sources, floods, misuse, edits, a reload", {**paced, 1: [1], 2: [2], 3: [3]}, subscribers) as it:
-        works += [(service.flood_subscriber, it.guests.pop(9).port), (service.misuse, it.control, service.PAGE_PORT)]
+        works += [(service.flood_subscriber, it.clients.pop(9).port), (service.misuse, it.control, service.PAGE_PORT)]
         others = [multiprocessing.Process(target=work, args=words, daemon=True) for work, *words in works]
         for other in others:
             other.start()
@@ -285,7 +285,7 @@ def case_trouble(program):
         it.connect()
         told.go.put("go")
         end = time.monotonic() + 9
-        threads = [threading.Thread(target=it.guests[7].flood, args=(end,)), threading.Thread(target=it.guests[8].come_and_go, args=(end,))]
+        threads = [threading.Thread(target=it.clients[7].flood, args=(end,)), threading.Thread(target=it.clients[8].come_and_go, args=(end,))]
         for thread in threads:
             thread.start()
         edit_and_reload(it)
@@ -301,7 +301,7 @@ def case_flood(program):
     """More commands at once than a thread has room for: none is missing, or as many as the metrics say."""
     with recorded(program, "100,000 commands at once", *recordings.one_stream(1, 60)) as it:
         it.connect()
-        it.guests[1].say(*it.guests[1].streams, words=[STOP] * 100_000)
+        it.clients[1].say(*it.clients[1].streams, words=[STOP] * 100_000)
         time.sleep(3)
         it.missed = int(peers.metrics(service.PAGE_PORT)["pdcgw_recording_missed_calls_total"])
 

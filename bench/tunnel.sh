@@ -8,7 +8,7 @@ set -eu
 program=$(realpath "$1")
 files=$(realpath "$(dirname "$0")/../docs/integration")
 room=$(mktemp -d)
-trap 'kill $(jobs -p) 2> /dev/null || true; wait 2> /dev/null || true; rm -rf "$room"' EXIT
+trap 'pkill -P $$ || true; wait 2> /dev/null || true; rm -rf "$room"' EXIT
 cd "$room"
 
 for name in gateway control-centre pmu7 stranger; do
@@ -30,25 +30,7 @@ cert = $room/pmu7.pem
 CAfile = $room/gateway.crt
 verifyPeer = yes
 END
-cat > setup.toml << END
-[[pmu]]
-id = 7
-connect = "127.0.0.1:14712"
-[[subscriber]]
-id = 1
-port = 4801
-address = "127.0.0.1"
-allow = ["127.0.0.1"]
-ring = 64
-grants = [7]
-[[subscriber.stream]]
-id = 101
-rate = 30
-base = 1000000
-wait = 10
-window = 8
-members = [7]
-END
+sed 's|:4712|:14712|; s|4800|4801|; s|wait = 4|wait = 10|' "$files/../setups/chain-first.toml" > setup.toml
 "$program" simulate --listen 127.0.0.1:34712 > source.log &
 for name in substation gateway subscriber stranger; do
     stunnel "$name.conf" 2> "$name.log" &

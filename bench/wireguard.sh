@@ -52,25 +52,8 @@ end_of stranger 10.77.0.2 > wg-stranger.conf
 for pair in gateway=gateway control-centre=centre substation=substation stranger=stranger; do
     on "${pair%=*}" wg-quick up "./wg-${pair#*=}.conf" 2> up.log || { cat up.log; exit 1; }
 done
-cat > setup.toml << END
-[[pmu]]
-id = 7
-connect = "10.77.0.7:4712"
-[[subscriber]]
-id = 1
-port = 4801
-address = "10.77.0.1"
-allow = ["10.77.0.2"]
-ring = 512
-grants = [7]
-[[subscriber.stream]]
-id = 101
-rate = 30
-base = 1000000
-wait = 10
-window = 8
-members = [7]
-END
+sed 's|connect = "127.0.0.1|connect = "10.77.0.7|; s|4800|4801|; s|address = "127.0.0.1|address = "10.77.0.1|; s|\["127.0.0.1"\]|["10.77.0.2"]|
+    s|ring = 64|ring = 512|; s|wait = 4|wait = 10|' "$files/../setups/chain-first.toml" > setup.toml
 on substation "$program" simulate --listen 10.77.0.7:4712 > source.log &
 on gateway "$program" run --setup setup.toml < /dev/null > /dev/null 2> gateway-service.log &
 sleep 4

@@ -4,6 +4,7 @@ import os
 import re
 import shutil
 import stat
+import struct
 import subprocess
 import threading
 import time
@@ -52,6 +53,10 @@ class Tap:
             time.sleep(0.3)
         self.link.socket.shutdown(2)
         self.thread.join(5)
+
+
+# What `verify` prints where something before was not recorded.
+LEFT_OUT = r"not compared: \d+ drains, of subscribers whose queues may differ, since calls before are not recorded"
 
 
 def folder_of(bench, name="records"):
@@ -111,6 +116,12 @@ def service(bench, folder, more=""):
     return text, taps
 
 
+def edits(gateway, line):
+    """A line is done, whether or not it lets frames leave."""
+    answer, = gateway.ask(line, 1)
+    expect(re.fullmatch(r"done (\d+) \1", answer), f"{line}: {answer}")
+
+
 @takes(8)
 def test_a_recording_replays_alike(bench):
     """While PMUs are granted and revoked, a stream is added by a reload, subscribers connect again and one floods with commands: what `replay`
@@ -123,9 +134,9 @@ def test_a_recording_replays_alike(bench):
     taps[3].connect(301)
     for tap in taps.values():
         tap.comes(2000)
-    gateway.does("revoke 1 9/91", "done 0 0")
+    edits(gateway, "revoke 1 9/91")
     taps[1].comes(1000)
-    gateway.does("grant 1 9/91", "done 0 0")
+    edits(gateway, "grant 1 9/91")
     taps[2].link.send(b"".join(command(202, word) for word in (SEND_HEADER, SEND_CONFIG_1, SEND_CONFIG_2, 9, 6, START) * 30))
     taps[2].link.send(b"\xAA\x41" + bytes(30))
     taps[3].stop(301)
@@ -188,6 +199,47 @@ def test_what_was_changed_is_found(bench):
     same((status, out, errors), (1, "", f"pdcgw: {path}.gone: can't be read: there is no such file\n"), "`verify` of a file that is not there")
 
 
+def blocks_in(path):
+    """The blocks of a file: when each was begun, in seconds, and its bytes."""
+    with open(path, "rb") as f:
+        whole = f.read()
+    found, at = [], 0
+    while at < len(whole):
+        size, start = struct.unpack(">IQ", whole[at + 10:at + 22])
+        found.append((start / 1_000, whole[at:at + 30 + size]))
+        at += 30 + size
+    return found
+
+
+@takes(8)
+def test_behind_missing_blocks(bench):
+    """Of the blocks of a recording those of half a second are not there: `verify` says which places are missing, and compares a subscriber again that
+    connects later."""
+    folder = folder_of(bench)
+    text, taps = service(bench, folder)
+    gateway = bench.gateway(text).serves(1, 2, 3)
+    taps[1].connect(101)
+    taps[1].comes(1000)
+    begin = time.time()
+    taps[1].comes(4000)
+    taps[1].stop(101)
+    taps[1].connect(101)
+    taps[1].comes(3000)
+    gateway.quit()
+    verified(bench, folder)
+    path = files_in(folder)[0]
+    blocks = blocks_in(path)
+    left = [it for start, it in blocks if not begin < start < begin + 0.5]
+    expect(len(left) < len(blocks), f"{len(blocks)} blocks, and {len(left)} without those of half a second")
+    with open(path, "wb") as f:
+        f.write(b"".join(left))
+    status, out, _ = tool(bench, "verify", files_in(folder))
+    found, lines = verdict_in(out), out.splitlines()
+    expect(status == 1 and found["missing"] > 10 and lines[0].startswith("missing: places "), out)
+    same((found["differing"], found["answers"]), (0, 0), out)
+    expect(any(re.fullmatch(LEFT_OUT, it) for it in lines) and found["drains"] > 30, out)
+
+
 @takes(4)
 def test_a_killed_service_leaves_what_was_written(bench):
     """The program is killed: all but the last second of what it did is there, and its replay is the same."""
@@ -200,7 +252,7 @@ def test_a_killed_service_leaves_what_was_written(bench):
     gateway.process.wait()
     status, out, _ = tool(bench, "verify", files_in(folder))
     found = verdict_in(out)
-    same((found["differing"], found["answers"], found["unspelled"]), (0, 0, 0) if not found["missing"] else (found["differing"], found["answers"], 0), out)
+    same((found["differing"], found["answers"] if not found["missing"] else 0, found["unspelled"]), (0, 0, 0), out)
     expect(found["records"] > 100, out)
     missing = [int(it.split()[2]) for it in out.splitlines() if it.startswith("missing: ")]
     expect(all(it > found["records"] - 400 for it in missing), f"what is missing is at the end: {out}")
@@ -224,7 +276,7 @@ def test_without_its_first_files(bench):
     link = fast.come()
     taps[1].connect(101)
     taps[2].connect(201, 202)
-    gateway.does("revoke 1 9/91", "done 0 0")
+    edits(gateway, "revoke 1 9/91")
     taps[3].connect(301)
     taps[3].stop(301)
     first = now_soc() * fast.rate
@@ -233,7 +285,7 @@ def test_without_its_first_files(bench):
     while len(files_in(folder)) < 3:
         link.send(frames * 100)
         time.sleep(0.3)
-    gateway.does("grant 1 9/91", "done 0 0")
+    edits(gateway, "grant 1 9/91")
     taps[1].stop(101)
     begin = time.strftime("%Y-%m-%dT%H:%M:%SZ", time.gmtime(time.time() + 2))
     taps[1].connect(101)
@@ -246,7 +298,7 @@ def test_without_its_first_files(bench):
     lines, found = out.splitlines(), verdict_in(out)
     same((status, errors, len(lines)), (0, "", 3), out)
     expect(re.fullmatch(r"\S+Z: begins at place \d+, as the service was set up then", lines[0]), lines[0])
-    expect(re.fullmatch(r"not compared: \d+ drains, of subscribers whose queues may have had frames of before the recording", lines[1]), lines[1])
+    expect(re.fullmatch(LEFT_OUT, lines[1]), lines[1])
     expect(50 < found["drains"] < whole["drains"], f"{found} of {whole}")
     wanted = explained(bench, files, begin)
     expect(len(wanted) > 30, f"{len(wanted)} lines")
@@ -273,6 +325,14 @@ def test_two_starts_in_one_folder(bench):
     expect(both > drains + 20 and frames_of_both > frames + 10, f"{counts}")
     same((lines, lines_of_both), (1, 2), "lines of `verify`")
     expect(re.match(r"\S+Z: the service started again\n", out), out)
+    # As by a service that wrote no block at the head of a file.
+    path = files_in(folder)[0]
+    with open(path, "rb") as f:
+        whole = f.read()
+    with open(path, "wb") as f:
+        f.write(whole[30:])
+    status, again, _ = tool(bench, "verify", files_in(folder))
+    same((status, again.endswith(out)), (0, True), again)
 
 
 def recorded(page):
@@ -294,12 +354,12 @@ def slowed(bench, gateway, path, seconds):
 
 @takes(20)
 def test_a_slow_disk_holds_nothing_up(bench):
-    """Each write to the disk takes four seconds, and a source sends 150,000 data frames: an ERROR and the metrics say how many calls are missing,
-    so does `verify`, and meanwhile each subscriber gets each frame."""
+    """Each write to the first file takes four seconds, and a source sends 150,000 data frames: an ERROR and the metrics say how many calls are missing,
+    so does `verify`, also of the last file alone, and meanwhile each subscriber gets each frame."""
     if not shutil.which("strace"):
         raise PassedBy("there is no strace")
     folder, page, fast = folder_of(bench), bench.port(), bench.source(8)
-    text, taps = service(bench, folder, more=f'status = "127.0.0.1:{page}"\n')
+    text, taps = service(bench, folder, more=f'status = "127.0.0.1:{page}"\nrecord_mb = 16\n')
     gateway = bench.gateway(text + pmu(8, ahead_ms=None, connect=fast.address)).serves(1, 2, 3)
     link = fast.come()
     reader = bench.reader(taps[1].port, [101])
@@ -317,10 +377,55 @@ def test_a_slow_disk_holds_nothing_up(bench):
     slow.wait()
     reader.is_whole(101, 60)
     until(lambda: recorded(page)[2] > 0, "missed calls in the metrics", seconds=10)
+    begins_a_file(folder, fast)
     gateway.quit()
     status, out, _ = tool(bench, "verify", files_in(folder))
     same(status, 1, f"`verify`: {out}")
     expect("missing: places " in out, out)
+    same(verdict_in(out)["differing"], 0, out)
+    status, out, _ = tool(bench, "verify", files_in(folder)[-1:])
+    found = re.match(r"\S+Z: begins at place \d+, as the service was set up then, but for (\d+) calls before that, which are not kept\n", out)
+    expect(found and int(found[1]) > 0, f"`verify` of the last file: {out}")
+
+
+def begins_a_file(folder, source):
+    """A source sends until one more file is begun."""
+    files, first = len(files_in(folder)), now_soc() * source.rate
+    frames = b"".join(source.data(first + at, at) for at in range(source.rate))
+    until(lambda: source.link.send(frames * 100) or len(files_in(folder)) > files, "one more file")
+
+
+@takes(6)
+def test_configurations_that_are_forgotten(bench):
+    """Of a source that changes its configuration eleven times the next file has the last eight, and says how many it has not."""
+    folder, fast = folder_of(bench), bench.source(8)
+    text, _ = service(bench, folder, more="record_mb = 16\n")
+    gateway = bench.gateway(text + pmu(8, ahead_ms=None, connect=fast.address)).serves(1, 2, 3)
+    link = fast.come()
+    for count in range(1, 12):
+        link.send(fast.configuration(count=count))
+    begins_a_file(folder, fast)
+    gateway.quit()
+    verified(bench, folder)
+    _, out, _ = tool(bench, "verify", files_in(folder)[1:])
+    expect(re.match(r"\S+Z: begins at place \d+, as the service was set up then, but for 4 calls before that, which are not kept\n", out), out)
+
+
+@takes(6)
+def test_a_setup_larger_than_half_a_file(bench):
+    """Edits that take more than half of a file are not repeated at the head of the next one, which the log says, and `verify` of that file alone."""
+    folder, fast = folder_of(bench), bench.source(8)
+    text, _ = service(bench, folder, more="record_mb = 16\n")
+    gateway = bench.gateway(text + pmu(8, ahead_ms=None, connect=fast.address)).serves(1, 2, 3)
+    fast.come()
+    for _ in range(100):
+        same(len(gateway.ask("\n".join(["revoke 1 9/91", "grant 1 9/91"] * 100), 200)), 200, "answers")
+    begins_a_file(folder, fast)
+    gateway.logs(r"WARN a file of the recording is replayed only behind those before it: .*\(`record_mb`\), or 16 MB")
+    gateway.quit()
+    verified(bench, folder)
+    status, out, _ = tool(bench, "verify", files_in(folder)[1:])
+    same((status, out.startswith("missing: places 0 to ")), (1, True), out)
 
 
 @takes(6)

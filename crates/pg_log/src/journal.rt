@@ -152,13 +152,15 @@ pub enum LogEvent {
     NotRecorded = 66,
     /// Records found no room, since what was recorded before was not written yet.
     RecordsMissed = 67,
+    /// A file of the recording was begun without how the gateway was set up then.
+    SetupNotRecorded = 68,
 }
 
 /// The PMUs of a configuration at most.
 pub const MOST_PMUS: usize = 16;
 
 /// How many kinds of notices there are.
-const KINDS: usize = 68;
+const KINDS: usize = 69;
 
 impl LogEvent {
     /// The kinds that are counted without an entry; the log has their counts.
@@ -218,6 +220,7 @@ impl LogEvent {
             | LogEvent::Late
             | LogEvent::FirstNotMade
             | LogEvent::FirstSilent
+            | LogEvent::SetupNotRecorded
             | LogEvent::Warned => Level::Warn,
             LogEvent::Called
             | LogEvent::Made

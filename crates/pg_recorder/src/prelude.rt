@@ -45,6 +45,8 @@ pub(crate) struct Prelude {
     begun: Option<u64>,
     // The highest place so far; `None` before the first call.
     highest: Option<u64>,
+    // How many configurations were forgotten.
+    forgotten: u64,
     // Whether a call found no room.
     is_incomplete: bool,
 }
@@ -59,6 +61,7 @@ impl Prelude {
             last: BTreeMap::new(alloc),
             begun: None,
             highest: None,
+            forgotten: 0,
             is_incomplete: false,
         }
     }
@@ -123,6 +126,7 @@ impl Prelude {
         }
         if configurations.len() >= MOST_CONFIGURATIONS {
             configurations.pop_front();
+            self.forgotten = self.forgotten.saturating_add(1);
         }
         configurations.push_back(kept)?;
         Ok(())
@@ -158,12 +162,17 @@ impl Prelude {
 
     /// Appends the records with which a segment begins at this time, and says whether it has a block of them: it has none where a call found no
     /// room. The first segment has an empty one. The last record of another is a question at the highest place, whose body is when the first
-    /// segment was begun.
+    /// segment was begun, and how many calls are not among these that may have set something up: those that were missed or forgotten.
     ///
     /// # Errors
     ///
     /// There is no memory.
-    pub(crate) fn write_to(&mut self, now: u64, out: &mut Vec<u8>) -> Result<bool, AllocError> {
+    pub(crate) fn write_to(
+        &mut self,
+        now: u64,
+        missed: u64,
+        out: &mut Vec<u8>,
+    ) -> Result<bool, AllocError> {
         let begun = *self.begun.get_or_insert(now);
         let Some(highest) = self.highest else {
             return Ok(true);
@@ -180,7 +189,10 @@ impl Prelude {
         for kept in self.last.values() {
             out.extend_from_slice(&kept.bytes)?;
         }
-        TapedCalls::none(self.alloc).write_call(&question_at(highest, begun), out)?;
+        let mut last = TapedCalls::none(self.alloc);
+        let lacking = missed.saturating_add(self.forgotten);
+        last.bodies.extend_from_slice(&lacking.to_be_bytes())?;
+        last.write_call(&question_at(highest, begun, last.bodies.len()), out)?;
         Ok(true)
     }
 }
@@ -216,8 +228,8 @@ fn without_time(call: &TapedCall) -> TapedCall {
     }
 }
 
-/// A question at this place, with this number as its body.
-fn question_at(place: u64, body: u64) -> TapedCall {
+/// A question at this place, with this number and so many bytes more as its body.
+fn question_at(place: u64, begun: u64, len: usize) -> TapedCall {
     TapedCall {
         entry: Record {
             kind: RecordKind::Question,
@@ -228,8 +240,8 @@ fn question_at(place: u64, body: u64) -> TapedCall {
             handed: 0,
             sum: 0,
         },
-        front: Front::Eight(body),
+        front: Front::Eight(begun),
         from: 0,
-        len: 0,
+        len,
     }
 }

@@ -27,6 +27,22 @@ const SPAN_MS: u64 = 3_600_000;
 /// How long nothing is written after an error, in milliseconds.
 const RETRY_MS: u64 = 10_000;
 
+/// What was set up before a segment, and how many calls were missed until then.
+#[derive(Drop)]
+pub(crate) struct Before<'a> {
+    pub(crate) prelude: &'a mut Prelude,
+    pub(crate) missed: u64,
+}
+
+/// What was written.
+#[derive(Clone, Copy)]
+pub(crate) struct Written {
+    /// How many bytes.
+    pub(crate) size: u64,
+    /// Whether a segment was begun without what had been set up before it.
+    pub(crate) lacks_setup: bool,
+}
+
 /// A segment that is not written any more, or is the one that is written.
 #[derive(Drop)]
 struct Kept {
@@ -108,8 +124,8 @@ impl<'a> Segments<'a> {
     }
 
     /// Writes a block with these records, which were begun at `start`; `now` is this machine's time. Where it can't be written it is left out, and
-    /// so are all blocks of the next ten seconds; then a segment is begun. A segment begins with what was set up before this block. Returns how
-    /// many bytes were written.
+    /// so are all blocks of the next ten seconds; then a segment is begun. A segment begins with what was set up before this block, where that
+    /// takes at most half of it.
     ///
     /// # Errors
     ///
@@ -120,15 +136,18 @@ impl<'a> Segments<'a> {
         start: u64,
         records: &[u8],
         now: u64,
-        prelude: &mut Prelude,
-    ) -> io::Result<u64> {
+        before: Before<'_>,
+    ) -> io::Result<Written> {
         if let Some(failed) = self.failed {
             if failed <= now && now < failed.saturating_add(RETRY_MS) {
-                return Ok(0);
+                return Ok(Written {
+                    size: 0,
+                    lacks_setup: false,
+                });
             }
             self.failed = None;
         }
-        let written = self.write_due(worker, start, records, now, prelude);
+        let written = self.write_due(worker, start, records, now, before);
         if written.is_err() {
             self.open = None;
             self.failed = Some(now);
@@ -143,16 +162,20 @@ impl<'a> Segments<'a> {
         start: u64,
         records: &[u8],
         now: u64,
-        prelude: &mut Prelude,
-    ) -> io::Result<u64> {
-        let mut size: u64 = 0;
+        before: Before<'_>,
+    ) -> io::Result<Written> {
+        let Before { prelude, missed } = before;
+        let (mut size, mut lacks_setup) = (0_u64, false);
         if self.begin_if_due(now)? {
-            let mut before = Vec::new(self.alloc);
-            if prelude.write_to(now, &mut before)? && before.len() as u64 <= self.part() / 2 {
-                size = self.write_block(PRELUDE, now, &before, now)?;
+            let mut setup = Vec::new(self.alloc);
+            let is_whole = prelude.write_to(now, missed, &mut setup)?;
+            lacks_setup = !is_whole || setup.len() as u64 > self.part() / 2;
+            if !lacks_setup {
+                size = self.write_block(PRELUDE, now, &setup, now)?;
             }
         }
-        Ok(size.saturating_add(self.write_block(worker, start, records, now)?))
+        size = size.saturating_add(self.write_block(worker, start, records, now)?);
+        Ok(Written { size, lacks_setup })
     }
 
     /// Writes a block to the open segment.

@@ -1,7 +1,7 @@
 //! The thread that writes what others recorded.
 
 use crate::exchange::{Handed, Recorder};
-use crate::segments::Segments;
+use crate::segments::{Before, Segments, Written};
 use pg_log::{Detail, Entry, Journal, LogEvent, Subject};
 use pg_record::TapedCalls;
 use pg_shared::Work;
@@ -76,30 +76,38 @@ impl<'a, R: Wait + Clock> RecordWriter<'a, R> {
         self.records.clear();
         let recorder = self.recorder;
         let mut prelude = recorder.prelude.lock(self.rt);
+        let before = Before {
+            prelude: &mut prelude,
+            missed: recorder.missed(),
+        };
         let written = match handed.calls.write_to(&mut self.records) {
             Ok(()) => {
                 let start = handed.start;
                 self.segments
-                    .write(worker, start, &self.records, now, &mut prelude)
+                    .write(worker, start, &self.records, now, before)
             }
             Err(_) => Err(io::Error::from(ErrorKind::OutOfMemory)),
         };
         prelude.keep(&handed.calls);
         drop(prelude);
         match written {
-            Ok(0) => recorder.count_unwritten(self.records.len()),
-            Ok(size) => recorder.count_written(size),
+            Ok(Written { size: 0, .. }) => recorder.count_unwritten(self.records.len()),
+            Ok(written) => {
+                recorder.count_written(written.size);
+                if written.lacks_setup {
+                    self.report(LogEvent::SetupNotRecorded, Detail::Nothing);
+                }
+            }
             Err(error) => {
                 recorder.count_unwritten(self.records.len());
-                self.report(&error);
+                self.report(LogEvent::NotRecorded, Detail::of_error(&error));
             }
         }
     }
 
-    /// Reports that records can't be written.
-    fn report(&self, error: &io::Error) {
-        let detail = Detail::of_error(error);
-        let entry = Entry::new(LogEvent::NotRecorded, Subject::Nobody, detail);
+    /// Reports what is wrong with the recording.
+    fn report(&self, event: LogEvent, detail: Detail) {
+        let entry = Entry::new(event, Subject::Nobody, detail);
         self.journal.log(self.rt, entry);
     }
 

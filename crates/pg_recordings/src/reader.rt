@@ -57,6 +57,8 @@ pub struct Start {
     pub place: u64,
     /// When its first file was begun: milliseconds since 1970-01-01 00:00 UTC.
     pub at: u64,
+    /// How many calls before its first place are not among those records and may have set something up.
+    pub lacking: u64,
 }
 
 /// What comes next.
@@ -293,23 +295,28 @@ impl Open {
 }
 
 /// What a recording begins with, of the block at the head of a file: the last record is at the highest place, and its body says when the first file
-/// was begun. The first file has an empty block.
+/// was begun, and how many calls are lacking. The first file has an empty block.
 fn prelude_of(head: BlockHead, records: Vec<u8>) -> Prelude {
-    let (mut place, mut recording) = (0, head.start);
+    let (mut place, mut recording, mut lacking) = (0, head.start, 0);
     let mut rest = records.as_slice();
     for _ in 0..records.len() {
         let Some((record, body, behind)) = read_record(rest) else {
             break;
         };
         place = record.place.saturating_add(1);
-        if let Some((begun, _)) = body.split_first_chunk::<8>() {
+        if let Some((begun, more)) = body.split_first_chunk::<8>() {
             recording = u64::from_be_bytes(*begun);
+            lacking = match more.split_first_chunk::<8>() {
+                Some((count, _)) => u64::from_be_bytes(*count),
+                None => 0,
+            };
         }
         rest = behind;
     }
     let start = Start {
         place,
         at: head.start,
+        lacking,
     };
     Prelude {
         start,

@@ -57,12 +57,15 @@ pub(crate) fn start_text(
     is_first: bool,
 ) -> Result<Option<String>, AllocError> {
     let time = time_text(alloc, start.at)?;
-    let (time, place) = (time.as_str(), start.place);
-    Ok(match (place, is_first) {
-        (0, true) => None,
-        (0, false) => Some(format!(in alloc; "{time}: the service started again")?),
-        _ => Some(format!(in alloc;
+    let (time, place, lacking) = (time.as_str(), start.place, start.lacking);
+    Ok(match (place, is_first, lacking) {
+        (0, true, _) => None,
+        (0, false, _) => Some(format!(in alloc; "{time}: the service started again")?),
+        (_, _, 0) => Some(format!(in alloc;
             "{time}: begins at place {place}, as the service was set up then"
+        )?),
+        _ => Some(format!(in alloc;
+            "{time}: begins at place {place}, as the service was set up then, but for {lacking} calls before that, which are not kept"
         )?),
     })
 }

@@ -11,7 +11,8 @@ use pg_serve::{Note, Output, World};
 use std::alloc::{AllocError, Global};
 use std::io::Write;
 
-/// How long after the start of a recording slots may still be open, and frames queued, that were so before it: milliseconds.
+/// How long after the start of a recording, or places without a record, slots may be open, and frames queued, that are not so in the service:
+/// milliseconds.
 const SETTLED_MS: u64 = 60_000;
 
 /// What `verify` found.
@@ -66,12 +67,23 @@ struct Replay {
     world: World,
     output: Output,
     verdict: Verdict,
-    // Where the recording begins; `None` before the first record.
-    start: Option<Start>,
-    // The subscribers that stand as they did in the service, where it does not begin with the start of that.
-    in_step: Vec<u16>,
-    // How many drains of others there were.
+    // The place at which the recording begins, and whether another came before it.
+    first: u64,
+    is_begun: bool,
+    in_step: InStep,
+    // How many drains of subscribers that are not in step there were.
     left_out: u64,
+}
+
+/// Which subscribers stand as they did in the service.
+#[derive(Drop)]
+enum InStep {
+    /// Each: the recording is whole since the service started.
+    All,
+    /// None yet: places without a record end here.
+    NoneYet,
+    /// These, since this time: milliseconds since 1970-01-01 00:00 UTC.
+    Since(u64, Vec<u16>),
 }
 
 /// Replays a recording, compares what each drain hands out with what the service handed out, and prints what is missing, what differs first,
@@ -90,8 +102,9 @@ pub fn verify<W: Write>(
         world: new_world(alloc)?,
         output: Output::new(alloc),
         verdict: Verdict::nothing(),
-        start: None,
-        in_step: Vec::new(alloc),
+        first: 0,
+        is_begun: false,
+        in_step: InStep::All,
         left_out: 0,
     };
     for _ in 0..u64::MAX {
@@ -121,24 +134,20 @@ fn new_world(alloc: Global) -> Result<World, Fault> {
 impl Replay {
     /// Begins a recording.
     fn begin<W: Write>(&mut self, start: Start, out: &mut W) -> Result<(), Fault> {
-        let is_first = self.start.is_none();
+        let is_first = !self.is_begun;
         self.print_left_out(out)?;
-        self.start = Some(start);
+        self.first = start.place;
+        self.is_begun = true;
+        self.in_step = match start.place {
+            0 => InStep::All,
+            _ => InStep::Since(start.at, Vec::new(self.alloc)),
+        };
         if !is_first {
             self.world = new_world(self.alloc)?;
-            self.in_step.clear();
         }
         match start_text(self.alloc, start, is_first)? {
             Some(text) => print_line(text.as_str(), out),
             None => Ok(()),
-        }
-    }
-
-    /// The place at which the recording begins.
-    fn first(&self) -> u64 {
-        match self.start {
-            Some(start) => start.place,
-            None => 0,
         }
     }
 
@@ -150,14 +159,16 @@ impl Replay {
         let left_out = self.left_out;
         self.left_out = 0;
         let text = format!(in self.alloc;
-            "not compared: {left_out} drains, of subscribers whose queues may have had frames of before the recording"
+            "not compared: {left_out} drains, of subscribers whose queues may differ, since calls before are not recorded"
         )?;
         print_line(text.as_str(), out)
     }
 
-    /// Notes places without a record.
+    /// Notes places without a record. Behind them no subscriber stands as it did in the service.
     fn note_gap<W: Write>(&mut self, from: u64, to: u64, out: &mut W) -> Result<(), Fault> {
         self.verdict.missing = self.verdict.missing.saturating_add(to.saturating_sub(from));
+        self.is_begun = true;
+        self.in_step = InStep::NoneYet;
         let last = to.saturating_sub(1);
         let text = format!(in self.alloc; "missing: places {from} to {last}")?;
         print_line(text.as_str(), out)
@@ -172,9 +183,13 @@ impl Replay {
 
     /// Replays a record.
     fn take<W: Write>(&mut self, timed: &Timed, out: &mut W) -> Result<(), Fault> {
-        let is_setup = timed.record.place < self.first();
+        let is_setup = timed.record.place < self.first;
         if !is_setup {
             self.verdict.records = self.verdict.records.saturating_add(1);
+        }
+        self.is_begun = true;
+        if let InStep::NoneYet = self.in_step {
+            self.in_step = InStep::Since(timed.at, Vec::new(self.alloc));
         }
         let Some(input) = input_of(self.alloc, &timed.record, &timed.body)? else {
             if timed.record.kind != RecordKind::Question && !is_setup {
@@ -191,28 +206,32 @@ impl Replay {
         self.compare(timed, out)
     }
 
-    /// Whether a drain is compared: the subscriber stands as it did in the service. Where the recording does not begin with the start of that, it
-    /// does behind a connection, and a minute later behind a drain that left nothing in its queue.
+    /// Whether a drain is compared: the subscriber stands as it did in the service. Where something before is not recorded, it does behind a
+    /// connection, and a minute later behind a drain that left nothing in its queue.
     fn is_compared(&mut self, timed: &Timed, handed: u64) -> Result<bool, Fault> {
         let record = &timed.record;
-        let Some(start) = self.start else {
-            return Ok(true);
+        let (since, subscribers) = match &mut self.in_step {
+            InStep::All => return Ok(true),
+            InStep::NoneYet => return Ok(false),
+            InStep::Since(since, subscribers) => (*since, subscribers),
         };
-        if start.place == 0 || self.in_step.contains(&record.number) {
+        if subscribers.contains(&record.number) {
             return Ok(true);
         }
         let room = u64::from(four(&timed.body).unwrap_or(0));
         let is_empty = handed < room && u64::from(record.handed) < room;
-        if is_empty && timed.at >= start.at.saturating_add(SETTLED_MS) {
-            self.in_step.push(record.number)?;
+        if is_empty && timed.at >= since.saturating_add(SETTLED_MS) {
+            subscribers.push(record.number)?;
         }
         Ok(false)
     }
 
     /// Notes that a subscriber has connected, so that it stands as it did in the service.
     fn note_connection(&mut self, subscriber: u16) -> Result<(), Fault> {
-        if !self.in_step.contains(&subscriber) {
-            self.in_step.push(subscriber)?;
+        if let InStep::Since(_, subscribers) = &mut self.in_step {
+            if !subscribers.contains(&subscriber) {
+                subscribers.push(subscriber)?;
+            }
         }
         Ok(())
     }
