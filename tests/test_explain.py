@@ -9,12 +9,12 @@ import time
 
 from c37118 import frames_in
 from faults import FIRST, Play
-from peers import RATE, expect, pmu, same, stream, subscriber, takes, until
+from peers import RATE, Simulated, expect, pmu, same, stream, subscriber, takes, until
 from test_records import files_in, folder_of, service, tool
 from test_sixteen import SOURCES, Status, plays
 
-FATES = {"came", "late", "refused", "nothing", "not-granted", "not-announced"}
-FILLED = {"late", "refused", "nothing"}
+FATES = {"came", "late", "refused", "ignored", "nothing", "not-granted", "not-announced"}
+FILLED = {"late", "refused", "ignored", "nothing"}
 
 
 def explained(bench, folder, *words, status=0):
@@ -92,7 +92,7 @@ def test_each_filler_has_its_cause(bench):
     for at, (line, pattern) in enumerate(zip(lines, wanted)):
         pattern = f"{re.escape(slot_time(slot + at))} stream 101 {pattern}, 9/92 absent, not-announced"
         expect(re.fullmatch(pattern, line), f"{pattern}, and not {line}")
-    same(lines[-1], "frames 9 complete 2 waited 2 pushed 1 changed 4 nothing 5 late 1 refused 1 dropped 0 cleared 0 waiting 0 unseen 0 missing 0 unspelled 0")
+    same(lines[-1], "frames 9 complete 2 waited 2 pushed 1 changed 4 nothing 5 late 1 refused 1 ignored 0 dropped 0 cleared 0 waiting 0 unseen 0 missing 0 unspelled 0")
     # A part of them, by the times of their slots; and as comma-separated values.
     part = ["--stream", "101", "--from", slot_time(slot + 1), "--to", slot_time(slot + 3)]
     same(explained(bench, it.folder, *part)[:-1], lines[1:3])
@@ -152,7 +152,7 @@ def test_sixteen_faults_are_explained(bench):
     status = Status(gateway)
     counted, absent = status.members(), status.absent()
     gateway.quit()
-    causes = {103: "late", 104: "nothing", 109: "nothing", 112: "nothing", 113: "nothing", 114: "nothing", 102: "late"}
+    causes = {103: "late", 104: "nothing", 109: "nothing", 112: "ignored", 113: "ignored", 114: "nothing", 102: "late"}
     for number in range(FIRST, FIRST + SOURCES):
         found, out, errors = tool(bench, "explain", [*files_in(folder), "--subscriber", str(number - 100), "--csv"])
         same((found, errors), (0, ""), out[-500:])
@@ -171,6 +171,25 @@ def test_sixteen_faults_are_explained(bench):
                 same(fates, {"not-granted"}, f"{key} in stream {number}")
             if (number, key, "not announced") in absent:
                 same(fates, {"not-announced"}, f"{key} in stream {number}")
+
+
+@takes(10)
+def test_ignored_frames_are_explained(bench):
+    """Of one source a fifth of the frames has a wrong CHK, the clock of another is far ahead: each of their fillers has that as its reason."""
+    folder, port = folder_of(bench), bench.port()
+    sources = [Simulated(bench, "--source", str(number), "--fault", fault) for number, fault in ((7, "wrong-check=20"), (8, "clock=5000"), (9, "drop=20"))]
+    text = f'record = "{folder}"\n' + "".join(pmu(number, ahead_ms=None, connect=it.address) for number, it in zip((7, 8, 9), sources))
+    gateway = bench.gateway(text + subscriber(1, port, grants=[7, 8, 9]) + stream(101, [7, 8, 9], wait=20)).serves(1)
+    gateway.logs("source (7|8|9): announced.*", 3)
+    client = bench.subscriber(port)
+    client.start(101)
+    begin = utc(time.time() + 1)
+    time.sleep(5)
+    end = utc(time.time() - 1)
+    gateway.quit()
+    rows = list(csv.DictReader(explained(bench, folder, "--csv")[:-1]))
+    found = {number: {(row["fate"], row["reason"]) for row in rows if row["pmu"] == number and begin < row["slot"] < end} for number in "789"}
+    same(found, {"7": {("came", ""), ("ignored", "BadCheck")}, "8": {("ignored", "FarClock")}, "9": {("came", ""), ("nothing", "")}})
 
 
 def packets(path):

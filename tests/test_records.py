@@ -211,6 +211,16 @@ def blocks_in(path):
     return found
 
 
+def begun_later(files, since, seconds):
+    """The blocks of these files that were begun at a time or later are from now on begun so many seconds later. (Their sums are over their records.)"""
+    for path in files:
+        blocks = blocks_in(path)
+        with open(path, "wb") as f:
+            for begun, block in blocks:
+                late = round(1_000 * (begun + (seconds if begun >= since else 0)))
+                f.write(block[:14] + struct.pack(">Q", late) + block[22:])
+
+
 @takes(8)
 def test_behind_missing_blocks(bench):
     """Of the blocks of a recording those of half a second are not there: `verify` says which places are missing, and compares a subscriber again that
@@ -303,6 +313,14 @@ def test_without_its_first_files(bench):
     wanted = explained(bench, files, begin)
     expect(len(wanted) > 30, f"{len(wanted)} lines")
     same(explained(bench, files[2:], begin), wanted, "the lines of `explain`")
+    # The second subscriber did not connect again: it is compared a minute later.
+    since = blocks_in(files[2])[0][0] + 1
+    begun_later(files[2:], since, 40)
+    same(verdict_in(tool(bench, "verify", files[2:])[1])["drains"], found["drains"], "drains that are compared before the minute")
+    begun_later(files[2:], since + 40, 20)
+    status, out, _ = tool(bench, "verify", files[2:])
+    same((status, verdict_in(out)["differing"]), (0, 0), out)
+    expect(verdict_in(out)["drains"] > found["drains"] + 20, f"a minute later: {out}")
 
 
 @takes(6)
@@ -333,6 +351,10 @@ def test_two_starts_in_one_folder(bench):
         f.write(whole[30:])
     status, again, _ = tool(bench, "verify", files_in(folder))
     same((status, again.endswith(out)), (0, True), again)
+    asked = ["--subscriber", "1", "--from", begin, "--to", "2100-01-01T00:00:00Z"]
+    for words in (["script", *files_in(folder)], ["explain", *files_in(folder), *asked]):
+        _, out, _ = tool(bench, words[0], words[1:])
+        same(len(re.findall(r"^# \S+Z: the service started again$", out, re.M)), 1, out)
 
 
 def recorded(page):
@@ -378,7 +400,11 @@ def test_a_slow_disk_holds_nothing_up(bench):
     reader.is_whole(101, 60)
     until(lambda: recorded(page)[2] > 0, "missed calls in the metrics", seconds=10)
     begins_a_file(folder, fast)
+    time.sleep(1)
+    missed = recorded(page)[2]
     gateway.quit()
+    reported = [int(found[1]) for found in (re.search(r"ERROR (\d+) records are missing in the recording", it) for it in gateway.log.lines) if found]
+    same(sum(reported), missed, f"calls that the log reports as missing: {reported}")
     status, out, _ = tool(bench, "verify", files_in(folder))
     same(status, 1, f"`verify`: {out}")
     expect("missing: places " in out, out)
@@ -421,7 +447,7 @@ def test_a_setup_larger_than_half_a_file(bench):
     for _ in range(100):
         same(len(gateway.ask("\n".join(["revoke 1 9/91", "grant 1 9/91"] * 100), 200)), 200, "answers")
     begins_a_file(folder, fast)
-    gateway.logs(r"WARN a file of the recording is replayed only behind those before it: .*\(`record_mb`\), or 16 MB")
+    gateway.logs(r"WARN a file of the recording is replayed only behind those before it: .* \(raise `record_mb`\) or 16 MB \(restart the gateway\)")
     gateway.quit()
     verified(bench, folder)
     status, out, _ = tool(bench, "verify", files_in(folder)[1:])

@@ -3,11 +3,10 @@
 use crate::setup::unfit;
 use crate::{Outcome, help};
 use clap::{Arg, ArgAction, ArgMatches, Command};
-use pg_admin::ask;
+use pg_admin::{ask, not_answered, not_reached};
 use pg_log::system_words;
 use pg_status::Answered;
 use pg_wire::Refusal;
-use pg_words::{not_answered, not_reached};
 use std::alloc::{AllocError, Global};
 use std::io;
 use std::io::BufWriter;

@@ -27,9 +27,9 @@ up as it was at the next one. The script of a second start of the service has to
 /// Of `verify`.
 pub const VERIFY: &str = "\
 Replays a recording, and compares what each drain hands out with what the service handed to the subscriber. Where the first files
-are not given, it begins as the service was set up at the next one: a subscriber is compared from its next connection on, or a minute
-later from where its queue is empty; `not compared` has the drains before. Files of several starts of the service are replayed one
-start after the other. The last line is
+are not given, it begins as the service was set up at the next one. Behind that, and behind missing places, a subscriber is compared
+from its next connection on, or a minute later from where its queue is empty; `not compared` has the drains before. Files of several
+starts of the service are replayed one start after the other. The last line is
 
   records N missing N unspelled N drains N differing N answers differing N
 
@@ -50,7 +50,8 @@ MS counts from TIME. A frame leaves for the queue `complete`, with the blocks of
 `wait` was over; `pushed`, when more than `window` frames were open; or `changed`, before a change of the members. It is `handed` out
 behind a gap of so many frames of the stream; or `dropped`, since the queue was full; `cleared`, when the connection ended; `waiting`
 at the end of the recording. A member's block came after so many ms; or in its place is a filler, since the block came `late`, was
-`refused` for a reason, or `nothing` came that the gateway could read; or it is `absent`, not granted or not announced.
+`refused` for a reason, its source's frame was `ignored` for a reason (the slot is found by the time), or `nothing` came; or it is
+`absent`, not granted or not announced.
 
 The last line has the number of frames by their cause, of fillers, and of frames that were not handed out; `unseen` are those that
 were dropped when they left, `missing` places without a record, `unspelled` calls that no line of a script says.

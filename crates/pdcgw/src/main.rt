@@ -10,12 +10,12 @@ mod tools;
 
 use clap::error::ErrorKind;
 use clap::{Arg, ArgMatches, Command};
-use pg_check::{Checked, Trouble};
+use pg_admin::{Signed, say};
 use pg_replay::{Fault, replay};
 use pg_run::{Runtime, Start};
+use pg_setup::{Checked, Trouble};
 use pg_tools::BadOption;
 use pg_wire::Refusal;
-use pg_words::{Signed, say};
 use std::alloc::{AllocError, Global};
 use std::io::{BufWriter, IsTerminal, StdinLock};
 use std::net::{Net, TcpListener, TcpStream};

@@ -1,11 +1,11 @@
 //! Setup files, checked for a person.
 
-use pg_check::{Checked, Trouble, check_setup};
+use pg_admin::{Bound, not_bound, not_read};
 use pg_log::system_words;
 use pg_operator::{BoundBy, line_of_key};
 use pg_run::Failure;
+use pg_setup::{Checked, Trouble, check_setup};
 use pg_wire::Refusal;
-use pg_words::{Bound, not_bound, not_read};
 use std::alloc::{AllocError, Global};
 use std::fs;
 use std::io::ErrorKind;

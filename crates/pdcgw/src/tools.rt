@@ -3,11 +3,10 @@
 use crate::{Outcome, help};
 use clap::{Arg, ArgAction, ArgMatches, Command};
 use pg_demo::DemoOptions;
-use pg_demo_core::Verdict;
 use pg_run::Runtime;
 use pg_tools::{
-    BadOption, BridgeArgs, SimulateArgs, Style, WatchArgs, number, read_bridge_options,
-    read_simulate_options, read_watch_options,
+    BadOption, BridgeArgs, DemoVerdict, SimulateArgs, Style, WatchArgs, number,
+    read_bridge_options, read_simulate_options, read_watch_options,
 };
 use std::alloc::{AllocError, Global};
 use std::net::Net;
@@ -325,12 +324,12 @@ pub fn demo<R: Files + Runtime + Alloc<A = Global>>(
 }
 
 /// Prints the verdict of a demo: on standard output where it is good, else on standard error.
-fn print_verdict<R: Print + Eprint + Alloc<A = Global>>(rt: &R, verdict: Verdict) -> Outcome {
+fn print_verdict<R: Print + Eprint + Alloc<A = Global>>(rt: &R, verdict: DemoVerdict) -> Outcome {
     if !verdict.is_good() {
         let _ = eprintln!(rt; "pdcgw: {verdict}");
         return Outcome::Troubled(String::new(rt.alloc()));
     }
-    if let Verdict::Ended = verdict {
+    if let DemoVerdict::Ended = verdict {
         return Outcome::Done;
     }
     match println!(rt; "{verdict}") {

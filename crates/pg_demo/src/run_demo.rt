@@ -11,11 +11,10 @@ use pg_console::{
     AdminListeners, Mailboxes, NoServiceCommands, Pollers, Runtime, ServiceBuilder, ServicePlan,
     SetUp, SharedState, WorkerCounts, set_up,
 };
-use pg_demo_core::{ExpectedStreams, Verdict};
 use pg_recorder::Unrecorded;
 use pg_service::Directory;
 use pg_shared::{Named, Seat, Shared};
-use pg_tools::Style;
+use pg_tools::{DemoVerdict, ExpectedStreams, Style};
 use std::alloc::Global;
 use std::marker::Brand;
 use std::mem;
@@ -50,7 +49,7 @@ pub struct DemoOptions {
 pub fn demo<R: Runtime + Alloc<A = Global>>(
     rt: &R,
     options: DemoOptions,
-) -> Result<Verdict, Fault> {
+) -> Result<DemoVerdict, Fault> {
     let alloc = rt.alloc();
     let SetUp {
         shared,
@@ -68,7 +67,7 @@ fn run_all<R: Runtime, N: Named + Send>(
     seat: Seat,
     options: DemoOptions,
     directory: Directory,
-) -> Result<Verdict, Fault>
+) -> Result<DemoVerdict, Fault>
     requires shared { shared.now ≡ N.table }
     requires seat { seat.table ≡ N.table }
 {
@@ -81,7 +80,7 @@ fn run_all<R: Runtime, N: Named + Send>(
     let mut outcome = state.outcome.lock(rt);
     match mem::replace(&mut *outcome, None) {
         Some(outcome) => outcome,
-        None => Ok(Verdict::Ended),
+        None => Ok(DemoVerdict::Ended),
     }
 }
 

@@ -1,9 +1,9 @@
 //! What the demo shows: its sources, its subscribers and their streams.
 
-use pg_demo_core::{RATE, SOURCES};
 use pg_gateway::Edit;
 use pg_ring::{RingBytes, RingSize};
 use pg_stream::{Definition, HeaderText, Members};
+use pg_tools::{DEMO_RATE, DEMO_SOURCES};
 use pg_wire::{PmuId, PmuKey, Refusal, StreamId, SubId};
 use std::alloc::Global;
 
@@ -46,7 +46,7 @@ pub fn sub_id(number: u16) -> Result<SubId, Refusal> {
 
 /// The edits that set the gateway up: both PMUs, both subscribers, what each of them may have, and their streams.
 pub fn edits(alloc: Global) -> Result<Vec<Edit>, Refusal> {
-    let [one, other] = [pmu_key(SOURCES[0])?, pmu_key(SOURCES[1])?];
+    let [one, other] = [pmu_key(DEMO_SOURCES[0])?, pmu_key(DEMO_SOURCES[1])?];
     let [first, second] = [sub_id(1)?, sub_id(2)?];
     let mut edits = Vec::new(alloc);
     edits.push(Edit::AddPmu(one))?;
@@ -84,7 +84,7 @@ fn stream(
 ) -> Result<Definition, Refusal> {
     Ok(Definition {
         stream: StreamId::new(number).ok_or(Refusal::WrongId)?,
-        rate: RATE,
+        rate: DEMO_RATE,
         base: pg_tools::TIME_BASE,
         wait: WAIT,
         window: WINDOW,

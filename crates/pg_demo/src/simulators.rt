@@ -3,9 +3,10 @@
 use crate::fault::Fault;
 use crate::setup::{FIRST_STREAM, SECOND_STREAM};
 use crate::state::DemoState;
-use pg_demo_core::{Facts, Phase, PhaseMachine, frame_len};
 use pg_shared::Work;
-use pg_tools::{Simulator, SimulatorEvent, UnixTime};
+use pg_tools::{
+    DemoFacts, DemoPhase, PhaseMachine, Simulator, SimulatorEvent, UnixTime, frame_len,
+};
 use std::alloc::Global;
 use std::rt::Clock;
 use std::sync::Wait;
@@ -58,9 +59,9 @@ impl<'a, R: Wait + Clock> Simulators<'a, R> {
     }
 
     /// What is known of the demo.
-    fn facts(&self) -> Facts {
+    fn facts(&self) -> DemoFacts {
         let [first, second] = &self.state.are_on;
-        Facts {
+        DemoFacts {
             are_connected: self.one.is_sending() && self.other.is_sending(),
             are_on: first.load(Ordering::SeqCst) && second.load(Ordering::SeqCst),
             is_drained: self.state.expected.lock(self.rt).waiting() == 0,
@@ -83,11 +84,11 @@ impl<'a, R: Wait + Clock> Simulators<'a, R> {
         self.other.serve_clients(at, &mut self.events)?;
         let facts = self.facts();
         let phase = self.phases.step(facts, at.micros / 1_000);
-        if phase != Phase::Connecting {
+        if phase != DemoPhase::Connecting {
             self.state.is_open.store(true, Ordering::SeqCst);
         }
-        self.send_due(at, phase == Phase::Sending)?;
-        if phase == Phase::Over {
+        self.send_due(at, phase == DemoPhase::Sending)?;
+        if phase == DemoPhase::Over {
             let verdict = self
                 .state
                 .expected

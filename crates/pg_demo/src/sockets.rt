@@ -3,11 +3,10 @@
 use crate::fault::Fault;
 use crate::setup::{source_id, sub_id};
 use mio::net::TcpListener as PortListener;
-use pg_demo_core::{SOURCES, demo_settings};
 use pg_limits::{Allow, OnChange};
 use pg_service::{Address, ConnectionRules, Dial, Guards};
 use pg_subscribers::Port;
-use pg_tools::Simulator;
+use pg_tools::{DEMO_SOURCES, Simulator, demo_settings};
 use std::alloc::{AllocError, Global};
 use std::net::{Ipv4Addr, Net, SocketAddr};
 use std::rt::Clock;
@@ -67,7 +66,7 @@ impl Addresses {
         let [one, other] = self.sources;
         let [first, second] = self.ports;
         let page = self.page;
-        let [seven, eight] = SOURCES;
+        let [seven, eight] = DEMO_SOURCES;
         write!(
             text,
             "source {seven} {one}  source {eight} {other}\nsubscriber 1 {first}  subscriber 2 {second}\npage http://{page}/\n"
@@ -81,7 +80,7 @@ impl Addresses {
     }
 }
 
-/// A simulated source, and how the gateway connects to it. `place` is its place in `SOURCES`.
+/// A simulated source, and how the gateway connects to it. `place` is its place in `DEMO_SOURCES`.
 fn simulator<R: Net + Clock>(rt: &R, alloc: Global, place: u8) -> Result<(Simulator, Dial), Fault> {
     let settings = demo_settings(place)?;
     let free = SocketAddr::from((Ipv4Addr::LOCALHOST, 0));

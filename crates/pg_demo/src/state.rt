@@ -2,7 +2,7 @@
 
 use crate::fault::Fault;
 use pg_console::ServiceHandle;
-use pg_demo_core::{ExpectedStreams, Verdict};
+use pg_tools::{DemoVerdict, ExpectedStreams};
 use std::sync::atomic::{AtomicBool, Ordering};
 use std::sync::{Mutex, Wait};
 
@@ -20,7 +20,7 @@ pub struct DemoState<'a> {
     /// The data frames that the subscribers have to receive.
     pub expected: Mutex<ExpectedStreams>,
     /// What the demo came to, once that is known.
-    pub outcome: Mutex<Option<Result<Verdict, Fault>>>,
+    pub outcome: Mutex<Option<Result<DemoVerdict, Fault>>>,
 }
 
 impl<'a> DemoState<'a> {
@@ -37,7 +37,7 @@ impl<'a> DemoState<'a> {
     }
 
     /// Ends the demo with this. Where it has ended already that stays, unless it was good and this is not.
-    pub fn end<R: Wait>(&self, rt: &R, outcome: Result<Verdict, Fault>) {
+    pub fn end<R: Wait>(&self, rt: &R, outcome: Result<DemoVerdict, Fault>) {
         {
             let mut kept = self.outcome.lock(rt);
             let is_open = match &*kept {
@@ -60,6 +60,6 @@ impl<'a> DemoState<'a> {
 }
 
 /// Whether nothing was wrong.
-fn is_good(outcome: &Result<Verdict, Fault>) -> bool {
+fn is_good(outcome: &Result<DemoVerdict, Fault>) -> bool {
     matches!(outcome, Ok(verdict) if verdict.is_good())
 }

@@ -5,9 +5,8 @@ use crate::keyboard::Keyboard;
 use crate::setup::FIRST_STREAM;
 use crate::state::DemoState;
 use pg_data::DataFrame;
-use pg_demo_core::Verdict;
 use pg_shared::{Named, Work};
-use pg_tools::{Observer, Stamp, Style, Target, WatchOptions, Watcher, watch_with};
+use pg_tools::{DemoVerdict, Observer, Stamp, Style, Target, WatchOptions, Watcher, watch_with};
 use pg_wire::PmuId;
 use std::alloc::{AllocError, Global};
 use std::io::StdinLock;
@@ -199,13 +198,13 @@ where
             Ok(is_good) => {
                 // A line that changes what comes lets frames come that do not fit, until the next configuration has come.
                 if !is_good && !state.is_changed.load(Ordering::SeqCst) {
-                    state.end(rt, Ok(Verdict::Troubled(self.stream.get())));
+                    state.end(rt, Ok(DemoVerdict::Troubled(self.stream.get())));
                 }
             }
             Err(fault) => state.end(rt, Err(Fault::Tool(fault))),
         }
         // It was ended, or by itself: then all end.
-        state.end(rt, Ok(Verdict::Ended));
+        state.end(rt, Ok(DemoVerdict::Ended));
         false
     }
 }

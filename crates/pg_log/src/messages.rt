@@ -139,7 +139,7 @@ fn said(event: LogEvent) -> &'static str {
         LogEvent::FirstNotMade => "can't go back",
         LogEvent::NotRecorded => "the recording can't be written",
         LogEvent::SetupNotRecorded =>
-            "a file of the recording is replayed only behind those before it: what set the gateway up takes more than half of it (`record_mb`), or 16 MB",
+            "a file of the recording is replayed only behind those before it: what set the gateway up takes more than half of it (raise `record_mb`) or 16 MB (restart the gateway)",
         LogEvent::FirstSilent =>
             "can't go back: the first address sent no configuration within 10 s; retrying in 60 s",
     }

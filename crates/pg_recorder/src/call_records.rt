@@ -3,6 +3,7 @@
 use crate::exchange::Recorder;
 use crate::worker_tape::WorkerTape;
 use pg_gateway::{Event, Reply};
+use pg_wire::{PmuId, Refusal};
 use std::rt::Clock;
 use std::sync::Wait;
 
@@ -17,6 +18,9 @@ pub trait CallRecords: Sized + Drop {
 
     /// A round of the worker ends: what it recorded is handed over.
     fn end_round<R: Wait>(&mut self, rt: &R);
+
+    /// Notes for the record of the next question that so many frames of a source were ignored for this reason, and returns whether it is kept.
+    fn note_ignored(&mut self, source: PmuId, reason: Refusal, count: u64) -> bool;
 
     /// Begins the record of an event that is about to be posted.
     fn begin<R: Clock>(&mut self, rt: &R, event: &Event);
@@ -42,6 +46,10 @@ impl CallRecords for Unrecorded {
 
     #[inline(always)]
     fn end_round<R: Wait>(&mut self, _: &R) {}
+
+    fn note_ignored(&mut self, _: PmuId, _: Refusal, _: u64) -> bool {
+        false
+    }
 
     #[inline(always)]
     fn begin<R: Clock>(&mut self, _: &R, _: &Event) {}
@@ -75,6 +83,16 @@ impl CallRecords for Recorded {
     fn end_round<R: Wait>(&mut self, rt: &R) {
         if let Some(tape) = &mut self.tape {
             tape.hand_over(rt);
+        }
+    }
+
+    fn note_ignored(&mut self, source: PmuId, reason: Refusal, count: u64) -> bool {
+        match &mut self.tape {
+            Some(tape) => {
+                tape.note_ignored(source, reason, count);
+                true
+            }
+            None => false,
         }
     }
 
@@ -115,6 +133,10 @@ impl CallRecords for RecordedAtOnce {
     fn begin_round<R: Wait + Clock>(&mut self, _: &R) {}
 
     fn end_round<R: Wait>(&mut self, _: &R) {}
+
+    fn note_ignored(&mut self, _: PmuId, _: Refusal, _: u64) -> bool {
+        false
+    }
 
     fn begin<R: Clock>(&mut self, rt: &R, event: &Event) {
         if let Some(tape) = &mut self.tape {

@@ -140,6 +140,8 @@ pub struct Recorder {
     // The bytes that were written, and those that could not be.
     written: AtomicU64,
     unwritten: AtomicU64,
+    // How many calls were missed when it was reported last.
+    reported: AtomicU64,
 }
 
 impl Recorder {
@@ -162,6 +164,7 @@ impl Recorder {
             prelude: Mutex::new(Prelude::new(alloc)),
             written: AtomicU64::new(0),
             unwritten: AtomicU64::new(0),
+            reported: AtomicU64::new(0),
         })
     }
 
@@ -195,6 +198,13 @@ impl Recorder {
             missed = missed.saturating_add(slot.missed());
         }
         missed
+    }
+
+    /// How many records found no room since this was asked last. (One writer after the other asks.)
+    pub(crate) fn newly_missed(&self) -> u64 {
+        let missed = self.missed();
+        let reported = self.reported.swap(missed, Ordering::SeqCst);
+        missed.saturating_sub(reported)
     }
 
     /// How many calls no line of a script says, of all threads.

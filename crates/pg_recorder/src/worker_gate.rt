@@ -11,7 +11,7 @@ ghost use Rattle.pg_shared.specs.Sharing.{history_of, PostedCall, HandsByViews, 
 use crate::call_records::CallRecords;
 use pg_gateway::{Event, Gate, Reply};
 use pg_shared::{Named, Seat, Shared, SharedGate};
-use pg_wire::Refusal;
+use pg_wire::{PmuId, PmuKey, Refusal};
 use std::marker::Model;
 use std::rt::Clock;
 use std::sync::Wait;
@@ -74,6 +74,19 @@ impl<'a, R: Wait, N: Named, T: CallRecords> WorkerGate<'a, R, N, T> {
         let WorkerGate { rt, gate, records } = self;
         records.end_all(rt);
         gate.into_seat()
+    }
+}
+
+impl<'a, R: Wait + Clock, N: Named, T: CallRecords> WorkerGate<'a, R, N, T> {
+    /// Records that so many frames of a source were ignored for this reason, by a question, which changes nothing; where nothing is recorded none is asked.
+    pub fn note_ignored(&mut self, source: PmuId, reason: Refusal, count: u64) {
+        if self.records.note_ignored(source, reason, count) {
+            let asked = Event::PmuStats(PmuKey {
+                source,
+                pmu: source,
+            });
+            let _ = self.post(asked);
+        }
     }
 }
 

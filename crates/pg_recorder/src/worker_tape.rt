@@ -6,7 +6,7 @@ use crate::writer::now_ms;
 use pg_config::{SourceConfig, write_source};
 use pg_gateway::{Event, Reply};
 use pg_record::{DONE, Front, LOST, RecordKind, Tape, short_sum};
-use pg_wire::Refusal;
+use pg_wire::{PmuId, Refusal};
 use std::alloc::Global;
 use std::rt::Clock;
 use std::sync::{Arc, Wait};
@@ -24,6 +24,8 @@ pub struct WorkerTape {
     at: u16,
     // How many records had found no room when that was reported last.
     missed: u64,
+    // The body of the next question's record.
+    ignored: Option<u64>,
 }
 
 impl WorkerTape {
@@ -38,6 +40,7 @@ impl WorkerTape {
             start: 0,
             at: 0,
             missed: 0,
+            ignored: None,
         })
     }
 
@@ -108,9 +111,7 @@ impl WorkerTape {
             | Event::PmuStats(_)
             | Event::Audit(..)
             | Event::Standing(..)
-            | Event::WhoWaits(_) => {
-                self.begin_with(RecordKind::Question, 0, Front::Nothing, &[]);
-            }
+            | Event::WhoWaits(_) => self.begin_question(),
             _ => self.begin_unspelled(),
         }
     }
@@ -140,6 +141,24 @@ impl WorkerTape {
     #[inline(never)]
     fn begin_with(&mut self, kind: RecordKind, number: u16, front: Front, rest: &[u8]) {
         self.tape.begin(kind, number, front, rest);
+    }
+
+    /// Notes that so many frames of a source were ignored for this reason. The next question's record has it as its body: the source and the number of the
+    /// reason in two bytes each, and the count in four.
+    pub(crate) fn note_ignored(&mut self, source: PmuId, reason: Refusal, count: u64) {
+        let why = u64::from(source.get()) << 16 | u64::from(reason.number());
+        let count = u32::try_from(count).unwrap_or(u32::MAX);
+        self.ignored = Some(why << 32 | u64::from(count));
+    }
+
+    /// Begins the record of a question.
+    #[inline(never)]
+    fn begin_question(&mut self) {
+        let front = match self.ignored.take() {
+            Some(body) => Front::Eight(body),
+            None => Front::Nothing,
+        };
+        self.begin_with(RecordKind::Question, 0, front, &[]);
     }
 
     /// Begins the record of a configuration.

@@ -28,8 +28,6 @@ pub struct RecordWriter<'a, R: Wait + Clock> {
     // Room that is exchanged for calls, and the bytes of their records.
     room: TapedCalls,
     records: Vec<u8>,
-    // How many records had found no room when it was reported last.
-    missed: u64,
 }
 
 impl<'a, R: Wait + Clock> RecordWriter<'a, R> {
@@ -47,7 +45,6 @@ impl<'a, R: Wait + Clock> RecordWriter<'a, R> {
             segments,
             room: recorder.room()?,
             records: Vec::new(recorder.alloc()),
-            missed: 0,
         })
     }
 
@@ -112,11 +109,9 @@ impl<'a, R: Wait + Clock> RecordWriter<'a, R> {
     }
 
     /// Reports how many records found no room since it was reported last.
-    fn report_missed(&mut self) {
-        let missed = self.recorder.missed();
-        let more = missed.saturating_sub(self.missed);
+    fn report_missed(&self) {
+        let more = self.recorder.newly_missed();
         if more > 0 {
-            self.missed = missed;
             let mut entry = Entry::new(LogEvent::RecordsMissed, Subject::Nobody, Detail::Nothing);
             entry.times = more;
             self.journal.log(self.rt, entry);

@@ -33,10 +33,11 @@ pub struct Totals {
     pub waited: u64,
     pub pushed: u64,
     pub changed: u64,
-    /// The fillers, by what became of the block: none came, it came late, it was refused.
+    /// The fillers, by what became of the block: none came, it came late, it was refused, its frame was ignored.
     pub nothing: u64,
     pub late: u64,
     pub refused: u64,
+    pub ignored: u64,
     /// The frames that were not handed out: dropped, cleared, and still in the queue at the end.
     pub dropped: u64,
     pub cleared: u64,
@@ -62,6 +63,7 @@ impl Totals {
             nothing: 0,
             late: 0,
             refused: 0,
+            ignored: 0,
             dropped: 0,
             cleared: 0,
             waiting: 0,
@@ -98,6 +100,7 @@ impl Totals {
                 Fate::Nothing => raise(&mut self.nothing),
                 Fate::Late(_) => raise(&mut self.late),
                 Fate::Refused(..) => raise(&mut self.refused),
+                Fate::Ignored(..) => raise(&mut self.ignored),
                 _ => {}
             }
         }
@@ -119,6 +122,7 @@ impl Totals {
             nothing,
             late,
             refused,
+            ignored,
             dropped,
             cleared,
             waiting,
@@ -131,7 +135,9 @@ impl Totals {
         let made = format!(in alloc;
             "frames {frames} complete {complete} waited {waited} pushed {pushed} changed {changed}"
         )?;
-        let fillers = format!(in alloc; "nothing {nothing} late {late} refused {refused}")?;
+        let fillers = format!(in alloc;
+            "nothing {nothing} late {late} refused {refused} ignored {ignored}"
+        )?;
         let lost = format!(in alloc;
             "dropped {dropped} cleared {cleared} waiting {waiting} unseen {unseen}"
         )?;
@@ -214,13 +220,13 @@ fn print_csv<W: Write>(alloc: Global, frame: &MadeFrame, out: &mut W) -> Result<
     for (key, fate) in &frame.fates {
         let name = name_of(alloc, *key)?;
         let came = match fate {
-            Fate::Came(at) | Fate::Late(at) | Fate::Refused(at, _) => {
+            Fate::Came(at) | Fate::Late(at) | Fate::Refused(at, _) | Fate::Ignored(at, _) => {
                 format!(in alloc; "{}", signed(*at, frame.time))?
             }
             _ => String::new(alloc),
         };
         let reason = match fate {
-            Fate::Refused(_, refusal) => refusal.name(),
+            Fate::Refused(_, refusal) | Fate::Ignored(_, refusal) => refusal.name(),
             _ => "",
         };
         let line = format!(in alloc;
@@ -291,6 +297,7 @@ fn fate_word(fate: Fate) -> &'static str {
         Fate::Came(_) => "came",
         Fate::Late(_) => "late",
         Fate::Refused(..) => "refused",
+        Fate::Ignored(..) => "ignored",
         Fate::Nothing => "nothing",
         Fate::NotGranted => "not-granted",
         Fate::NotAnnounced => "not-announced",
@@ -306,7 +313,7 @@ fn fate_text(alloc: Global, fate: Fate, time: u64) -> Result<String, AllocError>
             let came = after(alloc, at, time)?;
             format!(in alloc; "filler, {word} {}", came.as_str())
         }
-        Fate::Refused(at, refusal) => {
+        Fate::Refused(at, refusal) | Fate::Ignored(at, refusal) => {
             let came = after(alloc, at, time)?;
             format!(in alloc; "filler, {word} {} {}", refusal.name(), came.as_str())
         }

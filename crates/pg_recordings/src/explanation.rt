@@ -3,10 +3,10 @@
 use crate::capture::Capture;
 use crate::explained::{Form, Totals, print_frame, print_heading};
 use crate::fates::{Causes, Fate, Handing, MadeFrame, Place, StreamTrack};
-use crate::input::command;
+use crate::input::{command, four};
 use crate::reader::{Fault, RecordReader, Start, Step};
 use crate::replayed::Replayed;
-use crate::script::{notice_text, print_line, start_text};
+use crate::script::{flush, notice_text, print_comment, start_text};
 use pg_audit::PmuStats;
 use pg_data::DataFrame;
 use pg_gateway::{Event, Reply};
@@ -31,6 +31,30 @@ const REASONS: [Refusal; 6] = [
     Refusal::TimeEnd,
     Refusal::NoMemory,
 ];
+
+/// The reasons for which a worker ignores a source's frame before it is posted.
+const IGNORED: [Refusal; 17] = [
+    Refusal::NoMemory,
+    Refusal::BadFirst,
+    Refusal::BadSecond,
+    Refusal::ShortSize,
+    Refusal::BadCheck,
+    Refusal::BadVersion,
+    Refusal::WrongType,
+    Refusal::BadLength,
+    Refusal::FloatFormat,
+    Refusal::BadCounts,
+    Refusal::ConfigTooLarge,
+    Refusal::DuplicatePmu,
+    Refusal::WrongId,
+    Refusal::NoConfig,
+    Refusal::BadFraction,
+    Refusal::TimeEnd,
+    Refusal::FarClock,
+];
+
+/// Of how many ignored frames at a time the slots are looked for.
+const MOST_IGNORED: u64 = 256;
 
 /// What is asked.
 #[derive(Clone, Copy, Debug)]
@@ -58,6 +82,15 @@ struct Expected {
     late: u64,
 }
 
+/// Frames of a source that were ignored.
+#[derive(Clone, Copy, Debug)]
+struct IgnoredFrames {
+    source: u16,
+    reason: Refusal,
+    count: u64,
+    at: u64,
+}
+
 /// What an event may change for the subscriber.
 #[derive(Drop)]
 enum Concern {
@@ -77,7 +110,7 @@ struct Explanation<C> {
     alloc: Global,
     inquiry: Inquiry,
     replayed: Replayed,
-    // Whether a recording has begun.
+    // Whether a recording has begun: a start behind it is another one of the service.
     is_begun: bool,
     streams: Vec<StreamTrack>,
     // Those that are not printed yet.
@@ -142,12 +175,6 @@ pub fn explain<W: Write, C: Write + Drop>(
     explanation.end(out)
 }
 
-/// Prints a comment.
-fn print_comment<W: Write>(alloc: Global, text: &str, out: &mut W) -> Result<(), Fault> {
-    let line = format!(in alloc; "# {text}")?;
-    print_line(line.as_str(), out)
-}
-
 impl Inquiry {
     /// How the answer is printed.
     fn form(&self) -> Form {
@@ -192,6 +219,7 @@ impl<C: Write + Drop> Explanation<C> {
 
     /// Notes places without a record.
     fn note_gap<W: Write>(&mut self, from: u64, to: u64, out: &mut W) -> Result<(), Fault> {
+        self.is_begun = true;
         self.totals.missing = self.totals.missing.saturating_add(to.saturating_sub(from));
         let last = to.saturating_sub(1);
         let text = format!(in self.alloc;
@@ -202,11 +230,12 @@ impl<C: Write + Drop> Explanation<C> {
 
     /// Posts what was recorded, and notes what it changes for the subscriber.
     fn take(&mut self, timed: &Timed) -> Result<(), Fault> {
+        self.is_begun = true;
         let Some(event) = self.replayed.event_of(&timed.record, &timed.body)? else {
             if timed.record.kind != RecordKind::Question {
                 self.totals.unspelled = self.totals.unspelled.saturating_add(1);
             }
-            return Ok(());
+            return self.note_ignored(timed);
         };
         self.capture_command(timed)?;
         let concern = self.concern_of(&event)?;
@@ -391,32 +420,100 @@ impl<C: Write + Drop> Explanation<C> {
         } else {
             return Ok(());
         };
-        self.note(block, fate)
+        self.note(block.stream, block.slot, block.member, fate)
     }
 
-    /// Notes the fate of a block: in the frame of its slot where that has left, else for that frame.
-    fn note(&mut self, block: &Expected, fate: Fate) -> Result<(), Fault> {
+    /// Notes the fate of a member's block: in the frame of its slot where that has left, else for that frame.
+    fn note(&mut self, stream: usize, slot: u64, member: usize, fate: Fate) -> Result<(), Fault> {
         let alloc = self.alloc;
-        let Some(track) = self.streams.get_mut(block.stream) else {
+        let Some(track) = self.streams.get_mut(stream) else {
             return Ok(());
         };
-        let (stream, slot) = (track.id, block.slot);
+        let id = track.id;
         if matches!(fate, Fate::Came(_)) {
-            return Ok(track.note(alloc, slot, block.member, fate)?);
+            return Ok(track.note(alloc, slot, member, fate)?);
         }
         let at = self
             .frames
             .iter()
-            .rposition(|it| it.stream == stream && it.slot == slot);
+            .rposition(|it| it.stream == id && it.slot == slot);
         let Some(frame) = at.and_then(|it| self.frames.get_mut(it)) else {
-            return Ok(track.note(alloc, slot, block.member, fate)?);
+            return Ok(track.note(alloc, slot, member, fate)?);
         };
-        if let Some((_, noted)) = frame.fates.get_mut(block.member) {
-            if *noted == Fate::Nothing {
+        if let Some((_, noted)) = frame.fates.get_mut(member) {
+            if matches!(noted, Fate::Nothing | Fate::Ignored(..)) {
                 *noted = fate;
             }
         }
         Ok(())
+    }
+
+    /// Notes of which slots frames were ignored, where a question's record says that some were.
+    fn note_ignored(&mut self, timed: &Timed) -> Result<(), Fault> {
+        let Some(ignored) = ignored_in(timed) else {
+            return Ok(());
+        };
+        for stream in 0..self.streams.len() {
+            let Some(track) = self.streams.get(stream) else {
+                break;
+            };
+            for member in 0..track.members.len() {
+                self.note_ignored_of(stream, member, &ignored)?;
+            }
+        }
+        Ok(())
+    }
+
+    /// Notes in which slots a member's block was in an ignored frame: of those about the time of arrival the first of which nothing has come.
+    fn note_ignored_of(
+        &mut self,
+        stream: usize,
+        member: usize,
+        ignored: &IgnoredFrames,
+    ) -> Result<(), Fault> {
+        let Some(track) = self.streams.get(stream) else {
+            return Ok(());
+        };
+        match track.members.get(member) {
+            Some(key) if key.source.get() == ignored.source => {}
+            _ => return Ok(()),
+        }
+        let newest = track.slot_of_arrival(member, ignored.at);
+        let mut left = ignored.count.min(MOST_IGNORED);
+        for slot in newest.saturating_sub(left)..=newest.saturating_add(1) {
+            if left > 0 && self.is_nothing(stream, slot, member, slot >= newest) {
+                self.note(
+                    stream,
+                    slot,
+                    member,
+                    Fate::Ignored(ignored.at, ignored.reason),
+                )?;
+                left -= 1;
+            }
+        }
+        Ok(())
+    }
+
+    /// Whether it is asked for a slot, and nothing is known of a member's block in it. Of a slot of which nothing is known at all it is if it may begin now.
+    fn is_nothing(&self, stream: usize, slot: u64, member: usize, may_begin: bool) -> bool {
+        let Some(track) = self.streams.get(stream) else {
+            return false;
+        };
+        if !self.inquiry.asks_for(track.id, track.time_of(slot)) {
+            return false;
+        }
+        let id = track.id;
+        let made = self
+            .frames
+            .iter()
+            .rfind(|it| it.stream == id && it.slot == slot);
+        match made {
+            Some(frame) => matches!(frame.fates.get(member), Some((_, Fate::Nothing))),
+            None => match track.noted(slot, member) {
+                Some(fate) => fate == Fate::Nothing,
+                None => may_begin,
+            },
+        }
     }
 
     /// Notes the frames that have left.
@@ -650,16 +747,36 @@ impl<C: Write + Drop> Explanation<C> {
             capture.end()?;
         }
         self.totals.print(self.alloc, self.inquiry.form(), out)?;
-        match out.flush() {
-            Ok(()) => Ok(self.totals),
-            Err(_) => Err(Fault::NotWritten),
-        }
+        flush(out)?;
+        Ok(self.totals)
     }
 }
 
 /// Whether a frame has a filler for a block with this fate.
 pub(crate) fn is_filler(fate: Fate) -> bool {
-    matches!(fate, Fate::Late(_) | Fate::Refused(..) | Fate::Nothing)
+    matches!(
+        fate,
+        Fate::Late(_) | Fate::Refused(..) | Fate::Ignored(..) | Fate::Nothing
+    )
+}
+
+/// What a question's record says of ignored frames: the source and the number of the reason in two bytes each, and the count in four.
+fn ignored_in(timed: &Timed) -> Option<IgnoredFrames> {
+    if timed.record.kind != RecordKind::Question || timed.body.len() != 8 {
+        return None;
+    }
+    let why = four(&timed.body)?;
+    let count = four(timed.body.get(4..)?)?;
+    let reason = IGNORED
+        .iter()
+        .copied()
+        .find(|it| u32::from(it.number()) == why % 65_536)?;
+    Some(IgnoredFrames {
+        source: u16::try_from(why / 65_536).ok()?,
+        reason,
+        count: u64::from(count),
+        at: timed.at,
+    })
 }
 
 /// The reason that was counted since.

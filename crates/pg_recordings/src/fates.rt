@@ -18,6 +18,8 @@ pub(crate) enum Fate {
     Late(u64),
     /// It came then, and was refused.
     Refused(u64, Refusal),
+    /// None came that could be read: then a frame of the source was ignored for this reason, which by its time was that of the slot.
+    Ignored(u64, Refusal),
     /// None came.
     Nothing,
     /// The frame has no place for it, since the PMU is not granted to the subscriber.
@@ -161,6 +163,8 @@ pub(crate) struct StreamTrack {
     rate: u8,
     base: u32,
     pub(crate) members: Vec<PmuKey>,
+    /// How many milliseconds behind its slot the last block of each member came.
+    delays: Vec<u64>,
     /// How its members stand, in their order.
     pub(crate) places: Vec<Place>,
     pub(crate) causes: Causes,
@@ -175,6 +179,7 @@ impl StreamTrack {
             rate: definition.rate,
             base: definition.base,
             members: definition.members.as_slice().to_vec(alloc)?,
+            delays: vec![in alloc; 0; definition.members.as_slice().len()]?,
             places: Vec::new(alloc),
             causes: Causes::none(),
             open: VecDeque::new(alloc),
@@ -201,6 +206,24 @@ impl StreamTrack {
         second.saturating_add((slot % rate).saturating_mul(1_000) / rate)
     }
 
+    /// The slot of which a member's block would most likely have come at this time.
+    pub(crate) fn slot_of_arrival(&self, member: usize, at: u64) -> u64 {
+        let delay = self.delays.get(member).copied().unwrap_or(0);
+        let time = at.saturating_sub(delay);
+        time.saturating_mul(u64::from(self.rate))
+            .saturating_add(500)
+            / 1_000
+    }
+
+    /// What is known of a member's block in a slot whose frame has not left; `None` where nothing is known of any member's.
+    pub(crate) fn noted(&self, slot: u64, member: usize) -> Option<Fate> {
+        let open = self.open.iter().rfind(|it| it.slot == slot);
+        match open {
+            Some(open) => open.fates.get(member).copied(),
+            None => None,
+        }
+    }
+
     /// Notes the fate of a member's block. A block that came stays.
     pub(crate) fn note(
         &mut self,
@@ -209,6 +232,12 @@ impl StreamTrack {
         member: usize,
         fate: Fate,
     ) -> Result<(), AllocError> {
+        if let Fate::Came(at) = fate {
+            let delay = at.saturating_sub(self.time_of(slot));
+            if let Some(last) = self.delays.get_mut(member) {
+                *last = delay;
+            }
+        }
         let count = self.members.len();
         let found = self.open.iter().rposition(|it| it.slot == slot);
         let at = match found {

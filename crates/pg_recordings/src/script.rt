@@ -70,6 +70,16 @@ pub(crate) fn start_text(
     })
 }
 
+/// What is printed of a script so far.
+#[derive(Clone, Copy, Debug)]
+struct ScriptPrinter {
+    alloc: Global,
+    // The time that was printed last.
+    shown: u64,
+    // Whether nothing of the recording was there yet: a start behind it is another one of the service.
+    is_first: bool,
+}
+
 /// Prints the script of a recording: a line for each record that is one, and comments with the place and the time of what follows, and with
 /// what is missing.
 ///
@@ -81,64 +91,101 @@ pub fn print_script<W: Write>(
     reader: &mut RecordReader<'_>,
     out: &mut W,
 ) -> Result<(), Fault> {
-    let mut shown = 0;
-    let mut is_first = true;
-    for _ in 0..u64::MAX {
-        match reader.next()? {
-            Step::Start(start) => {
-                if let Some(text) = start_text(alloc, start, is_first)? {
-                    let line = format!(in alloc; "# {}", text.as_str())?;
-                    print_line(line.as_str(), out)?;
-                }
-                is_first = false;
-            }
-            Step::Record(timed) => {
-                is_first = false;
-                print_record(alloc, &timed, &mut shown, out)?;
-            }
-            Step::Gap(from, to) => {
-                let last = to.saturating_sub(1);
-                let text = format!(in alloc; "# missing: places {from} to {last}")?;
-                print_line(text.as_str(), out)?;
-            }
-            Step::Notice(file, notice) => {
-                if let Some(path) = reader.paths().get(file) {
-                    let text = notice_text(alloc, path.as_str(), notice)?;
-                    let line = format!(in alloc; "# {}", text.as_str())?;
-                    print_line(line.as_str(), out)?;
-                }
-            }
-            Step::End => break,
-        }
-    }
+    let mut printer = ScriptPrinter {
+        alloc,
+        shown: 0,
+        is_first: true,
+    };
+    printer.print_all(reader, out)?;
+    flush(out)
+}
+
+/// Writes what is buffered.
+pub(crate) fn flush<W: Write>(out: &mut W) -> Result<(), Fault> {
     match out.flush() {
         Ok(()) => Ok(()),
         Err(_) => Err(Fault::NotWritten),
     }
 }
 
-/// Prints a record. `shown` is the time that was printed last.
-fn print_record<W: Write>(
-    alloc: Global,
-    timed: &Timed,
-    shown: &mut u64,
-    out: &mut W,
-) -> Result<(), Fault> {
-    let (place, kind) = (timed.record.place, timed.record.kind);
-    if let Some(line) = line_of(alloc, &timed.record, &timed.body)? {
-        if timed.at != *shown {
-            *shown = timed.at;
-            let time = time_text(alloc, timed.at)?;
-            let text = format!(in alloc; "# {}, place {place}", time.as_str())?;
-            print_line(text.as_str(), out)?;
+impl ScriptPrinter {
+    /// Prints all that there is.
+    fn print_all<W: Write>(
+        &mut self,
+        reader: &mut RecordReader<'_>,
+        out: &mut W,
+    ) -> Result<(), Fault> {
+        for _ in 0..u64::MAX {
+            match reader.next()? {
+                Step::Start(start) => self.print_start(start, out)?,
+                Step::Record(timed) => self.print_record(&timed, out)?,
+                Step::Gap(from, to) => self.print_gap(from, to, out)?,
+                Step::Notice(file, notice) => {
+                    if let Some(path) = reader.paths().get(file) {
+                        self.print_notice(path.as_str(), notice, out)?;
+                    }
+                }
+                Step::End => break,
+            }
         }
-        return print_line(line.as_str(), out);
+        Ok(())
     }
-    if kind == RecordKind::Question {
-        return Ok(());
+
+    /// Prints where a recording begins.
+    fn print_start<W: Write>(&mut self, start: Start, out: &mut W) -> Result<(), Fault> {
+        let is_first = self.is_first;
+        self.is_first = false;
+        match start_text(self.alloc, start, is_first)? {
+            Some(text) => print_comment(self.alloc, text.as_str(), out),
+            None => Ok(()),
+        }
     }
-    let text = format!(in alloc; "# no line says what was posted at place {place}")?;
-    print_line(text.as_str(), out)
+
+    /// Prints which places have no record.
+    fn print_gap<W: Write>(&mut self, from: u64, to: u64, out: &mut W) -> Result<(), Fault> {
+        self.is_first = false;
+        let last = to.saturating_sub(1);
+        let text = format!(in self.alloc; "missing: places {from} to {last}")?;
+        print_comment(self.alloc, text.as_str(), out)
+    }
+
+    /// Prints what is not as it was written in a file.
+    fn print_notice<W: Write>(&self, path: &str, notice: Notice, out: &mut W) -> Result<(), Fault> {
+        let text = notice_text(self.alloc, path, notice)?;
+        print_comment(self.alloc, text.as_str(), out)
+    }
+
+    /// Prints a record.
+    fn print_record<W: Write>(&mut self, timed: &Timed, out: &mut W) -> Result<(), Fault> {
+        self.is_first = false;
+        let (place, kind) = (timed.record.place, timed.record.kind);
+        if let Some(line) = line_of(self.alloc, &timed.record, &timed.body)? {
+            self.print_time(timed.at, place, out)?;
+            return print_line(line.as_str(), out);
+        }
+        if kind == RecordKind::Question {
+            return Ok(());
+        }
+        let text = format!(in self.alloc; "no line says what was posted at place {place}")?;
+        print_comment(self.alloc, text.as_str(), out)
+    }
+
+    /// Prints the time and the place of what follows, where that time was not printed last.
+    fn print_time<W: Write>(&mut self, at: u64, place: u64, out: &mut W) -> Result<(), Fault> {
+        if at == self.shown {
+            return Ok(());
+        }
+        self.shown = at;
+        let time = time_text(self.alloc, at)?;
+        let text = format!(in self.alloc; "{}, place {place}", time.as_str())?;
+        print_comment(self.alloc, text.as_str(), out)
+    }
+}
+
+/// Prints a comment.
+pub(crate) fn print_comment<W: Write>(alloc: Global, text: &str, out: &mut W) -> Result<(), Fault> {
+    let line = format!(in alloc; "# {text}")?;
+    print_line(line.as_str(), out)
 }
 
 /// Prints a line.

@@ -4,7 +4,7 @@ ghost use Rattle.std.specs.Prelude.{◌≡◌, ◌&&◌, nat_eq};
 
 use crate::input::{four, input_of};
 use crate::reader::{Fault, Notice, RecordReader, Start, Step};
-use crate::script::{notice_text, print_line, start_text, time_text};
+use crate::script::{flush, notice_text, print_line, start_text, time_text};
 use pg_gateway::Reply;
 use pg_record::{DONE, LOST, RecordKind, Timed, short_sum};
 use pg_serve::{Note, Output, World};
@@ -305,7 +305,7 @@ impl Replay {
     }
 
     /// Prints what there is.
-    fn print_end<W: Write>(mut self, out: &mut W) -> Result<Verdict, Fault> {
+    fn print_end<W: Write>(&mut self, out: &mut W) -> Result<Verdict, Fault> {
         self.print_left_out(out)?;
         let Verdict {
             records,
@@ -320,10 +320,8 @@ impl Replay {
             "records {records} missing {missing} unspelled {unspelled} drains {drains} differing {differing} answers differing {answers}"
         )?;
         print_line(text.as_str(), out)?;
-        match out.flush() {
-            Ok(()) => Ok(self.verdict),
-            Err(_) => Err(Fault::NotWritten),
-        }
+        flush(out)?;
+        Ok(self.verdict)
     }
 }
 

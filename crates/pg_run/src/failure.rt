@@ -3,8 +3,8 @@
 ghost use Rattle.std.specs.Prelude.{◌≡◌, ◌≢◌};
 ghost use Rattle.std.specs.IoError.{error_kind};
 
-use pg_check::Trouble;
 use pg_operator::BoundBy;
+use pg_setup::Trouble;
 use pg_wire::Refusal;
 use std::io;
 use std::io::ErrorKind;

@@ -19,7 +19,6 @@ use crate::serving::{Plan, serve_all};
 use crate::stoppable_stdin::StoppableStdin;
 use log::Level;
 use mio::net::TcpListener as PortListener;
-use pg_check::check_setup;
 use pg_console::{Runtime, ServicePlan, SetUp, SharedState, set_up};
 use pg_gateway::Edit;
 use pg_limits::{AheadGuard, ClockGuard};
@@ -29,6 +28,7 @@ use pg_operator::{
     read_setup,
 };
 use pg_service::{Address, ConnectionRules, Dial, Guards, Logger};
+use pg_setup::check_setup;
 use pg_subscribers::Port;
 use pg_wire::{PmuId, Refusal, SubId};
 use std::alloc::Global;

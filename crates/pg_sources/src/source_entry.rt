@@ -11,10 +11,12 @@ use pg_gateway::Gate;
 use pg_limits::{Budget, Phase, Portion, StopAfterShortRead};
 use pg_log::{ConfigChange, Detail, Entry, Journal, LogEvent, MOST_PMUS, Subject};
 use pg_quality::{PmuQuality, PmuSummary, SourceQuality};
+use pg_recorder::{CallRecords, WorkerGate};
 use pg_service::{
     Address, GateStats, LinkState, Lookup, MeteredGate, REASONS, SourceReport, Targets,
     WorkerHandles, ended,
 };
+use pg_shared::Named;
 use std::alloc::{AllocError, Global};
 use std::io::ErrorKind;
 use std::net::{Net, SocketAddr};
@@ -213,9 +215,6 @@ impl SourceEntry {
             entry.times = seen.far;
             journal.log(rt, entry);
         }
-        if self.connection.link().stats().by_reason != self.reported.by_reason {
-            self.log_ignored(rt, journal);
-        }
     }
 
     /// Logs a configuration that was announced, if it is the first one of its connection or another than the last.
@@ -245,9 +244,17 @@ impl SourceEntry {
         self.config = Some(config);
     }
 
-    /// Logs for which reasons its frames were ignored since the last such entry.
-    fn log_ignored<R: Wait + Clock>(&mut self, rt: &R, journal: &Journal) {
+    /// Logs and records for which reasons its frames were ignored since this was done last.
+    pub(crate) fn log_ignored<R: Wait + Clock, N: Named, T: CallRecords>(
+        &mut self,
+        rt: &R,
+        gate: &mut WorkerGate<'_, R, N, T>,
+        journal: &Journal,
+    ) {
         let counted = *self.connection.link().stats();
+        if counted.by_reason == self.reported.by_reason {
+            return;
+        }
         for reason in REASONS {
             let at = usize::from(reason.number());
             let (Some(new), Some(old)) = (
@@ -261,6 +268,7 @@ impl SourceEntry {
                 let mut entry = self.entry(LogEvent::Ignored, Detail::Because(reason));
                 entry.times = times;
                 journal.log(rt, entry);
+                gate.note_ignored(self.connection.source(), reason, times);
             }
         }
         self.reported = counted;

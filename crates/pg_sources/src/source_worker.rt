@@ -566,6 +566,11 @@ impl<'a, R: Wait + Net + Clock, N: Named, T: CallRecords> SourceWorker<'a, R, N,
             }
             let is_other = source.note_seen(&seen, clock, self.queue.now);
             source.log_seen(self.rt, &mut self.gate.gate, self.handles.journal, &seen);
+            let records = &mut self.gate.gate.gate.gate;
+            source.log_ignored(self.rt, records, self.handles.journal);
+            if seen.far > 0 {
+                records.note_ignored(source.connection.source(), Refusal::FarClock, seen.far);
+            }
             if self.gate.measures.take_shortage() {
                 self.handles.journal.note(LogEvent::MailFault);
             }

@@ -1,4 +1,5 @@
 -- Definitions that the contracts of the tools cite.
+pub mod Expecting
 pub mod Faulting
 pub mod Holdover
 pub mod Playing

@@ -1,5 +1,5 @@
 //! Tools to try a gateway with, and to take its streams elsewhere: a source that is simulated, a subscriber that shows what comes, and one that
-//! prints it as lines. They know nothing of the gateway.
+//! prints it as lines. They know nothing of the gateway. Of the demo: what its sources play, which data frames have to come, and when each phase ends.
 //! What no clause of IEEE C37.118.2 is named for is a rule of this project.
 #![tactic(auto)]
 
@@ -7,6 +7,11 @@ mod bridge_options;
 mod bridge_stream;
 mod converter;
 mod csv_lines;
+mod demo_phases;
+mod demo_sources;
+mod demo_verdict;
+mod expected_frames;
+mod expected_streams;
 mod fault;
 mod holdover;
 mod influx_lines;
@@ -40,6 +45,11 @@ mod wave;
 pub use bridge_options::{BridgeArgs, BridgeOptions, Format, read_bridge_options};
 pub use bridge_stream::bridge;
 pub use converter::{BridgeCounts, Converter, Ending, Instants};
+pub use demo_phases::{DemoFacts, DemoPhase, PhaseMachine};
+pub use demo_sources::{DEMO_RATE, DEMO_SOURCES, demo_settings, frame_len};
+pub use demo_verdict::DemoVerdict;
+pub use expected_frames::{ExpectedFrame, ExpectedFrames, WrongFrame};
+pub use expected_streams::ExpectedStreams;
 pub use fault::Fault;
 pub use line_queue::{Content, Entry, Gap, LineQueue, Why};
 pub use measuring::add_measured;

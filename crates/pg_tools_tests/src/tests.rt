@@ -5,7 +5,6 @@ mod asserts;
 mod bridges;
 mod conversations;
 mod dialogues;
-mod ends;
 mod expected_frames;
 mod expected_streams;
 mod faults;

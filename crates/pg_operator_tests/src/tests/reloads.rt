@@ -4,7 +4,7 @@ use crate::tests::asserts::same;
 use crate::tests::told::{edits_told, port_told, watch_told};
 use pg_gateway::{Edit, Event, Gate, Gateway, Reply};
 use pg_operator::{SourceSetup, read_setup};
-use pg_reload::{Changes, Order, changes_between};
+use pg_setup::{Changes, Order, changes_between};
 use std::alloc::Global;
 use std::process::Abort;
 use std::test::*;

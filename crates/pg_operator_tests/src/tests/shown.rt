@@ -5,7 +5,7 @@ use pg_gateway::Edit;
 use pg_operator::{
     PortRules, PortState, Setup, Shown, StreamState, SubscriberSetup, print_subscriber, read_setup,
 };
-use pg_reload::changes_between;
+use pg_setup::changes_between;
 use pg_wire::{PmuId, PmuKey, StreamId, SubId};
 use std::alloc::Global;
 use std::net::SocketAddr;

@@ -1,8 +1,7 @@
 //! What came at a subscriber, compared with what was sent: all right, and each thing that can be wrong.
 
 use crate::tests::asserts::same;
-use pg_demo_core::{ExpectedFrames, Frame};
-use pg_tools::Stamp;
+use pg_tools::{ExpectedFrame, ExpectedFrames, Stamp};
 use std::test::*;
 
 /// The blocks of two PMUs as they are sent, each with STAT 0, FREQ and DFREQ.
@@ -49,7 +48,7 @@ fn frames_that_are_expected(rt: HostRuntime) {
             if came.is_empty() {
                 let blocks = Vec::from_slice(alloc, &BLOCKS).expect(&rt, "memory");
                 expected
-                    .expect(Frame { stamp, blocks })
+                    .expect(ExpectedFrame { stamp, blocks })
                     .expect(&rt, "memory");
                 continue;
             }

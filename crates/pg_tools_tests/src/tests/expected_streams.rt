@@ -1,8 +1,9 @@
 //! The data frames that both subscribers have to receive of those that the demo's sources send.
 use crate::tests::asserts::same;
 use pg_command::write_command;
-use pg_demo_core::{ExpectedStreams, Verdict, Wrong, demo_settings, frame_len};
-use pg_tools::{Source, Stamp, UnixTime};
+use pg_tools::{
+    DemoVerdict, ExpectedStreams, Source, Stamp, UnixTime, WrongFrame, demo_settings, frame_len,
+};
 use pg_wire::PmuId;
 use std::alloc::Global;
 use std::process::Abort;
@@ -77,10 +78,10 @@ fn all_slots_come(rt: HostRuntime) {
     let (mut expected, one, other) = expecting(&rt, alloc);
     same(&rt, (one.len(), other.len()), (380, 380));
     same(&rt, expected.waiting(), 10);
-    assert!(rt; matches!(expected.verdict(101, 102), Verdict::Lost(101, 10, _)));
+    assert!(rt; matches!(expected.verdict(101, 102), DemoVerdict::Lost(101, 10, _)));
     come(&rt, alloc, &mut expected, &one, &other);
     same(&rt, expected.waiting(), 0);
-    same(&rt, expected.verdict(101, 102), Verdict::Whole(10, 10));
+    same(&rt, expected.verdict(101, 102), DemoVerdict::Whole(10, 10));
     assert!(rt; expected.verdict(101, 102).is_good());
     // One frame more at the second subscriber.
     let (stamp, block) = frame_at(&rt, &other, 9);
@@ -88,7 +89,7 @@ fn all_slots_come(rt: HostRuntime) {
     same(
         &rt,
         expected.verdict(101, 102),
-        Verdict::Wrong(102, Wrong::Unsent(stamp)),
+        DemoVerdict::Wrong(102, WrongFrame::Unsent(stamp)),
     );
     assert!(rt; !expected.verdict(101, 102).is_good());
 }
@@ -106,12 +107,12 @@ fn exchanged_blocks(rt: HostRuntime) {
     same(
         &rt,
         expected.first.receive(stamp, &both),
-        Some(Wrong::Changed(stamp)),
+        Some(WrongFrame::Changed(stamp)),
     );
     same(
         &rt,
         expected.second.receive(stamp, left),
-        Some(Wrong::Changed(stamp)),
+        Some(WrongFrame::Changed(stamp)),
     );
 }
 
@@ -129,12 +130,12 @@ fn fillers(rt: HostRuntime) {
     same(
         &rt,
         expected.first.receive(stamp, &both),
-        Some(Wrong::Filler(stamp)),
+        Some(WrongFrame::Filler(stamp)),
     );
     same(
         &rt,
         expected.verdict(101, 102),
-        Verdict::Wrong(101, Wrong::Filler(stamp)),
+        DemoVerdict::Wrong(101, WrongFrame::Filler(stamp)),
     );
 }
 
@@ -143,11 +144,11 @@ fn fillers(rt: HostRuntime) {
 fn out_of_step(rt: HostRuntime) {
     let alloc = rt.alloc();
     let mut expected = ExpectedStreams::new(alloc);
-    same(&rt, expected.verdict(101, 102), Verdict::NotBegun);
+    same(&rt, expected.verdict(101, 102), DemoVerdict::NotBegun);
     let one = frames(&rt, alloc, 0, 340_000);
     let other = frames(&rt, alloc, 1, 300_000);
     expected
         .expect(&one, len_of(&rt, 0), &other, len_of(&rt, 1))
         .expect(&rt, "memory");
-    same(&rt, expected.verdict(101, 102), Verdict::OutOfStep);
+    same(&rt, expected.verdict(101, 102), DemoVerdict::OutOfStep);
 }

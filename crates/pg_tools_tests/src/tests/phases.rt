@@ -1,6 +1,6 @@
 //! The phases of a demo: which one is next, by what is known.
 use crate::tests::asserts::same;
-use pg_demo_core::{Facts, Phase, PhaseMachine};
+use pg_tools::{DemoFacts as Facts, DemoPhase as Phase, PhaseMachine};
 use std::test::*;
 
 const NOTHING: Facts = Facts {

@@ -1,2 +1,0 @@
--- Lemmas of the demo.
-pub mod Expecting

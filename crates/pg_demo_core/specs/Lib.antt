@@ -1,2 +1,0 @@
--- Definitions that the contracts of the demo cite.
-pub mod Expecting

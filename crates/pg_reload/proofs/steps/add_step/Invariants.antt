@@ -1,8 +1,0 @@
-use Rattle.std.proofs.Common.{◌≡◌, drop}
-use Rattle.pg_reload.specs.Edits.{step_of}
-use Rattle.pg_reload.proofs.Adding.{with_rest}
-use Rattle.pg_reload.proofs.steps.add_step.Given as goal
-
-abbrev pub invariant-edits : goal.invariant-edits
-invariant-edits l =
-    with_rest (step_of l.step l.old l.new) l.out.items (drop l.edit-index l.edits) ≡ with_rest (step_of l.step l.old l.new) l.fn.out.items l.edits
