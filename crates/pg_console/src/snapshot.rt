@@ -7,7 +7,7 @@ use pg_audit::{PmuStats, Stats};
 use pg_gateway::{Event, Gate, MemberPlace, MemberStanding, Reply, Standing, StreamStanding};
 use pg_quality::PmuSummary;
 use pg_recorder::Recorder;
-use pg_service::{LinkState, MeteredGate, PortReport, REASONS, Reports, SourceReport};
+use pg_service::{LinkState, MeteredGate, PortReport, Reports, SourceReport};
 use pg_status::{
     Call, Histogram, Ignored, MemberState, Membership, PmuState, Presence, Queue, RecordingState,
     Snapshot, SourceState, StreamState, SubscriberState,
@@ -170,7 +170,7 @@ fn source_state(
 /// What of a source was ignored, by its reasons, and of its measurements because they were too far from the clock.
 fn ignored_in(alloc: Global, counts: &PmuStats, far: u64) -> Result<Vec<Ignored>, AllocError> {
     let mut ignored = Vec::new(alloc);
-    for reason in REASONS {
+    for reason in Refusal::ALL {
         let mut count = match counts.by_reason.get(usize::from(reason.number())) {
             Some(count) => *count,
             None => 0,

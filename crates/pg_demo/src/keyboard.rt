@@ -47,20 +47,18 @@ impl<'a, R: Wait + Clock + Net + Input<Reader = StdinLock<'static>>, N: Named> K
         gate: WorkerGate<'a, R, N, Unrecorded>,
         console: Console<'a, Vec<u8>>,
     ) -> io::Result<Keyboard<'a, R, N>> {
+        let events = Events::with_capacity(alloc, 1)?;
         let poll = Poll::new(rt)?;
-        let mut input = SourceFd(&STANDARD_INPUT);
-        let registered = poll
-            .registry()
-            .register(&mut input, Token(0), Interest::READABLE);
+        let is_open = can_wait(&poll);
         Ok(Keyboard {
             rt,
             alloc,
             poll,
-            events: Events::with_capacity(alloc, 1)?,
+            events,
             gate: MeteredGate::new(gate),
             console,
             line: Vec::new(alloc),
-            is_open: registered.is_ok(),
+            is_open,
             has_changed: false,
             answer: String::new(alloc),
             typed: 0,
@@ -138,6 +136,14 @@ impl<'a, R: Wait + Clock + Net + Input<Reader = StdinLock<'static>>, N: Named> K
         out.clear();
         Ok(())
     }
+}
+
+/// Whether standard input can be waited for.
+fn can_wait(poll: &Poll) -> bool {
+    let mut input = SourceFd(&STANDARD_INPUT);
+    poll.registry()
+        .register(&mut input, Token(0), Interest::READABLE)
+        .is_ok()
 }
 
 /// Whether a line changes nothing.

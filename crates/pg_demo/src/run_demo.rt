@@ -8,8 +8,8 @@ use crate::sockets::Sockets;
 use crate::state::DemoState;
 use crate::workers::own_workers;
 use pg_console::{
-    AdminListeners, Mailboxes, NoServiceCommands, Pollers, Runtime, ServiceBuilder, ServicePlan,
-    SetUp, SharedState, WorkerCounts, set_up,
+    Mailboxes, NoServiceCommands, Pollers, Runtime, ServiceBuilder, SetUp, SharedState,
+    WorkerCounts, set_up,
 };
 use pg_recorder::Unrecorded;
 use pg_service::Directory;
@@ -17,9 +17,8 @@ use pg_shared::{Named, Seat, Shared};
 use pg_tools::{DemoVerdict, ExpectedStreams, Style};
 use std::alloc::Global;
 use std::marker::Brand;
-use std::mem;
 use std::sync::atomic::AtomicBool;
-use std::time::{Duration, Instant};
+use std::time::Instant;
 
 /// The gateway's workers that have a mailbox. None reports addresses, since no source is connected to by a name.
 const WORKERS: WorkerCounts = WorkerCounts {
@@ -71,21 +70,18 @@ fn run_all<R: Runtime, N: Named + Send>(
     requires shared { shared.now ≡ N.table }
     requires seat { seat.table ≡ N.table }
 {
-    let (mailboxes, pollers) = Mailboxes::new(rt, alloc, WORKERS)?;
+    let start = Instant::now(rt)?;
     let shared_state = SharedState::new(alloc, directory)?;
+    let (mailboxes, pollers) = Mailboxes::new(rt, alloc, WORKERS)?;
     let stop = AtomicBool::new(false);
     let service = mailboxes.handle(&shared_state, "demo", TICK, None, &stop);
-    let state = DemoState::new(service, ExpectedStreams::new(alloc));
+    let state = DemoState::new(service, start, ExpectedStreams::new(alloc));
     serve_demo::<R, N>(rt, alloc, shared, seat, options, &state, pollers)?;
-    let mut outcome = state.outcome.lock(rt);
-    match mem::replace(&mut *outcome, None) {
-        Some(outcome) => outcome,
-        None => Ok(DemoVerdict::Ended),
-    }
+    state.take_outcome(rt)
 }
 
 /// From tick to tick, in milliseconds.
-const TICK: u16 = 10;
+pub const TICK: u16 = 10;
 
 /// Serves both sources and both subscribers, until the demo ends.
 fn serve_demo<'a, R: Runtime, N: Named + Send>(
@@ -105,28 +101,15 @@ fn serve_demo<'a, R: Runtime, N: Named + Send>(
         alloc,
         shared,
         service: state.service,
-        start: Instant::now(rt)?,
+        start: state.start,
     };
     let Sockets {
-        one,
-        other,
-        dials,
-        ports,
-        page,
+        simulators,
+        plan,
         addresses,
     } = Sockets::bind(rt, alloc)?;
     let (seat, keyboard) = shared.split(seat);
-    let own = own_workers::<R, N>(&builder, state, keyboard, options, (one, other), addresses)?;
-    let plan = ServicePlan {
-        dials,
-        ports,
-        tick: Duration::from_millis(u64::from(TICK)),
-        listeners: AdminListeners {
-            lines: None,
-            page: Some(page),
-        },
-        files: None,
-    };
+    let own = own_workers::<R, N>(&builder, state, keyboard, options, simulators, addresses)?;
     builder.serve::<N, Unrecorded, _, _>(seat, pollers, plan, NoServiceCommands, own)?;
     Ok(())
 }

@@ -1,29 +1,27 @@
 //! The sockets of a demo, on free ports of this host.
 
 use crate::fault::Fault;
+use crate::run_demo::TICK;
 use crate::setup::{source_id, sub_id};
 use mio::net::TcpListener as PortListener;
+use pg_console::{AdminListeners, ServicePlan};
 use pg_limits::{Allow, OnChange};
 use pg_service::{Address, ConnectionRules, Dial, Guards};
 use pg_subscribers::Port;
 use pg_tools::{DEMO_SOURCES, Simulator, demo_settings};
+use pg_wire::PmuId;
 use std::alloc::{AllocError, Global};
 use std::net::{Ipv4Addr, Net, SocketAddr};
 use std::rt::Clock;
+use std::time::Duration;
 
 /// The sockets of a demo: its simulated sources, the ports of its subscribers, and that of the page.
 #[derive(Drop)]
 pub struct Sockets {
-    /// The first source.
-    pub one: Simulator,
-    /// The second source.
-    pub other: Simulator,
-    /// How the gateway connects to them.
-    pub dials: Vec<Dial>,
-    /// Where it serves both subscribers.
-    pub ports: Vec<Port>,
-    /// Where it serves the page.
-    pub page: PortListener,
+    /// Both sources.
+    pub simulators: (Simulator, Simulator),
+    /// How the gateway connects to them, and where it serves both subscribers and the page.
+    pub plan: ServicePlan<'static>,
     /// All addresses.
     pub addresses: Addresses,
 }
@@ -40,20 +38,30 @@ pub struct Addresses {
 impl Sockets {
     /// All of them, on free ports.
     pub fn bind<R: Net + Clock>(rt: &R, alloc: Global) -> Result<Sockets, Fault> {
-        let (one, other, dials) = both_sources(rt, alloc)?;
-        let (ports, served) = both_ports(rt, alloc)?;
         let (page, shown) = listener(rt)?;
+        let mut plan = ServicePlan {
+            dials: Vec::new(alloc),
+            ports: Vec::new(alloc),
+            tick: Duration::from_millis(u64::from(TICK)),
+            listeners: AdminListeners {
+                lines: None,
+                page: Some(page),
+            },
+            files: None,
+        };
+        let ports = [
+            add_port(rt, 1, &mut plan.ports)?,
+            add_port(rt, 2, &mut plan.ports)?,
+        ];
+        let simulators = both_sources(rt, alloc, &mut plan.dials)?;
         let addresses = Addresses {
-            sources: [one.address()?, other.address()?],
-            ports: served,
+            sources: [simulators.0.address()?, simulators.1.address()?],
+            ports,
             page: shown,
         };
         Ok(Sockets {
-            one,
-            other,
-            dials,
-            ports,
-            page,
+            simulators,
+            plan,
             addresses,
         })
     }
@@ -80,37 +88,45 @@ impl Addresses {
     }
 }
 
-/// A simulated source, and how the gateway connects to it. `place` is its place in `DEMO_SOURCES`.
-fn simulator<R: Net + Clock>(rt: &R, alloc: Global, place: u8) -> Result<(Simulator, Dial), Fault> {
+/// A simulated source; how the gateway connects to it is added to the others. `place` is its place in `DEMO_SOURCES`.
+fn simulator<R: Net + Clock>(
+    rt: &R,
+    alloc: Global,
+    place: u8,
+    dials: &mut Vec<Dial>,
+) -> Result<Simulator, Fault> {
     let settings = demo_settings(place)?;
     let free = SocketAddr::from((Ipv4Addr::LOCALHOST, 0));
     let simulator = match Simulator::bind(rt, alloc, free, settings, 1) {
         Ok(simulator) => simulator,
         Err(error) => return Err(Fault::Tool(pg_tools::Fault::Bind(free, error))),
     };
+    let source = source_id(settings.numbers.first)?;
+    dials.push(dial_to(alloc, source, simulator.address()?)?)?;
+    Ok(simulator)
+}
+
+/// How the gateway connects to a source at this address.
+fn dial_to(alloc: Global, source: PmuId, address: SocketAddr) -> Result<Dial, AllocError> {
     let mut addresses = Vec::new(alloc);
-    addresses.push(Address::Known(simulator.address()?))?;
-    let dial = Dial {
-        source: source_id(settings.numbers.first)?,
+    addresses.push(Address::Known(address))?;
+    Ok(Dial {
+        source,
         addresses,
         prefer_first: false,
         silence: None,
         guards: Guards::none(),
-    };
-    Ok((simulator, dial))
+    })
 }
 
-/// Both simulated sources, and how the gateway connects to them.
+/// Both simulated sources; how the gateway connects to them is added.
 fn both_sources<R: Net + Clock>(
     rt: &R,
     alloc: Global,
-) -> Result<(Simulator, Simulator, Vec<Dial>), Fault> {
-    let (one, first) = simulator(rt, alloc, 0)?;
-    let (other, second) = simulator(rt, alloc, 1)?;
-    let mut dials = Vec::new(alloc);
-    dials.push(first)?;
-    dials.push(second)?;
-    Ok((one, other, dials))
+    dials: &mut Vec<Dial>,
+) -> Result<(Simulator, Simulator), Fault> {
+    let one = simulator(rt, alloc, 0, dials)?;
+    Ok((one, simulator(rt, alloc, 1, dials)?))
 }
 
 /// A listener, and its address.
@@ -125,8 +141,9 @@ fn listener<R: Net>(rt: &R) -> Result<(PortListener, SocketAddr), Fault> {
     }
 }
 
-/// The port of a subscriber, and its address.
-fn port<R: Net>(rt: &R, number: u16) -> Result<(Port, SocketAddr), Fault> {
+/// Adds the port of a subscriber, and returns its address.
+fn add_port<R: Net>(rt: &R, number: u16, ports: &mut Vec<Port>) -> Result<SocketAddr, Fault> {
+    let sub = sub_id(number)?;
     let (listener, address) = listener(rt)?;
     let rules = ConnectionRules {
         allow: Allow { networks: None },
@@ -135,15 +152,6 @@ fn port<R: Net>(rt: &R, number: u16) -> Result<(Port, SocketAddr), Fault> {
         idle: None,
         change: OnChange::Safe,
     };
-    Ok((Port::new(sub_id(number)?, rules, listener), address))
-}
-
-/// The ports of both subscribers, and their addresses.
-fn both_ports<R: Net>(rt: &R, alloc: Global) -> Result<(Vec<Port>, [SocketAddr; 2]), Fault> {
-    let (first, first_at) = port(rt, 1)?;
-    let (second, second_at) = port(rt, 2)?;
-    let mut ports = Vec::new(alloc);
-    ports.push(first)?;
-    ports.push(second)?;
-    Ok((ports, [first_at, second_at]))
+    ports.push(Port::new(sub, rules, listener))?;
+    Ok(address)
 }

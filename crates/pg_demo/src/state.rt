@@ -3,14 +3,18 @@
 use crate::fault::Fault;
 use pg_console::ServiceHandle;
 use pg_tools::{DemoVerdict, ExpectedStreams};
+use std::mem;
 use std::sync::atomic::{AtomicBool, Ordering};
 use std::sync::{Mutex, Wait};
+use std::time::Instant;
 
 /// What the threads of a demo share.
 #[derive(Drop)]
 pub struct DemoState<'a> {
     /// The gateway's workers, and whether all are to end.
     pub service: ServiceHandle<'a>,
+    /// When the demo started.
+    pub start: Instant,
     /// Whether the subscribers may connect.
     pub is_open: AtomicBool,
     /// Whether the streams of the first and of the second subscriber are on.
@@ -25,9 +29,14 @@ pub struct DemoState<'a> {
 
 impl<'a> DemoState<'a> {
     /// Nothing has events.
-    pub fn new(service: ServiceHandle<'a>, expected: ExpectedStreams) -> DemoState<'a> {
+    pub fn new(
+        service: ServiceHandle<'a>,
+        start: Instant,
+        expected: ExpectedStreams,
+    ) -> DemoState<'a> {
         DemoState {
             service,
+            start,
             is_open: AtomicBool::new(false),
             are_on: [AtomicBool::new(false), AtomicBool::new(false)],
             is_changed: AtomicBool::new(false),
@@ -51,6 +60,14 @@ impl<'a> DemoState<'a> {
         }
         self.service.stop.store(true, Ordering::SeqCst);
         self.service.wake_all();
+    }
+
+    /// What the demo came to, once all have ended.
+    pub fn take_outcome<R: Wait>(&self, rt: &R) -> Result<DemoVerdict, Fault> {
+        match mem::replace(&mut *self.outcome.lock(rt), None) {
+            Some(outcome) => outcome,
+            None => Ok(DemoVerdict::Ended),
+        }
     }
 
     /// Whether all are to end.

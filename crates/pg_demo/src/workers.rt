@@ -64,22 +64,31 @@ pub fn own_workers<
     requires shared { builder.now.shared.now ≡ N.table }
     requires seat { seat.table ≡ N.table }
 {
+    let mut workers = Vec::new(builder.alloc);
+    add_simulators(builder, state, options, simulators, &mut workers)?;
+    add_first(builder, state, seat, options, addresses, &mut workers)?;
+    add_second(builder, state, addresses, &mut workers)?;
+    Ok(workers)
+}
+
+/// Adds the worker that simulates both sources.
+fn add_simulators<'a, R: Wait + Net + Clock + Input<Reader = StdinLock<'static>> + Print, N: Named>(
+    builder: &ServiceBuilder<'a, R>,
+    state: &'a DemoState<'a>,
+    options: DemoOptions,
+    simulators: (Simulator, Simulator),
+    workers: &mut Vec<Worker<'a, R, N>>,
+) -> Result<(), Fault> {
     let (rt, alloc) = (builder.rt, builder.alloc);
-    let mut workers = Vec::new(alloc);
     let phases = PhaseMachine::new(options.seconds, UnixTime::now(rt)?.micros / 1_000);
     let (one, other) = simulators;
     let simulators = Simulators::new(rt, alloc, state, phases, one, other);
     workers.push(Worker::Simulators(simulators))?;
-    add_subscribers(builder, state, seat, options, addresses, &mut workers)?;
-    Ok(workers)
+    Ok(())
 }
 
-/// Adds both subscribers. The first one has the screen, with all addresses below it, and reads lines where the demo has no end.
-fn add_subscribers<
-    'a,
-    R: Wait + Net + Clock + Input<Reader = StdinLock<'static>> + Print,
-    N: Named,
->(
+/// Adds the first subscriber, which has the screen, with all addresses below it, and reads lines where the demo has no end.
+fn add_first<'a, R: Wait + Net + Clock + Input<Reader = StdinLock<'static>> + Print, N: Named>(
     builder: &ServiceBuilder<'a, R>,
     state: &'a DemoState<'a>,
     seat: Seat,
@@ -91,16 +100,28 @@ fn add_subscribers<
     requires seat { seat.table ≡ N.table }
 {
     let (rt, alloc) = (builder.rt, builder.alloc);
+    let [port, _] = addresses.ports;
+    let stream = source_id(FIRST_STREAM)?;
     let text = addresses.intro(alloc, options.seconds.is_none())?;
     let keyboard = keyboard::<R, N>(builder, seat, options)?;
-    let [first, second] = addresses.ports;
-    let stream = source_id(FIRST_STREAM)?;
     let style = options.style;
-    let subscriber = TestSubscriber::new(rt, alloc, state, first, stream, style, text, keyboard);
+    let subscriber = TestSubscriber::new(rt, alloc, state, port, stream, style, text, keyboard);
     workers.push(Worker::TestSubscriber(subscriber))?;
+    Ok(())
+}
+
+/// Adds the second subscriber, which prints nothing.
+fn add_second<'a, R: Wait + Net + Clock + Input<Reader = StdinLock<'static>> + Print, N: Named>(
+    builder: &ServiceBuilder<'a, R>,
+    state: &'a DemoState<'a>,
+    addresses: Addresses,
+    workers: &mut Vec<Worker<'a, R, N>>,
+) -> Result<(), Fault> {
+    let (rt, alloc) = (builder.rt, builder.alloc);
+    let [_, port] = addresses.ports;
     let (stream, nothing) = (source_id(SECOND_STREAM)?, String::new(alloc));
     let style = Style::Quiet;
-    let subscriber = TestSubscriber::new(rt, alloc, state, second, stream, style, nothing, None);
+    let subscriber = TestSubscriber::new(rt, alloc, state, port, stream, style, nothing, None);
     workers.push(Worker::TestSubscriber(subscriber))?;
     Ok(())
 }

@@ -34,50 +34,6 @@ fn lists_give_back(rt: HostRuntime) {
     same(&rt, HeaderText::new(text).into_vec().len(), 1);
 }
 
-/// The refusals by their numbers from 1.
-const ALL: [Refusal; 40] = [
-    Refusal::NoMemory,
-    Refusal::BadFirst,
-    Refusal::BadSecond,
-    Refusal::ShortSize,
-    Refusal::BadCheck,
-    Refusal::BadVersion,
-    Refusal::WrongType,
-    Refusal::BadLength,
-    Refusal::NoSuchStream,
-    Refusal::UnknownCommand,
-    Refusal::Unsupported,
-    Refusal::ReplyFull,
-    Refusal::FloatFormat,
-    Refusal::BadCounts,
-    Refusal::ConfigTooLarge,
-    Refusal::DuplicatePmu,
-    Refusal::WrongId,
-    Refusal::NoConfig,
-    Refusal::BadFraction,
-    Refusal::TimeEnd,
-    Refusal::FarClock,
-    Refusal::StaleConfig,
-    Refusal::NoSuchPmu,
-    Refusal::PmuExists,
-    Refusal::PmusFull,
-    Refusal::NoSuchSub,
-    Refusal::SubExists,
-    Refusal::SubsFull,
-    Refusal::GrantsFull,
-    Refusal::StreamExists,
-    Refusal::StreamsFull,
-    Refusal::BadDefinition,
-    Refusal::NotConnected,
-    Refusal::Busy,
-    Refusal::NotGranted,
-    Refusal::BadLine,
-    Refusal::BadSetup,
-    Refusal::BadTimeBase,
-    Refusal::ReadFault,
-    Refusal::WriteFault,
-];
-
 /// Their names.
 const NAMES: &str =
     "NoMemory BadFirst BadSecond ShortSize BadCheck BadVersion WrongType BadLength NoSuchStream UnknownCommand \
@@ -87,7 +43,7 @@ StreamsFull BadDefinition NotConnected Busy NotGranted BadLine BadSetup BadTimeB
 
 #[test]
 fn refusals_by_number_and_name(rt: HostRuntime) {
-    for (refusal, (number, name)) in ALL.into_iter().zip((1u8..).zip(NAMES.split(' '))) {
+    for (refusal, (number, name)) in Refusal::ALL.into_iter().zip((1u8..).zip(NAMES.split(' '))) {
         same(&rt, (refusal.number(), refusal.name()), (number, name));
         let shown = format!(in rt.alloc(); "{refusal}").expect(&rt, "memory");
         same(&rt, shown.as_str(), name);

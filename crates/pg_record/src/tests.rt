@@ -8,6 +8,7 @@ use crate::{
 };
 use pg_turn::{Machine, Seat, Turnstile};
 use std::alloc::{AllocError, Global};
+use std::process::Abort;
 use std::sync::Wait;
 use std::test::Fail;
 use std::thread::{Threads, join};
@@ -197,43 +198,73 @@ fn is_next(merge: &mut Merge, place: u64) -> bool {
     }
 }
 
+/// Adds a block with ticks at these places, which is whole.
+fn add_ticks(
+    rt: &impl Abort,
+    alloc: Global,
+    merge: &mut Merge,
+    start: u64,
+    places: &[u64],
+) -> Result<(), Fail> {
+    let (head, records) = ticks(alloc, start, places)?;
+    assert!(rt; merge.add(&head, &records)? == 0);
+    Ok(())
+}
+
+/// The records at these places are the next.
+fn are_next(rt: &impl Abort, merge: &mut Merge, from: u64, to: u64) {
+    for place in from..to {
+        assert!(rt; is_next(merge, place), "place {place}");
+    }
+}
+
 /// Records of two workers come in the order of places; what was not recorded is a gap, once it can't come any more.
 #[test]
 fn merged_by_place(rt: HostRuntime) -> Result<(), Fail> {
     let alloc = rt.alloc();
     let mut merge = Merge::new(alloc, 0);
-    let (head, records) = ticks(alloc, 1_000, &[1, 4, 5])?;
-    assert!(rt; merge.add(&head, &records)? == 0);
+    add_ticks(&rt, alloc, &mut merge, 1_000, &[1, 4, 5])?;
     assert!(rt; matches!(merge.next(false), Merged::More));
-    let (head, records) = ticks(alloc, 1_000, &[0, 2])?;
-    assert!(rt; merge.add(&head, &records)? == 0);
-    for place in 0..3 {
-        assert!(rt; is_next(&mut merge, place));
-    }
+    add_ticks(&rt, alloc, &mut merge, 1_000, &[0, 2])?;
+    are_next(&rt, &mut merge, 0, 3);
     // Place 3 may come with a block that is begun until ten seconds behind the call at place 4.
-    let (head, records) = ticks(alloc, 11_002, &[6])?;
-    assert!(rt; merge.add(&head, &records)? == 0);
+    add_ticks(&rt, alloc, &mut merge, 11_002, &[6])?;
     assert!(rt; matches!(merge.next(false), Merged::More) && merge.place() == 3);
-    let (head, records) = ticks(alloc, 11_003, &[7])?;
-    assert!(rt; merge.add(&head, &records)? == 0);
+    add_ticks(&rt, alloc, &mut merge, 11_003, &[7])?;
     assert!(rt; matches!(merge.next(false), Merged::Gap(3, 4)));
-    for place in 4..8 {
-        assert!(rt; is_next(&mut merge, place));
-    }
-    // What comes behind its gap, or twice, is left out.
-    let (head, records) = ticks(alloc, 11_004, &[3, 7, 9, 9])?;
-    assert!(rt; merge.add(&head, &records)? == 0 && merge.repeated() == 3);
-    assert!(rt; matches!(merge.next(false), Merged::More));
-    assert!(rt; matches!(merge.next(true), Merged::Gap(8, 9)));
-    match merge.next(true) {
+    are_next(&rt, &mut merge, 4, 8);
+    Ok(())
+}
+
+/// What comes behind its gap, or twice, is left out, and counted.
+#[test]
+fn repeated_are_left_out(rt: HostRuntime) -> Result<(), Fail> {
+    let alloc = rt.alloc();
+    let mut merge = Merge::new(alloc, 0);
+    add_ticks(&rt, alloc, &mut merge, 1_000, &[0, 0, 2, 3])?;
+    are_next(&rt, &mut merge, 0, 1);
+    assert!(rt; matches!(merge.next(true), Merged::Gap(1, 2)));
+    add_ticks(&rt, alloc, &mut merge, 1_000, &[1, 3])?;
+    are_next(&rt, &mut merge, 2, 4);
+    assert!(rt; merge.repeated() == 3);
+    assert!(rt; matches!(merge.next(true), Merged::More));
+    Ok(())
+}
+
+/// A record has the time of its block and its own, and its body. Bytes that are no record are counted.
+#[test]
+fn merged_has_its_time_and_body(rt: HostRuntime) -> Result<(), Fail> {
+    let alloc = rt.alloc();
+    let mut merge = Merge::new(alloc, 0);
+    let (head, records) = ticks(alloc, 11_004, &[0])?;
+    assert!(rt; merge.add(&head, &records)? == 0);
+    match merge.next(false) {
         Merged::Record(timed) => {
-            assert!(rt; timed.at == 11_006 && timed.record.place == 9);
+            assert!(rt; timed.at == 11_006 && timed.record.place == 0);
             assert!(rt; timed.body.as_slice() == [0, 0, 0, 1].as_slice());
         }
         _ => assert!(rt; false),
     }
-    assert!(rt; matches!(merge.next(true), Merged::More));
-    // Bytes that are no record are counted.
     assert!(rt; merge.add(&head, &[1, 2, 3])? == 3);
     Ok(())
 }

@@ -7,6 +7,7 @@ ghost use Rattle.pg_shared.specs.Gates.{said_at};
 ghost use Rattle.pg_shared.specs.Onward.{GoesOn};
 ghost use Rattle.pg_shared.specs.Continuing.{goes_on_same, goes_on_more};
 ghost use Rattle.pg_shared.specs.Sharing.{history_of, PostedCall, HandsByViews, AnswersByView};
+ghost use Rattle.pg_recorder.specs.Asking.{AsksAtMost};
 
 use crate::call_records::CallRecords;
 use pg_gateway::{Event, Gate, Reply};
@@ -79,7 +80,10 @@ impl<'a, R: Wait, N: Named, T: CallRecords> WorkerGate<'a, R, N, T> {
 
 impl<'a, R: Wait + Clock, N: Named, T: CallRecords> WorkerGate<'a, R, N, T> {
     /// Records that so many frames of a source were ignored for this reason, by a question, which changes nothing; where nothing is recorded none is asked.
-    pub fn note_ignored(&mut self, source: PmuId, reason: Refusal, count: u64) {
+    pub fn note_ignored(&mut self, source: PmuId, reason: Refusal, count: u64)
+        ensures goes_on { GoesOn self.old self.new }
+        ensures asks { AsksAtMost (record { source = source; pmu = source }) self.old self.new }
+    {
         if self.records.note_ignored(source, reason, count) {
             let asked = Event::PmuStats(PmuKey {
                 source,

@@ -22,37 +22,6 @@ const LATEST_MS: u64 = 60_000;
 /// How many frames of 16 bytes a piece of 65,535 bytes has at most.
 const MOST_FRAMES: usize = 4_096;
 
-/// The reasons for which a block of a PMU is refused.
-const REASONS: [Refusal; 6] = [
-    Refusal::FarClock,
-    Refusal::StaleConfig,
-    Refusal::NoConfig,
-    Refusal::BadFraction,
-    Refusal::TimeEnd,
-    Refusal::NoMemory,
-];
-
-/// The reasons for which a worker ignores a source's frame before it is posted.
-const IGNORED: [Refusal; 17] = [
-    Refusal::NoMemory,
-    Refusal::BadFirst,
-    Refusal::BadSecond,
-    Refusal::ShortSize,
-    Refusal::BadCheck,
-    Refusal::BadVersion,
-    Refusal::WrongType,
-    Refusal::BadLength,
-    Refusal::FloatFormat,
-    Refusal::BadCounts,
-    Refusal::ConfigTooLarge,
-    Refusal::DuplicatePmu,
-    Refusal::WrongId,
-    Refusal::NoConfig,
-    Refusal::BadFraction,
-    Refusal::TimeEnd,
-    Refusal::FarClock,
-];
-
 /// Of how many ignored frames at a time the slots are looked for.
 const MOST_IGNORED: u64 = 256;
 
@@ -133,46 +102,9 @@ pub fn explain<W: Write, C: Write + Drop>(
     out: &mut W,
     capture: Option<C>,
 ) -> Result<Totals, Fault> {
-    let Ok(handed) = Deframer::new(alloc) else {
-        return Err(Fault::NoMemory);
-    };
-    let mut explanation = Explanation {
-        alloc,
-        inquiry,
-        replayed: Replayed::new(alloc)?,
-        is_begun: false,
-        streams: Vec::new(alloc),
-        frames: VecDeque::new(alloc),
-        handed,
-        capture: match capture {
-            Some(file) => Some(Capture::new(file)?),
-            None => None,
-        },
-        totals: Totals::none(),
-    };
-    print_heading(inquiry.form(), out)?;
-    for _ in 0..u64::MAX {
-        match reader.next()? {
-            Step::Start(start) => explanation.begin(start, out)?,
-            Step::Record(timed) => {
-                if explanation.is_over(timed.at) {
-                    break;
-                }
-                explanation.take(&timed)?;
-                explanation.print_settled(timed.at, out)?;
-            }
-            Step::Gap(from, to) => explanation.note_gap(from, to, out)?,
-            Step::Notice(file, notice) => {
-                if let Some(path) = reader.paths().get(file) {
-                    let text = notice_text(alloc, path.as_str(), notice)?;
-                    explanation.totals.missing = explanation.totals.missing.saturating_add(1);
-                    print_comment(alloc, text.as_str(), out)?;
-                }
-            }
-            Step::End => break,
-        }
-    }
-    explanation.end(out)
+    let mut explanation = Explanation::new(alloc, inquiry, capture)?;
+    explanation.print_all(reader, out)?;
+    Ok(explanation.totals)
 }
 
 impl Inquiry {
@@ -197,6 +129,74 @@ impl Inquiry {
 }
 
 impl<C: Write + Drop> Explanation<C> {
+    /// Nothing is replayed yet.
+    fn new(alloc: Global, inquiry: Inquiry, capture: Option<C>) -> Result<Explanation<C>, Fault> {
+        let Ok(handed) = Deframer::new(alloc) else {
+            return Err(Fault::NoMemory);
+        };
+        let capture = match capture {
+            Some(file) => Some(Capture::new(file)?),
+            None => None,
+        };
+        Ok(Explanation {
+            alloc,
+            inquiry,
+            replayed: Replayed::new(alloc)?,
+            is_begun: false,
+            streams: Vec::new(alloc),
+            frames: VecDeque::new(alloc),
+            handed,
+            capture,
+            totals: Totals::none(),
+        })
+    }
+
+    /// Replays all that the reader has and prints the frames that are asked for.
+    fn print_all<W: Write>(
+        &mut self,
+        reader: &mut RecordReader<'_>,
+        out: &mut W,
+    ) -> Result<(), Fault> {
+        print_heading(self.inquiry.form(), out)?;
+        for _ in 0..u64::MAX {
+            let step = reader.next()?;
+            if !self.follow_step(step, reader, out)? {
+                break;
+            }
+        }
+        self.end(out)
+    }
+
+    /// Follows a step of the reader. Whether another one is to come.
+    fn follow_step<W: Write>(
+        &mut self,
+        step: Step,
+        reader: &RecordReader<'_>,
+        out: &mut W,
+    ) -> Result<bool, Fault> {
+        match step {
+            Step::Start(start) => self.begin(start, out)?,
+            Step::Record(timed) if self.is_over(timed.at) => return Ok(false),
+            Step::Record(timed) => self.take_and_print(&timed, out)?,
+            Step::Gap(from, to) => self.note_gap(from, to, out)?,
+            Step::Notice(file, notice) => {
+                if let Some(path) = reader.paths().get(file) {
+                    self.totals.missing = self.totals.missing.saturating_add(1);
+                    let text = notice_text(self.alloc, path.as_str(), notice)?;
+                    print_comment(self.alloc, text.as_str(), out)?;
+                }
+            }
+            Step::End => return Ok(false),
+        }
+        Ok(true)
+    }
+
+    /// Posts what was recorded, and prints the frames of which nothing is to come any more.
+    fn take_and_print<W: Write>(&mut self, timed: &Timed, out: &mut W) -> Result<(), Fault> {
+        self.take(timed)?;
+        self.print_settled(timed.at, out)
+    }
+
     /// Whether all frames that are asked for have left, and are settled.
     fn is_over(&self, now: u64) -> bool {
         self.frames.is_empty() && now >= self.inquiry.to.saturating_add(2 * LATEST_MS)
@@ -237,22 +237,32 @@ impl<C: Write + Drop> Explanation<C> {
             }
             return self.note_ignored(timed);
         };
-        self.capture_command(timed)?;
+        self.post(event, timed)?;
+        match timed.record.kind {
+            RecordKind::Edit | RecordKind::Configuration => self.look(),
+            RecordKind::Command => self.capture_command(timed),
+            _ => Ok(()),
+        }
+    }
+
+    /// Posts an event that was recorded so, and notes what it changes for the subscriber.
+    fn post(&mut self, event: Event, timed: &Timed) -> Result<(), Fault> {
         let concern = self.concern_of(&event)?;
         let reply = self.replayed.post(event);
         self.follow(concern, &reply, timed.at)?;
-        match &reply {
-            Reply::Done { made, .. } if *made > 0 => self.collect(timed.at)?,
+        self.follow_reply(&reply, timed)
+    }
+
+    /// Notes the frames that have left with this reply, and those that it hands to the subscriber.
+    fn follow_reply(&mut self, reply: &Reply, timed: &Timed) -> Result<(), Fault> {
+        match reply {
+            Reply::Done { made, .. } if *made > 0 => self.collect(timed.at),
             Reply::Drained {
                 buf,
                 out: Ok(drained),
             } if timed.record.number == self.inquiry.subscriber.get() => {
-                self.hand(buf.get(..drained.len).unwrap_or(&[]), timed.at)?;
+                self.hand(buf.get(..drained.len).unwrap_or(&[]), timed.at)
             }
-            _ => {}
-        }
-        match timed.record.kind {
-            RecordKind::Edit | RecordKind::Configuration => self.look(),
             _ => Ok(()),
         }
     }
@@ -693,9 +703,7 @@ impl<C: Write + Drop> Explanation<C> {
 
     /// Writes a command of the subscriber to the capture.
     fn capture_command(&mut self, timed: &Timed) -> Result<(), Fault> {
-        let record = &timed.record;
-        let is_own = record.kind == RecordKind::Command
-            && record.number == self.inquiry.subscriber.get();
+        let is_own = timed.record.number == self.inquiry.subscriber.get();
         if !is_own || !self.inquiry.is_within(timed.at) {
             return Ok(());
         }
@@ -739,7 +747,7 @@ impl<C: Write + Drop> Explanation<C> {
     }
 
     /// Prints what is left, and the totals.
-    fn end<W: Write>(mut self, out: &mut W) -> Result<Totals, Fault> {
+    fn end<W: Write>(&mut self, out: &mut W) -> Result<(), Fault> {
         for _ in 0..self.frames.len() {
             self.print_first(out)?;
         }
@@ -747,8 +755,7 @@ impl<C: Write + Drop> Explanation<C> {
             capture.end()?;
         }
         self.totals.print(self.alloc, self.inquiry.form(), out)?;
-        flush(out)?;
-        Ok(self.totals)
+        flush(out)
     }
 }
 
@@ -767,9 +774,8 @@ fn ignored_in(timed: &Timed) -> Option<IgnoredFrames> {
     }
     let why = four(&timed.body)?;
     let count = four(timed.body.get(4..)?)?;
-    let reason = IGNORED
-        .iter()
-        .copied()
+    let reason = Refusal::ALL
+        .into_iter()
         .find(|it| u32::from(it.number()) == why % 65_536)?;
     Some(IgnoredFrames {
         source: u16::try_from(why / 65_536).ok()?,
@@ -781,7 +787,7 @@ fn ignored_in(timed: &Timed) -> Option<IgnoredFrames> {
 
 /// The reason that was counted since.
 fn reason_of(before: &PmuStats, after: &PmuStats) -> Option<Refusal> {
-    REASONS.iter().copied().find(|it| {
+    Refusal::ALL.into_iter().find(|it| {
         let number = usize::from(it.number());
         before.by_reason.get(number) != after.by_reason.get(number)
     })

@@ -1,7 +1,7 @@
 //! `pdcgw replay`: a script is read, and the answer to each of its lines is printed.
 
 ghost use Rattle.std.specs.Prelude.{◌≡◌, Some, OnOk};
-ghost use Rattle.std.specs.Io.KnownBytes.{Appends};
+ghost use Rattle.std.specs.Io.KnownBytes.{Appends, Keeps};
 ghost use Rattle.pg_serve.specs.Inputs.{input_value};
 ghost use Rattle.pg_serve.specs.Shown.{queue_shown, link_counted};
 ghost use Rattle.pg_replay.specs.Faults.{told_as, fault_of};
@@ -86,11 +86,18 @@ pub fn replay<R: Read + Drop, W: Write>(alloc: Global, reader: R, out: &mut W) -
         output: Output::new(alloc),
     };
     script.answer_all(&mut reader, out)?;
-    match out.flush() {
-        Ok(()) => {}
-        Err(_) => return Err(Fault::Write),
-    }
+    flush(out)?;
     Ok(())
+}
+
+/// Writes what is buffered.
+fn flush<W: Write>(out: &mut W) -> Result<(), Fault>
+    ensures keeps { OnOk result (Keeps (W.contents out.old) (W.contents out.new)) }
+{
+    match out.flush() {
+        Ok(()) => Ok(()),
+        Err(_) => Err(Fault::Write),
+    }
 }
 
 impl Script {

@@ -27,7 +27,36 @@ pub(crate) fn own_workers<'a, R: Runtime, N: Named>(
     requires seat { seat.table ≡ N.table }
     ensures seat { IfOk result (λ made. made.0 ≡ seat) }
 {
+    let mut workers = writing_workers::<R, N>(builder, context, segments)?;
+    let (seat, reload_worker) = reload_worker::<R, N>(builder, context, seat, reloads);
+    if let Some(worker) = reload_worker {
+        workers.push(Worker::Reloads(worker))?;
+    }
+    let (seat, operator) = operator::<R, N>(builder, context, seat, lines);
+    workers.push(Worker::Lines(operator))?;
+    Ok((seat, workers))
+}
+
+/// The workers without a seat: those that write the log, watch delays, and write what is recorded to these segments, if it is.
+fn writing_workers<'a, R: Runtime, N: Named>(
+    builder: &ServiceBuilder<'a, R>,
+    context: RunContext<'a>,
+    segments: Option<Segments<'a>>,
+) -> Result<Vec<Worker<'a, R, N>>, Refusal> {
     let mut workers = Vec::new(builder.alloc);
+    add_writer(builder, segments, &mut workers)?;
+    add_log(builder, context, &mut workers)?;
+    let delays = DelayWatch::new(builder.rt, builder.alloc, builder.service);
+    workers.push(Worker::Delays(delays))?;
+    Ok(workers)
+}
+
+/// Adds the worker that writes the log.
+fn add_log<'a, R: Runtime, N: Named>(
+    builder: &ServiceBuilder<'a, R>,
+    context: RunContext<'a>,
+    workers: &mut Vec<Worker<'a, R, N>>,
+) -> Result<(), Refusal> {
     let journal = builder.service.handles.journal;
     let has_priority = context.start.has_priority;
     let log = logger_of(
@@ -38,19 +67,21 @@ pub(crate) fn own_workers<'a, R: Runtime, N: Named>(
         builder.start,
     )?;
     workers.push(Worker::Log(log))?;
-    let delays = DelayWatch::new(builder.rt, builder.alloc, builder.service);
-    workers.push(Worker::Delays(delays))?;
-    let (seat, reload_worker) = reload_worker::<R, N>(builder, context, seat, reloads);
-    if let Some(worker) = reload_worker {
-        workers.push(Worker::Reloads(worker))?;
-    }
-    if let (Some(recorder), Some(segments)) = (builder.service.recorder, segments) {
-        let writer = RecordWriter::new(builder.rt, recorder, journal, segments)?;
+    Ok(())
+}
+
+/// Adds the worker that writes what is recorded to these segments, if it is.
+fn add_writer<'a, R: Runtime, N: Named>(
+    builder: &ServiceBuilder<'a, R>,
+    segments: Option<Segments<'a>>,
+    workers: &mut Vec<Worker<'a, R, N>>,
+) -> Result<(), Refusal> {
+    let service = &builder.service;
+    if let (Some(recorder), Some(segments)) = (service.recorder, segments) {
+        let writer = RecordWriter::new(builder.rt, recorder, service.handles.journal, segments)?;
         workers.push(Worker::Records(writer))?;
     }
-    let (seat, operator) = operator::<R, N>(builder, context, seat, lines);
-    workers.push(Worker::Lines(operator))?;
-    Ok((seat, workers))
+    Ok(())
 }
 
 /// The worker that does the reloads that clients of the control socket ask for, if that is open.

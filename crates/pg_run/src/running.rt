@@ -122,26 +122,70 @@ fn run_by<'a, R: Runtime + Alloc<A = Global>>(
         directory,
     } = set_up(rt, alloc, edits, context.recorder)?;
     let state = SharedState::new(alloc, directory)?;
-    let setup = context.setup.lock(rt);
-    let served = Served::of(context.start, context.name, &setup);
-    state.journal.set_filter(rt, filter_of(setup.log));
-    let plan = plan_of(rt, context.files, alloc, &setup)?;
-    let control = copy_of(alloc, &setup.control)?;
-    drop(setup);
-    let has_priority = context.start.has_priority;
-    let mut log = logger_of(rt, alloc, &state.journal, has_priority, plan.now)?;
-    log.write(Level::Info, None, &served);
-    write_warnings(&mut log, warnings);
+    let mut plan = bound_plan(rt, alloc, context)?;
+    let (now, control) = (plan.now, plan.control.take());
+    begin_log(rt, alloc, context, &state.journal, now, warnings)?;
     let ended = serve_all::<R, Brand>(rt, alloc, &shared, seat, context, plan, &state, lines);
-    write_last(rt, alloc, context, &state.journal);
-    log.write_rest();
-    log.write(Level::Info, None, &"the gateway has ended");
-    if let Some(path) = control {
-        // Where it can't be removed, the next start replaces it.
-        let _ = fs::remove_file(context.files, path.as_str());
+    end_log(rt, alloc, context, &state.journal, now);
+    remove_control(context.files, control);
+    match ended {
+        Ok(_) => Ok(()),
+        Err(refusal) => Err(Failure::Refused(refusal)),
     }
-    ended?;
+}
+
+/// What is served by the setup of this context, on ports and sockets that are bound.
+fn bound_plan<'a, R: Net + Clock + Wait>(
+    rt: &R,
+    alloc: Global,
+    context: RunContext<'a>,
+) -> Result<Plan<'a>, Failure> {
+    let setup = context.setup.lock(rt);
+    plan_of(rt, context.files, alloc, &setup)
+}
+
+/// Begins the log: with what is served, and the warnings of the setup, a line each.
+fn begin_log<R: Wait + Clock + Eprint + Net>(
+    rt: &R,
+    alloc: Global,
+    context: RunContext<'_>,
+    journal: &Journal,
+    now: Instant,
+    warnings: &str,
+) -> Result<(), Refusal> {
+    let mut log = logger_of(rt, alloc, journal, context.start.has_priority, now)?;
+    let served = {
+        let setup = context.setup.lock(rt);
+        journal.set_filter(rt, filter_of(setup.log));
+        Served::of(context.start, context.name, &setup)
+    };
+    log.write(Level::Info, None, &served);
+    for warning in warnings.lines() {
+        log.write(Level::Warn, None, &warning);
+    }
     Ok(())
+}
+
+/// Writes what was recorded last, and ends the log.
+fn end_log<R: Wait + Clock + Eprint + Net>(
+    rt: &R,
+    alloc: Global,
+    context: RunContext<'_>,
+    journal: &Journal,
+    now: Instant,
+) {
+    write_last(rt, alloc, context, journal);
+    if let Ok(mut log) = logger_of(rt, alloc, journal, context.start.has_priority, now) {
+        log.write_rest();
+        log.write(Level::Info, None, &"the gateway has ended");
+    }
+}
+
+/// Removes the control socket, if there is one. Where it can't be removed, the next start replaces it.
+fn remove_control(files: &HostRuntime, control: Option<String>) {
+    if let Some(path) = control {
+        let _ = fs::remove_file(files, path.as_str());
+    }
 }
 
 /// A copy of a text, where there is one.
@@ -149,13 +193,6 @@ fn copy_of(alloc: Global, text: &Option<String>) -> Result<Option<String>, Refus
     match text {
         Some(text) => Ok(Some(String::from_str(alloc, text.as_str())?)),
         None => Ok(None),
-    }
-}
-
-/// Writes the warnings of the setup, a line each.
-fn write_warnings<R: Wait + Clock + Eprint + Net>(log: &mut Logger<'_, R>, warnings: &str) {
-    for warning in warnings.lines() {
-        log.write(Level::Warn, None, &warning);
     }
 }
 
@@ -191,8 +228,10 @@ fn plan_of<'a, R: Net + Clock>(
         listeners: admin_listeners(rt, files, &setup.control, setup.status)?,
         files: Some(files),
     };
+    let control = copy_of(alloc, &setup.control)?;
     Ok(Plan {
         service,
+        control,
         ingest: usize::from(setup.ingest),
         serve: usize::from(setup.serve),
         tick_ms: setup.tick_ms,

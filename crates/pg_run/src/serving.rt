@@ -27,6 +27,8 @@ use std::time::Instant;
 #[derive(Drop)]
 pub(crate) struct Plan<'a> {
     pub(crate) service: ServicePlan<'a>,
+    // The control socket's path, if there is one.
+    pub(crate) control: Option<String>,
     pub(crate) ingest: usize,
     pub(crate) serve: usize,
     // Milliseconds from tick to tick.
@@ -52,7 +54,6 @@ pub(crate) fn serve_all<'a, R: Runtime, N: Named + Send>(
     ensures begins { IfOk result (λ joined. Begins seat joined) }
 {
     let (mailboxes, pollers) = mailboxes_of(rt, alloc, &plan)?;
-    mailboxes.resolver.start(rt, alloc)?;
     log_ports(rt, &state.journal, &plan.service.ports);
     serve_with::<R, N>(
         rt, alloc, shared, seat, context, plan, &mailboxes, pollers, state, lines,
@@ -135,8 +136,8 @@ fn log_ports<R: Wait + Clock>(rt: &R, journal: &Journal, ports: &[Port]) {
     }
 }
 
-/// The mailboxes of the workers of this plan, and what they wait with.
-fn mailboxes_of<R: Net>(
+/// The mailboxes of the workers of this plan, and what they wait with. Names of hosts are looked up from now on.
+fn mailboxes_of<R: Runtime>(
     rt: &R,
     alloc: Global,
     plan: &Plan<'_>,
@@ -150,8 +151,10 @@ fn mailboxes_of<R: Net>(
         has_admin: takes_lines || listeners.page.is_some(),
         has_reloads: takes_lines,
     };
-    match Mailboxes::new(rt, alloc, counts) {
-        Ok(made) => Ok(made),
-        Err(error) => Err(refusal_of(error)),
-    }
+    let (mailboxes, pollers) = match Mailboxes::new(rt, alloc, counts) {
+        Ok(made) => made,
+        Err(error) => return Err(refusal_of(error)),
+    };
+    mailboxes.resolver.start(rt, alloc)?;
+    Ok((mailboxes, pollers))
 }

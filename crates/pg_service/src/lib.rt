@@ -35,7 +35,7 @@ pub use mail::{Mailbox, PortOrder, SourceOrder};
 pub use metered_gate::{ClockCheck, GateStats, Guards, MeteredGate};
 pub use poller::{LONGEST_WAIT_MS, Poller, sooner};
 pub use ready_queue::{READS, ReadyQueue};
-pub use reasons::{REASONS, ended};
+pub use reasons::ended;
 pub use resolver::{Lookup, Resolver, ResolverWorker};
 pub use rules::ConnectionRules;
 pub use status_collector::{LinkState, PortReport, Reports, SourceReport, StatusCollector};

@@ -106,24 +106,9 @@ fn try_edits(
     text: &str,
     edits: Vec<Edit>,
 ) -> Result<Option<Trouble>, Refusal> {
-    let mut trial = Trial {
-        alloc,
-        gateway: Gateway::new(alloc)?,
-        lines: SetupLines::of(alloc, text)?,
-        places: Places::new(),
-        first: None,
-        told: Listing::new(alloc),
-    };
-    for edit in edits {
-        trial.post(edit)?;
-    }
-    match trial.first {
-        Some(refusal) => {
-            let told = trial.told.text(alloc, file, "refused edit")?;
-            Ok(Some(Trouble { refusal, told }))
-        }
-        None => Ok(None),
-    }
+    let mut trial = Trial::new(alloc, text)?;
+    trial.post_all(edits)?;
+    trial.refused(file)
 }
 
 /// Edits that are tried.
@@ -137,7 +122,43 @@ struct Trial<'a> {
     told: Listing,
 }
 
-impl Trial<'_> {
+impl<'a> Trial<'a> {
+    /// No edit was tried yet.
+    fn new(alloc: Global, text: &'a str) -> Result<Trial<'a>, Refusal> {
+        let lines = SetupLines::of(alloc, text)?;
+        Ok(Trial {
+            alloc,
+            gateway: Gateway::new(alloc)?,
+            lines,
+            places: Places::new(),
+            first: None,
+            told: Listing::new(alloc),
+        })
+    }
+
+    /// Posts these edits, in their order.
+    fn post_all(&mut self, edits: Vec<Edit>) -> Result<(), AllocError> {
+        for edit in edits {
+            self.post(edit)?;
+        }
+        Ok(())
+    }
+
+    /// The edits that were refused, if any was.
+    fn refused(self, file: &str) -> Result<Option<Trouble>, Refusal> {
+        let Trial {
+            alloc,
+            first,
+            told,
+            ..
+        } = self;
+        let Some(refusal) = first else {
+            return Ok(None);
+        };
+        let told = told.text(alloc, file, "refused edit")?;
+        Ok(Some(Trouble { refusal, told }))
+    }
+
     /// Posts an edit, and returns why it is refused, if it is: of a stream each value that is.
     fn post(&mut self, edit: Edit) -> Result<(), AllocError> {
         let (table, key) = self.places.next(&edit);

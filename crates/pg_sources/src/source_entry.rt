@@ -13,10 +13,10 @@ use pg_log::{ConfigChange, Detail, Entry, Journal, LogEvent, MOST_PMUS, Subject}
 use pg_quality::{PmuQuality, PmuSummary, SourceQuality};
 use pg_recorder::{CallRecords, WorkerGate};
 use pg_service::{
-    Address, GateStats, LinkState, Lookup, MeteredGate, REASONS, SourceReport, Targets,
-    WorkerHandles, ended,
+    Address, GateStats, LinkState, Lookup, MeteredGate, SourceReport, Targets, WorkerHandles, ended,
 };
 use pg_shared::Named;
+use pg_wire::Refusal;
 use std::alloc::{AllocError, Global};
 use std::io::ErrorKind;
 use std::net::{Net, SocketAddr};
@@ -255,7 +255,7 @@ impl SourceEntry {
         if counted.by_reason == self.reported.by_reason {
             return;
         }
-        for reason in REASONS {
+        for reason in Refusal::ALL {
             let at = usize::from(reason.number());
             let (Some(new), Some(old)) = (
                 counted.by_reason.get(at),

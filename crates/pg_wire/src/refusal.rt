@@ -131,6 +131,50 @@ pub enum Refusal {
 }
 
 impl Refusal {
+    /// Each refusal, by its number from 1.
+    pub const ALL: [Refusal; 40] = [
+        Refusal::NoMemory,
+        Refusal::BadFirst,
+        Refusal::BadSecond,
+        Refusal::ShortSize,
+        Refusal::BadCheck,
+        Refusal::BadVersion,
+        Refusal::WrongType,
+        Refusal::BadLength,
+        Refusal::NoSuchStream,
+        Refusal::UnknownCommand,
+        Refusal::Unsupported,
+        Refusal::ReplyFull,
+        Refusal::FloatFormat,
+        Refusal::BadCounts,
+        Refusal::ConfigTooLarge,
+        Refusal::DuplicatePmu,
+        Refusal::WrongId,
+        Refusal::NoConfig,
+        Refusal::BadFraction,
+        Refusal::TimeEnd,
+        Refusal::FarClock,
+        Refusal::StaleConfig,
+        Refusal::NoSuchPmu,
+        Refusal::PmuExists,
+        Refusal::PmusFull,
+        Refusal::NoSuchSub,
+        Refusal::SubExists,
+        Refusal::SubsFull,
+        Refusal::GrantsFull,
+        Refusal::StreamExists,
+        Refusal::StreamsFull,
+        Refusal::BadDefinition,
+        Refusal::NotConnected,
+        Refusal::Busy,
+        Refusal::NotGranted,
+        Refusal::BadLine,
+        Refusal::BadSetup,
+        Refusal::BadTimeBase,
+        Refusal::ReadFault,
+        Refusal::WriteFault,
+    ];
+
     ghost use Rattle.pg_wire.specs.Number.{name_of, number_of};
 
     /// Its number, from 1 to 40.

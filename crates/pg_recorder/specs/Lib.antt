@@ -1,0 +1,2 @@
+-- Definitions that the contracts of the gates of workers cite.
+pub mod Asking
