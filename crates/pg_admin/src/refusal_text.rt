@@ -43,7 +43,7 @@ pub fn say(refusal: Refusal) -> &'static str
 }
 
 /// The last line that is printed: the number and the name of the refusal by which the program ends.
-#[derive(Clone, Copy, Debug, PartialEq, Eq)]
+#[derive(Clone, Copy, PartialEq, Eq)]
 pub struct Signed(pub Refusal);
 
 impl fmt::Display for Signed {

@@ -4,7 +4,7 @@ use std::alloc::{AllocError, Global};
 use std::net::SocketAddr;
 
 /// What a key of the setup names, and the system does not bind.
-#[derive(Clone, Copy, Debug, PartialEq, Eq)]
+#[derive(Clone, Copy, PartialEq, Eq)]
 pub enum Bound {
     /// The port of the subscriber with this number.
     Port(u16),

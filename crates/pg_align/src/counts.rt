@@ -11,7 +11,7 @@ use pg_data::SharedBlock;
 const MEMBERS: usize = 32;
 
 /// Why a slot left.
-#[derive(Clone, Copy, Debug, PartialEq, Eq)]
+#[derive(Clone, Copy, PartialEq, Eq)]
 pub enum Cause {
     /// The block of each effective member had come.
     Complete,
@@ -25,7 +25,7 @@ pub enum Cause {
 
 /// The slots of a stream that left since it was defined, by their cause, and its members by their places in the definition. Each number stays
 /// at 2^64 - 1 once it is there.
-#[derive(Clone, Copy, Debug, PartialEq, Eq)]
+#[derive(Clone, Copy, PartialEq, Eq)]
 pub struct SlotCounts {
     /// Those that left complete.
     pub complete: u64,

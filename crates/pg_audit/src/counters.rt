@@ -6,7 +6,7 @@ ghost use Rattle.pg_wire.specs.Number.{number_of};
 use pg_wire::Refusal;
 
 /// What happened to a subscriber's data frames, replies and commands. Only the `count_*` calls change it.
-#[derive(Clone, Copy, Debug, PartialEq, Eq)]
+#[derive(Clone, Copy, PartialEq, Eq)]
 pub struct Stats {
     /// Data frames made: the numbers given, kept or not.
     pub made: u64,
@@ -30,7 +30,7 @@ pub struct Stats {
 
 /// What happened to a PMU's blocks, a link's events or a session's commands. Only the `count_*` calls change
 /// it.
-#[derive(Clone, Copy, Debug, PartialEq, Eq)]
+#[derive(Clone, Copy, PartialEq, Eq)]
 pub struct PmuStats {
     /// Blocks of measurements taken (of a PMU), events given (of a link), commands given (of a session).
     pub taken: u64,

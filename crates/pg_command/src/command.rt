@@ -9,7 +9,7 @@ ghost use Rattle.pg_command.specs.Spelling.{SpellsCommand, written};
 use pg_wire::{Head, Kind, PmuId, Refusal, check, read_head};
 
 /// A command of a subscriber, or to a source.
-#[derive(Clone, Copy, Debug, PartialEq, Eq)]
+#[derive(Clone, Copy, PartialEq, Eq)]
 pub struct Command {
     /// IDCODE: the number of the stream that is commanded, or in a command to a source that of the source.
     pub stream: u16,

@@ -4,7 +4,7 @@ ghost use Rattle.std.specs.Prelude.{◌≡◌, ◌↔◌, IsSome, IfSome};
 ghost use Rattle.pg_command.specs.Words.{IsKnown, word_number, word_of};
 
 /// The word of a command, CMD (C37.118.2, 6.6).
-#[derive(Clone, Copy, Debug, PartialEq, Eq)]
+#[derive(Clone, Copy, PartialEq, Eq)]
 pub enum Word {
     /// Stop sending data frames: 1.
     StopData,

@@ -1,5 +1,5 @@
-//! Tests of pg_wire, pg_command, pg_config, pg_data, pg_stream, pg_entitle, pg_align, pg_outcfg, pg_ring, pg_audit and pg_registry, as
-//! their callers see them. They stand in a crate of their own, so that the gate proves those crates once.
+//! Tests of pg_wire, pg_command, pg_config, pg_data, pg_stream, pg_entitle, pg_align, pg_outcfg, pg_ring, pg_audit, pg_registry and
+//! pg_quality, as their callers see them. They stand in a crate of their own, so that the gate proves those crates once.
 #![tactic(auto)]
 
 #[cfg(test)]
@@ -16,6 +16,8 @@ mod keys;
 mod output;
 #[cfg(test)]
 mod plain;
+#[cfg(test)]
+mod quality;
 #[cfg(test)]
 mod queue;
 #[cfg(test)]

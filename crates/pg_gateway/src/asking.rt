@@ -184,8 +184,20 @@ pub(crate) fn waiting_among(
     asked
 }
 
-/// Whether something waits to be handed out to a subscriber, which may not be there.
+/// Whether something waits to be handed out to a subscriber, which may not be there. Where subscribers are numbered from 1 it stands at the place of
+/// its number, and need not be searched for.
+#[inline(always)]
 fn waits(subs: &IndexMap<SubId, SubscriberSlot>, sub: SubId) -> bool
+    ensures { result ≡ slot_waits (lookup (nat_eq sub) subs.now.entries) }
+{
+    match subs.get_index(usize::from(sub.get()) - 1) {
+        Some((found, slot)) if *found == sub => slot.has_waiting(),
+        _ => waits_anywhere(subs, sub),
+    }
+}
+
+/// The same of a subscriber that stands anywhere.
+fn waits_anywhere(subs: &IndexMap<SubId, SubscriberSlot>, sub: SubId) -> bool
     ensures { result ≡ slot_waits (lookup (nat_eq sub) subs.now.entries) }
 {
     match subs.get(&sub) {

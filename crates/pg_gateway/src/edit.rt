@@ -8,7 +8,7 @@ use pg_wire::{PmuKey, StreamId, SubId};
 use std::alloc::{AllocError, Global};
 
 /// What an operator asks of the gateway: each is an event of the gateway of the same name.
-#[derive(Debug, Drop)]
+#[derive(Drop)]
 pub enum Edit {
     /// A PMU is registered.
     AddPmu(PmuKey),

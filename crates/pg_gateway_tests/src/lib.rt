@@ -1,5 +1,5 @@
-//! Tests of pg_session, pg_gateway, pg_ingest, pg_shared and pg_laws, as their callers see them. They stand in a crate of their own, so
-//! that the gate proves those crates once.
+//! Tests of pg_record, pg_session, pg_gateway, pg_ingest, pg_shared and pg_laws, as their callers see them. They stand in a crate of their
+//! own, so that the gate proves those crates once.
 #![tactic(auto)]
 
 #[cfg(test)]
@@ -14,6 +14,8 @@ mod laws;
 mod links;
 #[cfg(test)]
 mod memory;
+#[cfg(test)]
+mod records;
 #[cfg(test)]
 mod services;
 #[cfg(test)]

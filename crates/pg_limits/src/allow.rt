@@ -9,7 +9,7 @@ use std::marker::Model;
 use std::net::Ipv4Addr;
 
 /// Hosts whose addresses begin alike: the first `bits` bits of an address, 0 to 32.
-#[derive(Clone, Copy, Debug, PartialEq, Eq)]
+#[derive(Clone, Copy, PartialEq, Eq)]
 pub struct Network {
     address: u32,
     bits: u8,
@@ -57,7 +57,7 @@ impl fmt::Display for Network {
 }
 
 /// The hosts that may connect: those of some networks, or every host.
-#[derive(Debug, Drop)]
+#[derive(Drop)]
 pub struct Allow {
     /// The networks; `None` where every host may connect.
     pub networks: Option<Vec<Network>>,

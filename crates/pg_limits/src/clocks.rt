@@ -7,7 +7,7 @@ use std::marker::Model;
 
 /// How the clocks of connected sources stand to this machine's: how many sources there are, how many are refused since the time
 /// of their data is ahead of this machine's clock, and how many since it is behind.
-#[derive(Clone, Copy, Debug, PartialEq, Eq)]
+#[derive(Clone, Copy, PartialEq, Eq)]
 pub struct Clocks {
     connected: u32,
     ahead: u32,

@@ -7,7 +7,7 @@ use std::marker::Model;
 /// How many events may make frames before those are known to be handed out that were made before: `most`. They are counted in
 /// two parts, those before a mark, of which it is waited that they are handed out, and those since. Once all are out it is waited until
 /// half of them are handed out, so that a worker that makes frames and one that hands them out change over seldom.
-#[derive(Clone, Copy, Debug)]
+#[derive(Clone, Copy)]
 pub struct Credit {
     most: u32,
     before: u32,

@@ -7,7 +7,7 @@ use std::time::{Duration, Instant};
 
 /// What is waited for, and how long at most: a source's next event (*silence*), a byte that a subscriber's socket takes
 /// (*stall*), any byte of a subscriber (*idle*), a connection that is being made.
-#[derive(Clone, Copy, Debug)]
+#[derive(Clone, Copy)]
 pub struct Deadline {
     /// When it was last seen.
     pub last: Instant,

@@ -3,7 +3,7 @@ ghost use Rattle.std.specs.Prelude.{◌≡◌, ◌<◌, ◌≤◌, ◌^◌, coun
 ghost use Rattle.pg_limits.specs.Clocks.{ahead_by, has_half, is_ahead, is_near, is_wrong, lower_median, millis_of, reference};
 
 /// How far a source's measurements may be from this machine's clock.
-#[derive(Clone, Copy, Debug)]
+#[derive(Clone, Copy)]
 pub struct ClockGuard {
     /// Milliseconds, 1 to 30,000.
     pub limit: u16,
@@ -24,7 +24,7 @@ impl ClockGuard {
 }
 
 /// How far a source's measurements may be ahead of the reference; see [`reference`].
-#[derive(Clone, Copy, Debug)]
+#[derive(Clone, Copy)]
 pub struct AheadGuard {
     /// Milliseconds, 1 to 30,000.
     pub limit: u16,

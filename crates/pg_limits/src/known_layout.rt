@@ -10,7 +10,7 @@ use crate::switches::Switches;
 pub const LAYOUTS: usize = 32;
 
 /// What is found of a stream.
-#[derive(Clone, Copy, Debug, PartialEq, Eq)]
+#[derive(Clone, Copy, PartialEq, Eq)]
 pub struct FoundStream {
     /// Its number, 1 to 65534.
     pub stream: u16,
@@ -38,7 +38,7 @@ pub enum Verdict {
 }
 
 /// What happened while a subscriber was served once.
-#[derive(Clone, Copy, Debug)]
+#[derive(Clone, Copy)]
 pub struct ServedOnce {
     /// The streams whose CFG-2 was put among the replies.
     pub configured: Switches,
@@ -66,7 +66,7 @@ impl ServedOnce {
 
 /// What is known of the layouts of one stream. Its subscriber reads it by one of the layouts from number `floor` on, and so is each
 /// of its frames that wait. Number `newest` is that of the last answer.
-#[derive(Clone, Copy, Debug, PartialEq, Eq)]
+#[derive(Clone, Copy, PartialEq, Eq)]
 pub struct KnownLayout {
     /// Its number; 0 where it is none.
     pub stream: u16,

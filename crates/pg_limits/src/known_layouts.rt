@@ -9,7 +9,7 @@ use crate::switches::{STREAMS, Switches};
 use std::marker::Model;
 
 /// What is to be done about the streams of a subscriber.
-#[derive(Clone, Copy, Debug, PartialEq, Eq)]
+#[derive(Clone, Copy, PartialEq, Eq)]
 pub struct Judged {
     /// The stream for which the connection is to be closed, if there is one.
     pub misread: Option<u16>,
@@ -34,7 +34,7 @@ impl Judged {
 
 /// What the subscriber of one connection knows of the layouts of its streams. A data frame does not say which blocks it carries: its
 /// reader knows that by the last CFG-2.
-#[derive(Clone, Copy, Debug)]
+#[derive(Clone, Copy)]
 pub struct KnownLayouts {
     streams: [KnownLayout; STREAMS],
 }

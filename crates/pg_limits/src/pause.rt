@@ -6,7 +6,7 @@ use std::marker::Model;
 
 /// How long to wait before a source is called again, in whole seconds: 0 after an event of it; after a call that failed,
 /// or a connection that ended before its first event, 1, and then twice as long each time, 30 at most.
-#[derive(Clone, Copy, Debug)]
+#[derive(Clone, Copy)]
 pub struct Pause {
     seconds: u8,
 }

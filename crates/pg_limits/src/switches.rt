@@ -8,7 +8,7 @@ use std::marker::Model;
 pub const STREAMS: usize = 8;
 
 /// The streams that commands started or stopped, each with the last of these commands.
-#[derive(Clone, Copy, Debug, PartialEq, Eq)]
+#[derive(Clone, Copy, PartialEq, Eq)]
 pub struct Switches {
     // The streams in the order in which they were named first, 0 behind the last, and whether each is on.
     streams: [(u16, bool); STREAMS],

@@ -9,7 +9,7 @@ use hex::FromHex;
 use std::net::Ipv4Addr;
 
 /// A connection, as a line of /proc/net/tcp of Linux has it.
-#[derive(Clone, Copy, Debug, PartialEq, Eq)]
+#[derive(Clone, Copy, PartialEq, Eq)]
 pub struct TcpRow {
     /// The address and the port of this machine's end.
     pub local: (Ipv4Addr, u16),

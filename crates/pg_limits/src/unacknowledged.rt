@@ -8,7 +8,7 @@ use std::time::Instant;
 
 /// Since when the other side of a connection acknowledged nothing, though bytes wait for that: so a host that lost its power is
 /// found.
-#[derive(Debug, Drop)]
+#[derive(Drop)]
 pub struct Unacknowledged {
     acknowledged: u64,
     since: Option<Instant>,

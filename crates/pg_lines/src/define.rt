@@ -41,7 +41,7 @@ pub(crate) fn define(alloc: Global, args: &[&str]) -> Result<Edit, Refusal>
 }
 
 /// The numbers of a definition, apart from its header and its members.
-#[derive(Clone, Copy, Debug)]
+#[derive(Clone, Copy)]
 pub struct Numbers {
     /// The stream's number.
     pub stream: StreamId,

@@ -13,7 +13,7 @@ use std::alloc::Global;
 use std::net::{Ipv4Addr, SocketAddrV4};
 
 /// What a line asks of the running service.
-#[derive(Clone, Copy, Debug, PartialEq, Eq)]
+#[derive(Clone, Copy, PartialEq, Eq)]
 pub enum Steer {
     /// The source is called at this address from now on.
     Dial(PmuId, SocketAddrV4),

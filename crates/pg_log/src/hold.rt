@@ -5,7 +5,7 @@ use std::marker::Model;
 
 /// How long an entry that is like one that was logged is held back, in milliseconds: a second at first, then twice as long behind each line
 /// before which some were held back, a minute at most; a second again once it was quiet for that long.
-#[derive(Clone, Copy, Debug)]
+#[derive(Clone, Copy)]
 pub struct HoldTime {
     millis: u64,
 }

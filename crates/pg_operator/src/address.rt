@@ -104,7 +104,7 @@ pub(crate) enum CalledAddresses<'a> {
 }
 
 /// Where a source is connected to.
-#[derive(Debug, Drop, PartialEq, Eq)]
+#[derive(Drop, PartialEq, Eq)]
 pub enum SourceAddress {
     /// The address of a host, and a port.
     Endpoint(SocketAddrV4),

@@ -13,7 +13,7 @@ use std::net::Ipv4Addr;
 use toml::{Table, Value};
 
 /// The hosts that may connect to a subscriber's port, when it is hung up, and what is done where the blocks of a stream change.
-#[derive(Debug, Drop)]
+#[derive(Drop)]
 pub struct PortRules {
     /// The subscriber.
     pub sub: SubId,
@@ -32,7 +32,7 @@ pub struct PortRules {
 }
 
 /// The port of a subscriber.
-#[derive(Debug, Drop)]
+#[derive(Drop)]
 pub struct PortSetup {
     /// Its number: 1 to 65535.
     pub port: u16,

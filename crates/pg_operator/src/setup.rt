@@ -18,7 +18,7 @@ use std::net::SocketAddrV4;
 use toml::{Table, Value};
 
 /// What a setup file asks for.
-#[derive(Debug, Drop)]
+#[derive(Drop)]
 pub struct Setup {
     /// The PMUs, in the order of the file.
     pub pmus: Vec<PmuKey>,
@@ -49,7 +49,7 @@ pub struct Setup {
 }
 
 /// A subscriber of a setup.
-#[derive(Debug, Drop)]
+#[derive(Drop)]
 pub struct SubscriberSetup {
     /// Its number.
     pub sub: SubId,

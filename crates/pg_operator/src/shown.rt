@@ -19,7 +19,7 @@ use std::io::Write;
 use std::net::SocketAddr;
 
 /// How a subscriber's port stands.
-#[derive(Clone, Copy, Debug, PartialEq, Eq)]
+#[derive(Clone, Copy, PartialEq, Eq)]
 pub enum PortState {
     /// None is open.
     Closed,
@@ -32,7 +32,7 @@ pub enum PortState {
 }
 
 /// How a stream stands.
-#[derive(Clone, Copy, Debug, PartialEq, Eq)]
+#[derive(Clone, Copy, PartialEq, Eq)]
 pub struct StreamState {
     /// Its number.
     pub stream: StreamId,
@@ -60,7 +60,7 @@ pub struct Shown<'a> {
 }
 
 /// Why a member is not in the frames of its stream.
-#[derive(Clone, Copy, Debug, PartialEq, Eq)]
+#[derive(Clone, Copy, PartialEq, Eq)]
 pub(crate) enum Absence {
     NotRegistered,
     NotGranted,

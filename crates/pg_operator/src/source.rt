@@ -12,7 +12,7 @@ use pg_wire::{PmuId, Refusal};
 use std::alloc::Global;
 
 /// How a source is watched.
-#[derive(Clone, Copy, Debug)]
+#[derive(Clone, Copy)]
 pub struct SourceRules {
     /// The source.
     pub source: PmuId,
@@ -43,7 +43,7 @@ impl SourceRules {
 }
 
 /// A source of a setup's PMUs.
-#[derive(Debug, Drop)]
+#[derive(Drop)]
 pub struct SourceSetup {
     /// Where it is connected to: its addresses, which are called one after another, 4 at most. Without one no connection is made.
     pub connect: Vec<SourceAddress>,

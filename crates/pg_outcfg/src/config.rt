@@ -16,7 +16,7 @@ use std::marker::Model;
 
 /// The count of a stream's configuration changes: how many events since its definition changed the CFG-1 list, modulo
 /// 65536. Each block of CFG-1 and CFG-2 carries it as CFGCNT.
-#[derive(Clone, Copy, Debug, PartialEq, Eq)]
+#[derive(Clone, Copy, PartialEq, Eq)]
 pub struct OutCfg {
     count: u16,
 }

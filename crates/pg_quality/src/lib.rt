@@ -15,8 +15,6 @@ mod span;
 mod spans;
 mod stat;
 mod summary;
-#[cfg(test)]
-mod tests;
 mod time_quality;
 mod watch;
 

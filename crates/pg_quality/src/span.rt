@@ -12,7 +12,7 @@ pub const JUMP_SECONDS: u64 = 60;
 const KNOWN: u64 = 64;
 
 /// How the instant of a frame stands to those that came before it.
-#[derive(Clone, Copy, Debug, PartialEq, Eq)]
+#[derive(Clone, Copy, PartialEq, Eq)]
 pub enum Place {
     /// It begins a span: the first of a connection, one of another DATA_RATE, or one whose stamp jumps.
     First,

@@ -16,7 +16,7 @@ pub const BOUNDS: [i64; BOUND_COUNT] = [
 ];
 
 /// The delays of the last 60 seconds, in milliseconds.
-#[derive(Clone, Copy, Debug, PartialEq, Eq)]
+#[derive(Clone, Copy, PartialEq, Eq)]
 pub struct DelaySummary {
     /// The least.
     pub least: i64,

@@ -23,7 +23,7 @@ pub struct PmuWatch {
 }
 
 /// What changed since the last look: `None` where nothing did.
-#[derive(Clone, Copy, Debug, PartialEq, Eq)]
+#[derive(Clone, Copy, PartialEq, Eq)]
 pub struct PmuChanges {
     /// Whether it is out of sync.
     pub is_out_of_sync: Option<bool>,

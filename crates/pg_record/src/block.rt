@@ -17,7 +17,7 @@ pub const PRELUDE: u16 = 65_535;
 const MAGIC: u64 = 0x7064_6367_7265_6331;
 
 /// The head of a block.
-#[derive(Clone, Copy, Debug, PartialEq, Eq)]
+#[derive(Clone, Copy, PartialEq, Eq)]
 pub struct BlockHead {
     /// The worker.
     pub worker: u16,

@@ -11,8 +11,6 @@ mod numbers;
 mod record;
 mod recording;
 mod tape;
-#[cfg(test)]
-mod tests;
 
 pub use block::{
     BLOCK_HEAD, BlockHead, FoundBlock, PRELUDE, block_head, next_block, read_block_head,

@@ -15,7 +15,7 @@ pub const DONE: u8 = 0;
 pub const LOST: u8 = 255;
 
 /// What was posted.
-#[derive(Clone, Copy, Debug, PartialEq, Eq)]
+#[derive(Clone, Copy, PartialEq, Eq)]
 pub enum RecordKind {
     /// A measurement of a source. The body is SOC and FRACSEC, and behind them the blocks of the data frame (C37.118.2, 6.3).
     Measurement,
@@ -80,7 +80,7 @@ impl RecordKind {
 }
 
 /// A record, but for its body.
-#[derive(Clone, Copy, Debug, PartialEq, Eq)]
+#[derive(Clone, Copy, PartialEq, Eq)]
 pub struct Record {
     /// What was posted.
     pub kind: RecordKind,

@@ -13,7 +13,7 @@ use std::mem;
 const MOST_REST: usize = 65_527;
 
 /// The first bytes of a body, as a number of that many bytes.
-#[derive(Clone, Copy, Debug, PartialEq, Eq)]
+#[derive(Clone, Copy, PartialEq, Eq)]
 pub enum Front {
     /// None.
     Nothing,
@@ -24,7 +24,7 @@ pub enum Front {
 }
 
 /// A call on a tape. Behind the front of its body comes the rest, which stands among the bodies of the tape.
-#[derive(Clone, Copy, Debug, PartialEq, Eq)]
+#[derive(Clone, Copy, PartialEq, Eq)]
 pub struct TapedCall {
     /// The record, but for its body.
     pub entry: Record,

@@ -33,7 +33,7 @@ pub trait CallRecords: Sized + Drop {
 }
 
 /// No call is recorded.
-#[derive(Clone, Copy, Debug)]
+#[derive(Clone, Copy)]
 pub struct Unrecorded;
 
 impl CallRecords for Unrecorded {

@@ -13,7 +13,7 @@ use std::io::Write;
 const COLUMNS: &str = "slot,stream,cause,left_ms,handing,handed_ms,gap,pmu,fate,came_ms,reason";
 
 /// How an explanation is printed.
-#[derive(Clone, Copy, Debug, PartialEq, Eq)]
+#[derive(Clone, Copy, PartialEq, Eq)]
 pub(crate) enum Form {
     /// A line for each frame.
     Text,
@@ -22,7 +22,7 @@ pub(crate) enum Form {
 }
 
 /// What an explanation counted.
-#[derive(Clone, Copy, Debug, PartialEq, Eq)]
+#[derive(Clone, Copy, PartialEq, Eq)]
 pub struct Totals {
     /// Whether the recording has a stream of the subscriber.
     pub is_known: bool,

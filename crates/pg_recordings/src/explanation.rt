@@ -26,7 +26,7 @@ const MOST_FRAMES: usize = 4_096;
 const MOST_IGNORED: u64 = 256;
 
 /// What is asked.
-#[derive(Clone, Copy, Debug)]
+#[derive(Clone, Copy)]
 pub struct Inquiry {
     /// Whose frames.
     pub subscriber: SubId,
@@ -52,7 +52,7 @@ struct Expected {
 }
 
 /// Frames of a source that were ignored.
-#[derive(Clone, Copy, Debug)]
+#[derive(Clone, Copy)]
 struct IgnoredFrames {
     source: u16,
     reason: Refusal,

@@ -10,7 +10,7 @@ use std::collections::VecDeque;
 const MOST_OPEN: usize = 4_096;
 
 /// What became of a member's block in a slot. Times are milliseconds since 1970-01-01 00:00 UTC.
-#[derive(Clone, Copy, Debug, PartialEq, Eq)]
+#[derive(Clone, Copy, PartialEq, Eq)]
 pub(crate) enum Fate {
     /// It came then, and is in the frame.
     Came(u64),
@@ -29,7 +29,7 @@ pub(crate) enum Fate {
 }
 
 /// Why a frame left.
-#[derive(Clone, Copy, Debug, PartialEq, Eq)]
+#[derive(Clone, Copy, PartialEq, Eq)]
 pub(crate) enum Cause {
     /// The block of each member that the frame has a place for had come.
     Complete,
@@ -42,7 +42,7 @@ pub(crate) enum Cause {
 }
 
 /// What became of a frame that had left.
-#[derive(Clone, Copy, Debug, PartialEq, Eq)]
+#[derive(Clone, Copy, PartialEq, Eq)]
 pub(crate) enum Handing {
     /// It waits in the queue.
     Waiting,
@@ -71,7 +71,7 @@ pub(crate) struct MadeFrame {
 }
 
 /// How many frames of a stream left for each cause.
-#[derive(Clone, Copy, Debug)]
+#[derive(Clone, Copy)]
 pub(crate) struct Causes {
     complete: u64,
     waited: u64,
@@ -142,7 +142,7 @@ impl Causes {
 }
 
 /// How a member of a stream stands.
-#[derive(Clone, Copy, Debug)]
+#[derive(Clone, Copy)]
 pub(crate) struct Place {
     pub(crate) is_granted: bool,
     /// Whether frames have a place for it.

@@ -40,7 +40,7 @@ impl<T: Drop> From<AllocFailed<T>> for Fault {
 }
 
 /// What is not as it was written in a file.
-#[derive(Clone, Copy, Debug, PartialEq, Eq)]
+#[derive(Clone, Copy, PartialEq, Eq)]
 pub enum Notice {
     /// The file ends within a block, of which so many bytes are there.
     Torn(u64),
@@ -51,7 +51,7 @@ pub enum Notice {
 }
 
 /// Where a recording begins.
-#[derive(Clone, Copy, Debug, PartialEq, Eq)]
+#[derive(Clone, Copy, PartialEq, Eq)]
 pub struct Start {
     /// Its first place. The records before that set a replay up as the service was then.
     pub place: u64,

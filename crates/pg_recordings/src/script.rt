@@ -71,7 +71,7 @@ pub(crate) fn start_text(
 }
 
 /// What is printed of a script so far.
-#[derive(Clone, Copy, Debug)]
+#[derive(Clone, Copy)]
 struct ScriptPrinter {
     alloc: Global,
     // The time that was printed last.

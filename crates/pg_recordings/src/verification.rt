@@ -107,19 +107,7 @@ pub fn verify<W: Write>(
         in_step: InStep::All,
         left_out: 0,
     };
-    for _ in 0..u64::MAX {
-        match reader.next()? {
-            Step::Start(start) => replay.begin(start, out)?,
-            Step::Record(timed) => replay.take(&timed, out)?,
-            Step::Gap(from, to) => replay.note_gap(from, to, out)?,
-            Step::Notice(file, notice) => {
-                if let Some(path) = reader.paths().get(file) {
-                    replay.note(path.as_str(), notice, out)?;
-                }
-            }
-            Step::End => break,
-        }
-    }
+    replay.compare_all(reader, out)?;
     replay.print_end(out)
 }
 
@@ -132,6 +120,42 @@ fn new_world(alloc: Global) -> Result<World, Fault> {
 }
 
 impl Replay {
+    /// Replays and compares all that the reader has.
+    fn compare_all<W: Write>(
+        &mut self,
+        reader: &mut RecordReader<'_>,
+        out: &mut W,
+    ) -> Result<(), Fault> {
+        for _ in 0..u64::MAX {
+            let step = reader.next()?;
+            if !self.follow_step(step, reader, out)? {
+                break;
+            }
+        }
+        Ok(())
+    }
+
+    /// Follows a step of the reader. Whether another one is to come.
+    fn follow_step<W: Write>(
+        &mut self,
+        step: Step,
+        reader: &RecordReader<'_>,
+        out: &mut W,
+    ) -> Result<bool, Fault> {
+        match step {
+            Step::Start(start) => self.begin(start, out)?,
+            Step::Record(timed) => self.take(&timed, out)?,
+            Step::Gap(from, to) => self.note_gap(from, to, out)?,
+            Step::Notice(file, notice) => {
+                if let Some(path) = reader.paths().get(file) {
+                    self.note(path.as_str(), notice, out)?;
+                }
+            }
+            Step::End => return Ok(false),
+        }
+        Ok(true)
+    }
+
     /// Begins a recording.
     fn begin<W: Write>(&mut self, start: Start, out: &mut W) -> Result<(), Fault> {
         let is_first = !self.is_begun;

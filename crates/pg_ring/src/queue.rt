@@ -47,7 +47,7 @@ impl Model for OutQueue {
 }
 
 /// What a drain handed out.
-#[derive(Clone, Copy, Debug, PartialEq, Eq)]
+#[derive(Clone, Copy, PartialEq, Eq)]
 pub struct Drained {
     /// The number of bytes handed out.
     pub len: usize,

@@ -4,7 +4,7 @@ ghost use Rattle.std.specs.Prelude.{◌≡◌, ◌≤◌, ◌<◌, ◌&&◌, nat
 use std::marker::Model;
 
 /// How many data frames a subscriber's ring holds: 1 to 1,024.
-#[derive(Clone, Copy, Debug, PartialEq, Eq)]
+#[derive(Clone, Copy, PartialEq, Eq)]
 pub struct RingSize {
     count: u16,
 }
@@ -45,7 +45,7 @@ impl RingSize {
 
 /// How many bytes the data frames in a subscriber's ring have together at most: 16 to 16,777,216. The
 /// frame in hand and the replies don't count.
-#[derive(Clone, Copy, Debug, PartialEq, Eq)]
+#[derive(Clone, Copy, PartialEq, Eq)]
 pub struct RingBytes {
     count: u32,
 }

@@ -18,7 +18,7 @@ pub const ACCEPTED: u32 = 16;
 const RETRY_SECONDS: u64 = 1;
 
 /// When a listener is asked for a connection: as long as one may wait, and a second after the system could not accept.
-#[derive(Debug, Drop)]
+#[derive(Drop)]
 pub struct AcceptTimer {
     // Whether a connection may wait.
     may_wait: bool,

@@ -23,7 +23,7 @@ pub struct MemberDelays {
 }
 
 /// The numbers of a stream that advice depends on.
-#[derive(Clone, Copy, Debug, PartialEq, Eq)]
+#[derive(Clone, Copy, PartialEq, Eq)]
 pub struct StreamPace {
     /// Frames a second.
     pub rate: u8,
@@ -43,7 +43,7 @@ impl StreamPace {
 }
 
 /// What the delays of a stream's members ask for.
-#[derive(Clone, Copy, Debug, PartialEq, Eq)]
+#[derive(Clone, Copy, PartialEq, Eq)]
 pub struct Advice {
     /// The least `wait`, in ticks, by which 99.9 per cent of each source's frames come in time.
     pub wait: u64,

@@ -27,7 +27,7 @@ pub enum FollowUp {
 }
 
 /// What an edit changes, as far as workers are concerned.
-#[derive(Clone, Copy, Debug, PartialEq, Eq)]
+#[derive(Clone, Copy, PartialEq, Eq)]
 pub enum Change {
     /// A PMU is registered.
     Adds(PmuKey),

@@ -20,7 +20,7 @@ use std::sync::Arc;
 const AROUND: usize = 16;
 
 /// What went through a gate.
-#[derive(Clone, Copy, Debug, PartialEq, Eq)]
+#[derive(Clone, Copy, PartialEq, Eq)]
 pub struct GateStats {
     /// The data frames that its events made.
     pub made: u64,
@@ -94,21 +94,20 @@ impl GateStats {
         self.far_at = Some(self.last);
     }
 
-    /// Keeps that a command switched its stream, or had its CFG-2 put among the replies, if it did.
-    fn note_command(&mut self, command: Option<Command>) {
-        if let Some(Command { stream, word }) = command {
-            if word == Word::SendCfgTwo.number() {
-                self.configured.switch(stream, true);
-            } else {
-                self.switched
-                    .switch(stream, word == Word::StartData.number());
-            }
+    /// Keeps that a command switched its stream, or had its CFG-2 put among the replies.
+    fn note_command(&mut self, command: Command) {
+        let Command { stream, word } = command;
+        if word == Word::SendCfgTwo.number() {
+            self.configured.switch(stream, true);
+        } else {
+            self.switched
+                .switch(stream, word == Word::StartData.number());
         }
     }
 }
 
 /// How far the times of measurements may be from the clocks.
-#[derive(Clone, Copy, Debug)]
+#[derive(Clone, Copy)]
 pub struct Guards {
     /// From this machine's clock, either way; `None` for any.
     pub near: Option<ClockGuard>,
@@ -127,7 +126,7 @@ impl Guards {
 }
 
 /// Guards, with the clocks that measurements are held against.
-#[derive(Clone, Copy, Debug)]
+#[derive(Clone, Copy)]
 pub struct ClockCheck {
     /// The guards.
     pub guards: Guards,
@@ -335,7 +334,9 @@ impl<G: Gate> Gate for MeteredGate<G> {
                 if *made > 0 {
                     self.seen.makers = self.seen.makers.saturating_add(1);
                 }
-                self.seen.note_command(command);
+                if let Some(command) = command {
+                    self.seen.note_command(command);
+                }
             }
             Reply::Drained { out, .. } => {
                 self.seen.handed = 0;

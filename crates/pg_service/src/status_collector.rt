@@ -21,7 +21,7 @@ const LOOKS: u32 = 1_000;
 const PAUSE_MS: u64 = 1;
 
 /// How the connection to a source stands.
-#[derive(Clone, Copy, Debug)]
+#[derive(Clone, Copy)]
 pub enum LinkState {
     /// It is connected, and sent a data frame that counts.
     Up,

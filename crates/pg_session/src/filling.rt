@@ -18,7 +18,7 @@ use pg_wire::PmuKey;
 use std::alloc::Global;
 
 /// Of which members a data frame brings blocks.
-#[derive(Clone, Copy, Debug, PartialEq, Eq)]
+#[derive(Clone, Copy, PartialEq, Eq)]
 pub(crate) enum Brought {
     /// Of none.
     Nothing,

@@ -18,7 +18,7 @@ const LAYOUTS: usize = 32;
 
 /// The layouts of a stream's data frames. A data frame does not say which blocks it carries: its reader knows that by the CFG-2 of
 /// its layout.
-#[derive(Clone, Copy, Debug, PartialEq, Eq)]
+#[derive(Clone, Copy, PartialEq, Eq)]
 pub struct Layouts {
     /// The number of the stream's definition among those of its subscriber, modulo 2^64: a stream that is defined anew has another one.
     pub definition: u64,

@@ -17,7 +17,7 @@ use std::marker::Model;
 const DRAIN_BYTES: usize = 16_384;
 
 /// What comes next of a subscriber's bytes.
-#[derive(Clone, Copy, Debug)]
+#[derive(Clone, Copy)]
 pub enum Next {
     /// A command (C37.118.2, 6.6).
     Cmd(Command),

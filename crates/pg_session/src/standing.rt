@@ -12,7 +12,7 @@ use pg_outcfg::ConfigList;
 use pg_wire::{PmuKey, StreamId};
 
 /// A member of a stream of a subscriber, by places.
-#[derive(Clone, Copy, Debug, PartialEq, Eq)]
+#[derive(Clone, Copy, PartialEq, Eq)]
 pub struct MemberPlace {
     /// The stream's place among those of the subscriber, 0 the one that was defined first.
     pub stream: u8,
@@ -21,7 +21,7 @@ pub struct MemberPlace {
 }
 
 /// How a subscriber stands: what waits for it, and one of its streams.
-#[derive(Clone, Copy, Debug, PartialEq, Eq)]
+#[derive(Clone, Copy, PartialEq, Eq)]
 pub struct Standing {
     /// The frames that wait to be handed out, replies and data frames. The one in hand is one of them where bytes of it are left.
     pub frames: u64,
@@ -32,7 +32,7 @@ pub struct Standing {
 }
 
 /// How a stream stands. Each count stays at 2^64 - 1 once it is there.
-#[derive(Clone, Copy, Debug, PartialEq, Eq)]
+#[derive(Clone, Copy, PartialEq, Eq)]
 pub struct StreamStanding {
     /// Its number.
     pub stream: StreamId,
@@ -57,7 +57,7 @@ pub struct StreamStanding {
 }
 
 /// How a member of a stream stands. Each count stays at 2^64 - 1 once it is there.
-#[derive(Clone, Copy, Debug, PartialEq, Eq)]
+#[derive(Clone, Copy, PartialEq, Eq)]
 pub struct MemberStanding {
     /// Its key.
     pub key: PmuKey,

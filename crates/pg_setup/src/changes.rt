@@ -18,7 +18,7 @@ use pg_wire::Refusal;
 use std::alloc::Global;
 
 /// What is to be done so that a gateway that runs by one setup runs by another.
-#[derive(Debug, Drop)]
+#[derive(Drop)]
 pub struct Changes {
     /// The edits, in the order in which they are posted.
     pub edits: Vec<Edit>,

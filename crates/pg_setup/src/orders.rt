@@ -12,7 +12,7 @@ use pg_wire::{PmuId, Refusal, SubId};
 use std::alloc::Global;
 
 /// What is to be done about a source or a port.
-#[derive(Debug, Drop)]
+#[derive(Drop)]
 pub enum Order {
     /// The connection of a source ends, and it is connected to no longer.
     Undial(PmuId),

@@ -26,7 +26,7 @@ use std::time::{Duration, Instant};
 const TURNS: u64 = 10_000;
 
 /// How a source was served.
-#[derive(Clone, Copy, Debug, PartialEq, Eq)]
+#[derive(Clone, Copy, PartialEq, Eq)]
 pub enum Turn {
     /// Nothing is left to do until its socket is ready.
     Waits,

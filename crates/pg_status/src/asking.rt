@@ -27,7 +27,7 @@ pub enum Answered {
 }
 
 /// How one line was answered.
-#[derive(Clone, Copy, Debug, PartialEq, Eq)]
+#[derive(Clone, Copy, PartialEq, Eq)]
 enum Turn {
     Done,
     Refused,

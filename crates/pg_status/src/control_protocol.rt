@@ -21,7 +21,7 @@ const LINES: u32 = 16;
 const PIECE: usize = 1024;
 
 /// When a line is answered.
-#[derive(Clone, Copy, Debug, PartialEq, Eq)]
+#[derive(Clone, Copy, PartialEq, Eq)]
 pub enum LineAnswer {
     /// Now: its answer stands behind what is owed.
     Done,

@@ -8,7 +8,7 @@ use crate::snapshot::{Snapshot, SourceState};
 use std::alloc::{AllocError, Global};
 
 /// Whether the gateway does its work.
-#[derive(Clone, Copy, Debug, PartialEq, Eq)]
+#[derive(Clone, Copy, PartialEq, Eq)]
 pub enum Health {
     /// It does.
     Well,

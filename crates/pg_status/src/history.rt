@@ -13,7 +13,7 @@ use std::marker::Model;
 pub const SECONDS: usize = 300;
 
 /// Data frames of a subscriber: counts since it was added, or those of one second.
-#[derive(Clone, Copy, Debug, PartialEq, Eq)]
+#[derive(Clone, Copy, PartialEq, Eq)]
 pub struct Frames {
     /// Those handed out.
     pub handed: u64,
@@ -102,7 +102,7 @@ impl Past {
 }
 
 /// The counts of a subscriber.
-#[derive(Clone, Copy, Debug, PartialEq, Eq)]
+#[derive(Clone, Copy, PartialEq, Eq)]
 pub struct Total {
     /// The subscriber.
     pub sub: SubId,

@@ -22,7 +22,7 @@ const LONGEST: u32 = 86_400;
 const MOST: u32 = 99_999;
 
 /// What can be asked for.
-#[derive(Clone, Copy, Debug, PartialEq, Eq)]
+#[derive(Clone, Copy, PartialEq, Eq)]
 pub enum Shown {
     /// The page, at `/`.
     Page,

@@ -4,7 +4,7 @@ use pg_quality::{FrameSummary, PmuSummary};
 use pg_wire::{PmuId, PmuKey, Refusal, StreamId, SubId};
 
 /// How the connection to a source stands.
-#[derive(Clone, Copy, Debug, PartialEq, Eq)]
+#[derive(Clone, Copy, PartialEq, Eq)]
 pub enum Call {
     /// It is connected, and sent a data frame that counts.
     Up,
@@ -19,7 +19,7 @@ pub enum Call {
 }
 
 /// How often a source's bytes were ignored for a reason.
-#[derive(Clone, Copy, Debug, PartialEq, Eq)]
+#[derive(Clone, Copy, PartialEq, Eq)]
 pub struct Ignored {
     /// The reason.
     pub reason: Refusal,
@@ -60,7 +60,7 @@ pub struct SourceState {
 }
 
 /// Whether a subscriber is connected.
-#[derive(Debug, Drop)]
+#[derive(Drop)]
 pub enum Presence {
     /// It is, from this address.
     Connected(String),
@@ -69,7 +69,7 @@ pub enum Presence {
 }
 
 /// What waits for a subscriber.
-#[derive(Clone, Copy, Debug, PartialEq, Eq)]
+#[derive(Clone, Copy, PartialEq, Eq)]
 pub struct Queue {
     /// Frames.
     pub frames: u64,
@@ -78,7 +78,7 @@ pub struct Queue {
 }
 
 /// A subscriber.
-#[derive(Debug, Drop)]
+#[derive(Drop)]
 pub struct SubscriberState {
     /// The subscriber.
     pub sub: SubId,
@@ -107,7 +107,7 @@ pub struct SubscriberState {
 }
 
 /// Whether the frames of a stream carry a member, or why they do not.
-#[derive(Clone, Copy, Debug, PartialEq, Eq)]
+#[derive(Clone, Copy, PartialEq, Eq)]
 pub enum Membership {
     /// They carry it: it is granted and announced.
     Carried,
@@ -120,7 +120,7 @@ pub enum Membership {
 }
 
 /// A member of a stream.
-#[derive(Clone, Copy, Debug)]
+#[derive(Clone, Copy)]
 pub struct MemberState {
     /// The PMU.
     pub key: PmuKey,
@@ -156,7 +156,7 @@ pub struct StreamState {
 }
 
 /// What the service's calls were recorded by since it started.
-#[derive(Clone, Copy, Debug, PartialEq, Eq)]
+#[derive(Clone, Copy, PartialEq, Eq)]
 pub struct RecordingState {
     /// The bytes that were written.
     pub written: u64,

@@ -7,7 +7,7 @@ use pg_wire::{PmuKey, Refusal, StreamId};
 
 /// What defines an output stream of a subscriber. Its numbers may be any of their types:
 /// `check_definition` says whether they are within the limits.
-#[derive(Debug, Drop)]
+#[derive(Drop)]
 pub struct Definition {
     /// The stream's number: the IDCODE of its frames and of the commands to it (C37.118.2, 6.2), 1 to 65534.
     pub stream: StreamId,

@@ -6,7 +6,7 @@ use std::marker::Model;
 
 /// The text of a stream's header frame (C37.118.2, 6.5: ASCII), as its bytes. Any bytes may stand here: it is
 /// `check_definition` that refuses a text of more than 1,024 bytes, or with a byte above 127.
-#[derive(Debug, Drop)]
+#[derive(Drop)]
 pub struct HeaderText {
     bytes: Vec<u8>,
 }
@@ -44,7 +44,7 @@ impl HeaderText {
 
 /// The PMUs of a stream, in the order in which its frames have their blocks. Any keys may stand here: it is
 /// `check_definition` that refuses none, more than 32, or a key that stands there twice.
-#[derive(Debug, Drop)]
+#[derive(Drop)]
 pub struct Members {
     keys: Vec<PmuKey>,
 }

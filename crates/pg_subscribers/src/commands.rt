@@ -8,7 +8,7 @@ use pg_gateway::{Event, Gate, Reply};
 use pg_wire::{Refusal, SubId};
 
 /// What came of a command for CFG-2 that was posted in a subscriber's name.
-#[derive(Clone, Copy, Debug, PartialEq, Eq)]
+#[derive(Clone, Copy, PartialEq, Eq)]
 pub(crate) enum Posted {
     /// CFG-2 is among the replies.
     Done,

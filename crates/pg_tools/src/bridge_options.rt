@@ -16,7 +16,7 @@ const DAY: u32 = 86_400;
 const MOST_LINES: u32 = 1_000_000;
 
 /// The format of the lines.
-#[derive(Clone, Copy, Debug, PartialEq, Eq)]
+#[derive(Clone, Copy, PartialEq, Eq)]
 pub enum Format {
     /// A JSON object.
     Json,

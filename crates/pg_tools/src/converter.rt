@@ -52,7 +52,7 @@ pub enum Ending {
 }
 
 /// What was counted so far.
-#[derive(Clone, Copy, Debug, PartialEq, Eq)]
+#[derive(Clone, Copy, PartialEq, Eq)]
 pub struct BridgeCounts {
     /// Data frames that were taken.
     pub frames: u64,

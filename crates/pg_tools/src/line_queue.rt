@@ -9,7 +9,7 @@ use std::collections::VecDeque;
 use std::marker::Model;
 
 /// Why slots have no data line.
-#[derive(Clone, Copy, Debug, PartialEq, Eq)]
+#[derive(Clone, Copy, PartialEq, Eq)]
 pub enum Why {
     /// No frame of them came over the connection.
     Missing,
@@ -34,7 +34,7 @@ impl Why {
 }
 
 /// Slots directly before a frame that have no data line.
-#[derive(Clone, Copy, Debug, PartialEq, Eq)]
+#[derive(Clone, Copy, PartialEq, Eq)]
 pub struct Gap {
     /// How many.
     pub slots: u64,

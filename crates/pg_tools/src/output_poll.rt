@@ -14,7 +14,7 @@ pub const STANDARD_OUTPUT: i32 = 1;
 pub const STANDARD_ERROR: i32 = 2;
 
 /// What is known of a descriptor that is written to.
-#[derive(Clone, Copy, Debug, PartialEq, Eq)]
+#[derive(Clone, Copy, PartialEq, Eq)]
 pub enum OutputState {
     /// It takes a piece at once: of a pipe at least 4,096 bytes (PIPE_BUF).
     Ready,

@@ -5,7 +5,7 @@ ghost use Rattle.std.specs.Option.{unwrap_or};
 ghost use Rattle.pg_tools.specs.Slots.{gap_before, last_after, rate_in, slot_of};
 
 /// DATA_RATE (C37.118.2, 6.4).
-#[derive(Clone, Copy, Debug, PartialEq, Eq)]
+#[derive(Clone, Copy, PartialEq, Eq)]
 pub enum DataRate {
     /// So many frames a second.
     Frames(u16),

@@ -160,7 +160,7 @@ impl Deframer {
 }
 
 /// What comes next of a stream.
-#[derive(Clone, Copy, Debug)]
+#[derive(Clone, Copy)]
 pub enum Taken<'a> {
     /// A whole frame with a right CHK and version 1 or 2.
     Frame(&'a [u8]),

@@ -16,7 +16,7 @@ use std::alloc::Global;
 const HEAD_SIZE: usize = 14;
 
 /// The head of a frame, its first 14 bytes (C37.118.2, 6.2).
-#[derive(Clone, Copy, Debug, PartialEq, Eq)]
+#[derive(Clone, Copy, PartialEq, Eq)]
 pub struct Head {
     /// What the frame is: bits 6 to 4 of the second byte of SYNC.
     pub kind: Kind,

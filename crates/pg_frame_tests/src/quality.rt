@@ -1,5 +1,5 @@
 //! Rows that are written by hand from the rules, with a clock that the test moves.
-use crate::*;
+use pg_quality::*;
 use std::process::Abort;
 use std::test::*;
 

@@ -2,7 +2,7 @@
 
 ghost use Rattle.std.specs.Prelude.{◌≡◌};
 
-use crate::{
+use pg_record::{
     BlockHead, DONE, FoundBlock, Front, LOST, Merge, Merged, Record, RecordKind, Recording,
     Records, Tape, TapedCalls, block_head, next_block, read_record, short_sum, sum,
 };
