@@ -245,8 +245,8 @@ def test_wrong_questions(bench):
     it.gateway.quit()
     files = files_in(it.folder)
     same(tool(bench, "explain", [*files, "--subscriber", "1", "--from", "yesterday"])[::2],
-         (2, "pdcgw: --from takes a time, as 2026-11-28T14:03:17Z; `pdcgw help` lists the options\n"))
-    same(tool(bench, "explain", [*files, "--subscriber", "0"])[::2], (2, "pdcgw: --subscriber takes a number of 1 to 65535; `pdcgw help` lists the options\n"))
+         (2, "pdcgw: --from takes a time, as 2026-11-28T14:03:17Z; `--help` behind the command lists the options\n"))
+    same(tool(bench, "explain", [*files, "--subscriber", "0"])[::2], (2, "pdcgw: --subscriber takes a number of 1 to 65535; `--help` behind the command lists the options\n"))
     same(tool(bench, "explain", [*files, "--subscriber", "9"])[::2], (1, "pdcgw: the recording has no stream of subscriber 9\n"))
     same(tool(bench, "explain", ["none", "--subscriber", "1"])[::2], (1, "pdcgw: none: can't be read: there is no such file\n"))
     same(tool(bench, "explain", [*files, "--subscriber", "1", "--pcap", bench.folder])[::2][0], 1)

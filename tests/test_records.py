@@ -403,7 +403,7 @@ def test_a_slow_disk_holds_nothing_up(bench):
     time.sleep(1)
     missed = recorded(page)[2]
     gateway.quit()
-    reported = [int(found[1]) for found in (re.search(r"ERROR (\d+) records are missing in the recording", it) for it in gateway.log.lines) if found]
+    reported = [int(found[1]) for found in (re.search(r"ERROR (\d+) records? (?:is|are) missing in the recording", it) for it in gateway.log.lines) if found]
     same(sum(reported), missed, f"calls that the log reports as missing: {reported}")
     status, out, _ = tool(bench, "verify", files_in(folder))
     same(status, 1, f"`verify`: {out}")

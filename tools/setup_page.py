@@ -63,7 +63,7 @@ def tables():
         read = [it for it in names if it in keys]
         if len(read) != int(listed[1]):
             sys.exit(f"setup_page: keys.rt, {table}_KEYS: {read} were found; this script has to follow the source that changed")
-        described = re.search(rf"const {table}_TEXTS: \[KeyText; \d+\] = \[(.*?)\n\];", source("key_texts"), re.S)
+        described = re.search(rf"static {table}_TEXTS: \[KeyText; \d+\] = \[(.*?)\n\];", source("key_texts"), re.S)
         texts = TEXTS.findall(described[1])
         wanted = [it for it in names if keys[it][1] != "Tables"]
         if [it for it, _, _ in texts] != wanted:

@@ -242,7 +242,9 @@ fn main(rt: HostRuntime) -> ExitCode {
             ExitCode::from(2)
         }
         Outcome::Misworded(misword) => {
-            let _ = eprintln!(rt; "pdcgw: {misword}; `pdcgw help` lists the options");
+            let _ = eprintln!(rt;
+                "pdcgw: {misword}; `--help` behind the command lists the options"
+            );
             ExitCode::from(2)
         }
         Outcome::Troubled(text) => {

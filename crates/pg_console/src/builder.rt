@@ -12,7 +12,9 @@ use crate::service_handle::ServiceHandle;
 use crate::service_worker::ServiceWorker;
 use pg_admin::{AdminBackend, AdminServer};
 use pg_recorder::{CallRecords, RecordedAtOnce, WorkerGate};
-use pg_service::{Assignment, ConnectionsWorker, Dial, Poller, ResolverWorker, WorkerHandles};
+use pg_service::{
+    Assignment, ConnectionsWorker, Dial, Mailbox, Poller, ResolverWorker, WorkerHandles,
+};
 use pg_shared::{Named, Seat, Shared, Work};
 use pg_sources::{SourceWorker, Ticker};
 use pg_subscribers::{Port, PortWorker};
@@ -64,7 +66,7 @@ impl<'a, R: Wait> ServiceBuilder<'a, R> {
         requires shared { self.now.shared.now ≡ N.table }
         requires seat { seat.table ≡ N.table }
         ensures seat { result.0 ≡ seat }
-        ensures gate { (result.1.table ≡ seat.table) × (result.1.seen ≡ seat.seen) × (result.1.own ≡ []) }
+        ensures gate { (result.1.seat.table ≡ seat.table) × (result.1.seat.seen ≡ seat.seen) × (result.1.seat.own ≡ []) }
     {
         let (seat, own) = self.shared.split(seat);
         let records = T::of(self.rt, self.service.recorder);
@@ -151,13 +153,10 @@ impl<'a, R: Wait + Net + Clock> ServiceBuilder<'a, R> {
         let mut workers = Vec::new(self.alloc);
         let seat = self.add_source_workers(seat, sources, dials, &mut workers)?;
         let seat = self.add_port_workers(seat, port_pollers, ports, &mut workers)?;
-        let (seat, ticker) = self.ticker::<N, T>(seat, tick);
-        workers.push(ServiceWorker::Ticks(ticker))?;
+        let seat = self.add_ticker(seat, tick, &mut workers)?;
         self.add_lookup_workers(resolver, files, &mut workers)?;
         let seat = self.add_admin_worker(seat, admin, listeners, commands, &mut workers)?;
-        for worker in own {
-            workers.push(ServiceWorker::Own(worker))?;
-        }
+        push_own(own, &mut workers)?;
         Ok((seat, workers))
     }
 
@@ -174,14 +173,22 @@ impl<'a, R: Wait + Net + Clock> ServiceBuilder<'a, R> {
         ensures seat { IfOk result (λ rest. rest ≡ seat) }
     {
         let (seat, mut source_workers) = self.idle_source_workers::<N, T>(seat, pollers)?;
-        let mut directory = self.service.directory.lock(self.rt);
-        let shared_out = share_sources(&mut directory.callers, &mut source_workers, dials);
-        drop(directory);
-        if shared_out.is_err() {
-            return Err(io::Error::from(ErrorKind::OutOfMemory));
-        }
+        self.assign_sources(&mut source_workers, dials)?;
         push_sources(source_workers, workers)?;
         Ok(seat)
+    }
+
+    /// Gives each source to the worker that the directory assigns it.
+    fn assign_sources<N: Named, T: CallRecords>(
+        &self,
+        workers: &mut Vec<SourceWorker<'a, R, N, T>>,
+        dials: Vec<Dial>,
+    ) -> io::Result<()> {
+        let mut directory = self.service.directory.lock(self.rt);
+        match share_sources(&mut directory.callers, workers, dials) {
+            Ok(()) => Ok(()),
+            Err(_) => Err(io::Error::from(ErrorKind::OutOfMemory)),
+        }
     }
 
     /// A worker without sources for each of these pollers, with its mailbox.
@@ -231,14 +238,19 @@ impl<'a, R: Wait + Net + Clock> ServiceBuilder<'a, R> {
         ensures seat { IfOk result (λ rest. rest ≡ seat) }
     {
         let (seat, mut port_workers) = self.idle_port_workers::<N, T>(seat, pollers)?;
-        let mut directory = self.service.directory.lock(self.rt);
-        let shared_out = share_ports(&mut directory.servers, &mut port_workers, ports);
-        drop(directory);
-        shared_out?;
-        for worker in port_workers {
-            workers.push(ServiceWorker::Subscribers(worker))?;
-        }
+        self.assign_ports(&mut port_workers, ports)?;
+        push_ports(port_workers, workers)?;
         Ok(seat)
+    }
+
+    /// Gives each port to the worker that the directory assigns it.
+    fn assign_ports<N: Named, T: CallRecords>(
+        &self,
+        workers: &mut Vec<PortWorker<'a, R, N, T>>,
+        ports: Vec<Port>,
+    ) -> io::Result<()> {
+        let mut directory = self.service.directory.lock(self.rt);
+        share_ports(&mut directory.servers, workers, ports)
     }
 
     /// A worker without ports for each of these pollers, with its mailbox.
@@ -282,19 +294,21 @@ impl<'a, R: Wait + Net + Clock> ServiceBuilder<'a, R> {
         Ok((rest, workers))
     }
 
-    /// The worker that posts a tick after each such time.
-    fn ticker<N: Named, T: CallRecords>(
+    /// Adds the worker that posts a tick after each such time.
+    fn add_ticker<N: Named, T: CallRecords, S: ServiceCommands + Drop, W: Drop>(
         &self,
         seat: Seat,
         tick: Duration,
-    ) -> (Seat, Ticker<'a, R, N, T>)
+        workers: &mut Vec<ServiceWorker<'a, R, N, T, S, W>>,
+    ) -> Result<Seat, AllocError>
         requires shared { self.now.shared.now ≡ N.table }
         requires seat { seat.table ≡ N.table }
-        ensures seat { result.0 ≡ seat }
-        ensures ticker { (result.1.table ≡ seat.table) × (result.1.seen ≡ seat.seen) × (result.1.own ≡ []) }
+        ensures seat { IfOk result (λ rest. rest ≡ seat) }
     {
         let (seat, gate) = self.gate::<N, T>(seat);
-        (seat, Ticker::new(self.rt, gate, tick, self.service.handles))
+        let ticker = Ticker::new(self.rt, gate, tick, self.service.handles);
+        workers.push(ServiceWorker::Ticks(ticker))?;
+        Ok(seat)
     }
 
     /// Adds the worker that reports the addresses of names that were looked up, and the one that reads the system's table of TCP connections.
@@ -349,23 +363,24 @@ impl<'a, R: Wait + Net + Clock> ServiceBuilder<'a, R> {
         };
         let (seat, gate) = self.gate::<N, RecordedAtOnce>(seat);
         let backend = ControlBackend::new(self.rt, self.alloc, gate, self.service, commands);
-        let journal = self.service.handles.journal;
-        let admin = AdminServer::new(
-            self.rt, self.alloc, poller, mailbox, journal, backend, self.start,
-        )?;
-        let admin = self.opened(admin, listeners)?;
+        let admin = self.admin_server(poller, mailbox, listeners, backend)?;
         workers.push(ServiceWorker::Admin(admin))?;
         Ok(seat)
     }
 
     /// The admin worker, which serves what these listen for.
-    fn opened<B: AdminBackend + Drop>(
+    fn admin_server<B: AdminBackend + Drop>(
         &self,
-        admin: AdminServer<'a, R, B>,
+        poller: Poller,
+        mailbox: &'a Mailbox<()>,
         listeners: AdminListeners,
+        backend: B,
     ) -> io::Result<AdminServer<'a, R, B>> {
-        let mut admin = admin;
-        listeners.open(self.rt, &mut admin, self.service.handles.journal)?;
+        let journal = self.service.handles.journal;
+        let mut admin = AdminServer::new(
+            self.rt, self.alloc, poller, mailbox, journal, backend, self.start,
+        )?;
+        listeners.open(self.rt, &mut admin, journal)?;
         Ok(admin)
     }
 }
@@ -384,6 +399,39 @@ fn push_sources<
 ) -> Result<(), AllocError> {
     for worker in made {
         workers.push(ServiceWorker::Sources(worker))?;
+    }
+    Ok(())
+}
+
+/// Adds these workers to those of the service.
+fn push_ports<
+    'a,
+    R: Wait + Net + Clock,
+    N: Named,
+    T: CallRecords,
+    S: ServiceCommands + Drop,
+    W: Drop,
+>(
+    made: Vec<PortWorker<'a, R, N, T>>,
+    workers: &mut Vec<ServiceWorker<'a, R, N, T, S, W>>,
+) -> Result<(), AllocError> {
+    for worker in made {
+        workers.push(ServiceWorker::Subscribers(worker))?;
+    }
+    Ok(())
+}
+
+/// Adds these workers to those of the service.
+fn push_own<
+    'a,
+    R: Wait + Net + Clock,
+    N: Named,
+    T: CallRecords,
+    S: ServiceCommands + Drop,
+    W: Drop,
+>(made: Vec<W>, workers: &mut Vec<ServiceWorker<'a, R, N, T, S, W>>) -> Result<(), AllocError> {
+    for worker in made {
+        workers.push(ServiceWorker::Own(worker))?;
     }
     Ok(())
 }

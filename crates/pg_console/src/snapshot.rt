@@ -47,27 +47,38 @@ pub(crate) fn seen_by<R: Wait + Clock, G: Gate>(
     };
     let (pmus, subs) = registered_at(rt, alloc, service)?;
     let Reports {
-        sources: reported,
+        sources,
         ports,
         ages,
         ..
     } = reports;
-    for key in &pmus {
-        let source = key.source;
-        let is_known = snapshot.sources.iter().any(|it| it.source == source);
-        if !is_known && !reported.iter().any(|it| it.source == source) {
-            snapshot.sources.push(uncalled(alloc, source, &pmus)?)?;
-        }
-    }
-    for report in reported {
-        snapshot.sources.push(source_state(alloc, report, &pmus)?)?;
-    }
-    snapshot.sources.sort_unstable_by_key(|it| it.source.get());
+    sources_into(alloc, sources, &pmus, &mut snapshot.sources)?;
     for sub in subs {
         let port = port_of(&ports, sub);
         subscriber_into(alloc, gate, sub, port, &pmus, &mut snapshot)?;
     }
     Ok((snapshot, ages))
+}
+
+/// Adds the sources that are reported, and those of these PMUs that no worker connects to.
+fn sources_into(
+    alloc: Global,
+    reported: Vec<SourceReport>,
+    pmus: &[PmuKey],
+    sources: &mut Vec<SourceState>,
+) -> Result<(), AllocError> {
+    for key in pmus {
+        let source = key.source;
+        let is_known = sources.iter().any(|it| it.source == source);
+        if !is_known && !reported.iter().any(|it| it.source == source) {
+            sources.push(uncalled(alloc, source, pmus)?)?;
+        }
+    }
+    for report in reported {
+        sources.push(source_state(alloc, report, pmus)?)?;
+    }
+    sources.sort_unstable_by_key(|it| it.source.get());
+    Ok(())
 }
 
 /// What is reported of this subscriber's port, if it has one.

@@ -1,4 +1,7 @@
 //! Rows that are written by hand from the rules, with a clock that the test moves.
+
+ghost use Rattle.std.specs.Prelude.{◌<◌};
+
 use pg_quality::*;
 use std::process::Abort;
 use std::test::*;
@@ -40,30 +43,58 @@ fn tally(expected: u64, received: u64) -> Tally {
     Tally { expected, received }
 }
 
+/// What is counted: data frames expected and received since the connection, spans begun, and frames repeated and out of order.
+fn counts_of(quality: &FrameQuality) -> [u64; 5] {
+    let came = quality.completeness().since_connected();
+    let spans = quality.span_counts();
+    [
+        came.expected,
+        came.received,
+        spans.begun,
+        spans.repeated,
+        spans.out_of_order,
+    ]
+}
+
+/// Notes the instants of each row, from the first one up to the second, and compares what is counted then.
+fn note_rows(rt: &impl Abort, rows: &[(u32, u32, [u64; 5])]) {
+    let mut quality = FrameQuality::new();
+    for (from, to, wanted) in rows {
+        note_each(&mut quality, *from, *to);
+        assert_eq!(*rt; counts_of(&quality), *wanted);
+    }
+}
+
+/// Compares the last minute and the last hour at the end of each second with as many frames, of which none is missing.
+fn windows_have(
+    rt: &impl Abort,
+    kept: &Completeness,
+    minutes: &[(u64, u64)],
+    hours: &[(u64, u64)],
+) {
+    for (second, frames) in minutes {
+        assert_eq!(*rt; kept.last_minute(*second), tally(*frames, *frames));
+    }
+    for (second, frames) in hours {
+        assert_eq!(*rt; kept.last_hour(*second), tally(*frames, *frames));
+    }
+}
+
 #[test]
 fn a_minute_with_none_missing(rt: HostRuntime) {
     let mut quality = FrameQuality::new();
     note_each(&mut quality, 0, 1_800);
-    let minute = quality.completeness().last_minute(1_059);
-    assert_eq!(rt; minute, tally(1_800, 1_800));
-    assert_eq!(rt; minute.completeness(), Some(1_000));
-    assert_eq!(rt;
-        quality.completeness().since_connected(),
-        tally(1_800, 1_800)
-    );
-    assert_eq!(rt;
-        quality.completeness().last_hour(1_059),
-        tally(1_800, 1_800)
-    );
-    assert_eq!(rt; quality.completeness().in_second(1_000), tally(30, 30));
-    assert_eq!(rt; quality.completeness().in_second(1_059), tally(30, 30));
-    assert_eq!(rt; quality.completeness().in_second(1_060), tally(0, 0));
+    assert_eq!(rt; counts_of(&quality), [1_800, 1_800, 1, 0, 0]);
+    assert_eq!(rt; tally(1_800, 1_800).completeness(), Some(1_000));
+    let kept = quality.completeness();
+    windows_have(&rt, &kept, &[(1_059, 1_800)], &[(1_059, 1_800)]);
+    for (second, frames) in [(1_000, 30), (1_059, 30), (1_060, 0)] {
+        assert_eq!(rt; kept.in_second(second), tally(frames, frames));
+    }
     // Minute 16 ends with second 1,019.
-    assert_eq!(rt; quality.completeness().in_minute(16), tally(600, 600));
-    assert_eq!(rt; quality.completeness().in_minute(17), tally(1_200, 1_200));
-    assert_eq!(rt; quality.span_counts().begun, 1);
-    assert_eq!(rt; quality.span_counts().repeated, 0);
-    assert_eq!(rt; quality.span_counts().out_of_order, 0);
+    for (minute, frames) in [(16, 600), (17, 1_200)] {
+        assert_eq!(rt; kept.in_minute(minute), tally(frames, frames));
+    }
 }
 
 #[test]
@@ -105,42 +136,28 @@ fn one_of_3000_is_missing(rt: HostRuntime) {
 fn windows_end(rt: HostRuntime) {
     let mut quality = FrameQuality::new();
     note_each(&mut quality, 0, 1_830);
-    let kept = quality.completeness();
-    // Seconds 1,001 to 1,060.
-    assert_eq!(rt; kept.last_minute(1_060), tally(1_800, 1_800));
-    assert_eq!(rt; kept.last_hour(1_060), tally(1_830, 1_830));
-    // 59 seconds later only the last of them is left, and one after that none.
-    assert_eq!(rt; kept.last_minute(1_119), tally(30, 30));
-    assert_eq!(rt; kept.last_minute(1_120), tally(0, 0));
+    // Seconds 1,001 to 1,060. 59 seconds later only the last of them is left, and one after that none.
+    let minutes = [(1_060, 1_800), (1_119, 30), (1_120, 0)];
     // Second 1,060 is of minute 17: minute 76 is the last one that has it.
-    assert_eq!(rt; kept.last_hour(76 * 60 + 59), tally(1_230, 1_230));
-    assert_eq!(rt; kept.last_hour(77 * 60), tally(0, 0));
+    let hours = [(1_060, 1_830), (76 * 60 + 59, 1_230), (77 * 60, 0)];
+    windows_have(&rt, &quality.completeness(), &minutes, &hours);
 }
 
 #[test]
 fn jumps_are_not_missing(rt: HostRuntime) {
-    let mut quality = FrameQuality::new();
-    note_each(&mut quality, 0, 10);
-    // Three hours on, and back.
-    note_one(&mut quality, 324_010);
-    assert_eq!(rt; quality.completeness().since_connected(), tally(11, 11));
-    assert_eq!(rt; quality.span_counts().begun, 2);
-    note_one(&mut quality, 10);
-    assert_eq!(rt; quality.completeness().since_connected(), tally(12, 12));
-    assert_eq!(rt; quality.span_counts().begun, 3);
-    // 60 seconds further are no jump, one instant more is one.
-    note_one(&mut quality, 1_810);
-    assert_eq!(rt; quality.completeness().since_connected(), tally(1_812, 13));
-    note_one(&mut quality, 3_611);
-    assert_eq!(rt; quality.completeness().since_connected(), tally(1_813, 14));
-    assert_eq!(rt; quality.span_counts().begun, 4);
-    // And so back.
-    note_one(&mut quality, 1_811);
-    assert_eq!(rt; quality.span_counts().begun, 4);
-    assert_eq!(rt; quality.span_counts().out_of_order, 1);
-    note_one(&mut quality, 1_810);
-    assert_eq!(rt; quality.span_counts().begun, 5);
-    assert_eq!(rt; quality.span_counts().repeated, 0);
+    let rows = [
+        (0, 10, [10, 10, 1, 0, 0]),
+        // Three hours on, and back.
+        (324_010, 324_011, [11, 11, 2, 0, 0]),
+        (10, 11, [12, 12, 3, 0, 0]),
+        // 60 seconds further are no jump, one instant more is one.
+        (1_810, 1_811, [1_812, 13, 3, 0, 0]),
+        (3_611, 3_612, [1_813, 14, 4, 0, 0]),
+        // And so back.
+        (1_811, 1_812, [1_813, 14, 4, 0, 1]),
+        (1_810, 1_811, [1_814, 15, 5, 0, 1]),
+    ];
+    note_rows(&rt, &rows);
 }
 
 #[test]
@@ -148,85 +165,70 @@ fn another_rate_begins_a_span(rt: HostRuntime) {
     let mut quality = FrameQuality::new();
     note_each(&mut quality, 0, 10);
     note(&mut quality, 60, 1_001, 0, 20);
-    assert_eq!(rt; quality.completeness().since_connected(), tally(11, 11));
-    assert_eq!(rt; quality.span_counts().begun, 2);
+    assert_eq!(rt; counts_of(&quality), [11, 11, 2, 0, 0]);
 }
 
 #[test]
 fn repeated_and_earlier(rt: HostRuntime) {
-    let mut quality = FrameQuality::new();
-    note_each(&mut quality, 0, 10);
-    note_one(&mut quality, 9);
-    note_one(&mut quality, 5);
-    assert_eq!(rt; quality.span_counts().repeated, 2);
-    assert_eq!(rt; quality.span_counts().out_of_order, 0);
-    assert_eq!(rt; quality.completeness().since_connected(), tally(10, 10));
-    // 10 and 11 come after 12, and then once more.
-    note_one(&mut quality, 12);
-    assert_eq!(rt; quality.completeness().since_connected(), tally(13, 11));
-    note_each(&mut quality, 10, 12);
-    assert_eq!(rt; quality.span_counts().out_of_order, 2);
-    assert_eq!(rt; quality.completeness().since_connected(), tally(13, 13));
-    note_each(&mut quality, 10, 12);
-    assert_eq!(rt; quality.span_counts().repeated, 4);
-    assert_eq!(rt; quality.span_counts().out_of_order, 2);
-    assert_eq!(rt; quality.completeness().since_connected(), tally(13, 13));
-    assert_eq!(rt; quality.span_counts().begun, 1);
+    let rows = [
+        (0, 10, [10, 10, 1, 0, 0]),
+        (9, 10, [10, 10, 1, 1, 0]),
+        (5, 6, [10, 10, 1, 2, 0]),
+        // 10 and 11 come after 12, and then once more.
+        (12, 13, [13, 11, 1, 2, 0]),
+        (10, 12, [13, 13, 1, 2, 2]),
+        (10, 12, [13, 13, 1, 4, 2]),
+    ];
+    note_rows(&rt, &rows);
 }
 
 #[test]
 fn known_are_the_last_64(rt: HostRuntime) {
-    let mut quality = FrameQuality::new();
-    note_one(&mut quality, 0);
-    note_one(&mut quality, 100);
-    assert_eq!(rt; quality.completeness().since_connected(), tally(101, 2));
-    // 63 before the last one is known not to have come, of 64 before nothing is known.
-    note_one(&mut quality, 37);
-    assert_eq!(rt; quality.completeness().since_connected(), tally(101, 3));
-    note_one(&mut quality, 37);
-    assert_eq!(rt; quality.span_counts().repeated, 1);
-    note_one(&mut quality, 36);
-    note_one(&mut quality, 36);
-    assert_eq!(rt; quality.completeness().since_connected(), tally(101, 3));
-    assert_eq!(rt; quality.span_counts().repeated, 1);
-    assert_eq!(rt; quality.span_counts().out_of_order, 3);
+    let rows = [
+        (0, 1, [1, 1, 1, 0, 0]),
+        (100, 101, [101, 2, 1, 0, 0]),
+        // 63 before the last one is known not to have come, of 64 before nothing is known.
+        (37, 38, [101, 3, 1, 0, 1]),
+        (37, 38, [101, 3, 1, 1, 1]),
+        (36, 37, [101, 3, 1, 1, 2]),
+        (36, 37, [101, 3, 1, 1, 3]),
+    ];
+    note_rows(&rt, &rows);
 }
 
 #[test]
 fn before_the_first_none_is_expected(rt: HostRuntime) {
-    let mut quality = FrameQuality::new();
-    note_one(&mut quality, 50);
-    note_one(&mut quality, 49);
-    note_one(&mut quality, 49);
-    assert_eq!(rt; quality.completeness().since_connected(), tally(1, 1));
-    assert_eq!(rt; quality.span_counts().repeated, 0);
-    assert_eq!(rt; quality.span_counts().out_of_order, 2);
-    note_one(&mut quality, 52);
-    note_one(&mut quality, 51);
-    note_one(&mut quality, 49);
-    assert_eq!(rt; quality.completeness().since_connected(), tally(3, 3));
-    assert_eq!(rt; quality.span_counts().out_of_order, 4);
+    let rows = [
+        (50, 51, [1, 1, 1, 0, 0]),
+        (49, 50, [1, 1, 1, 0, 1]),
+        (49, 50, [1, 1, 1, 0, 2]),
+        (52, 53, [3, 2, 1, 0, 2]),
+        (51, 52, [3, 3, 1, 0, 3]),
+        (49, 50, [3, 3, 1, 0, 4]),
+    ];
+    note_rows(&rt, &rows);
 }
 
 #[test]
 fn seconds_a_frame(rt: HostRuntime) {
+    let rows = [
+        (1_000, 0, [1, 1, 1, 0, 0]),
+        (1_010, 0, [2, 2, 1, 0, 0]),
+        (1_020, 0, [3, 3, 1, 0, 0]),
+        (1_040, 0, [5, 4, 1, 0, 0]),
+        // A little early and a little late are of the same instant.
+        (1_049, 999_900, [6, 5, 1, 0, 0]),
+        (1_060, 100, [7, 6, 1, 0, 0]),
+        // 60 frames further are no jump, 61 are one.
+        (1_660, 0, [67, 7, 1, 0, 0]),
+        (2_270, 0, [68, 8, 2, 0, 0]),
+    ];
     let mut quality = FrameQuality::new();
-    for soc in [1_000, 1_010, 1_020, 1_040] {
-        note(&mut quality, -10, soc, 0, 20);
+    for (soc, frac, wanted) in rows {
+        note(&mut quality, -10, soc, frac, 20);
+        assert_eq!(rt; counts_of(&quality), wanted);
     }
-    let came = quality.completeness().since_connected();
-    assert_eq!(rt; came, tally(5, 4));
-    assert_eq!(rt; came.completeness(), Some(800));
-    // A little early and a little late are of the same instant.
-    note(&mut quality, -10, 1_049, 999_900, 20);
-    note(&mut quality, -10, 1_060, 100, 20);
-    assert_eq!(rt; quality.completeness().since_connected(), tally(7, 6));
-    // 60 frames further are no jump, 61 are one.
-    note(&mut quality, -10, 1_660, 0, 20);
-    assert_eq!(rt; quality.completeness().since_connected(), tally(67, 7));
-    note(&mut quality, -10, 2_270, 0, 20);
-    assert_eq!(rt; quality.completeness().since_connected(), tally(68, 8));
-    assert_eq!(rt; quality.span_counts().begun, 2);
+    assert_eq!(rt; tally(5, 4).completeness(), Some(800));
 }
 
 #[test]
@@ -235,12 +237,8 @@ fn no_rate_expects_nothing(rt: HostRuntime) {
     for soc in [1_000, 1_001, 1_001, 5_000, 1_000] {
         note(&mut quality, 0, soc, 0, 20);
     }
-    let came = quality.completeness().since_connected();
-    assert_eq!(rt; came, tally(0, 5));
-    assert_eq!(rt; came.completeness(), None);
-    assert_eq!(rt; quality.span_counts().begun, 1);
-    assert_eq!(rt; quality.span_counts().repeated, 0);
-    assert_eq!(rt; quality.span_counts().out_of_order, 0);
+    assert_eq!(rt; counts_of(&quality), [0, 5, 1, 0, 0]);
+    assert_eq!(rt; tally(0, 5).completeness(), None);
 }
 
 #[test]
@@ -310,14 +308,13 @@ fn quantiles(rt: HostRuntime) {
     // Alone in its bucket, 32 to 39, the greatest is the upper end.
     assert_eq!(rt; histogram.quantile(500), Some(35));
     histogram.note(300);
-    assert_eq!(rt; histogram.count(), 100);
-    assert_eq!(rt; histogram.least, 35);
-    assert_eq!(rt; histogram.greatest, 300);
-    assert_eq!(rt; histogram.quantile(500), Some(39));
-    assert_eq!(rt; histogram.quantile(990), Some(39));
-    assert_eq!(rt; histogram.quantile(991), Some(300));
-    assert_eq!(rt; histogram.quantile(999), Some(300));
-    assert_eq!(rt; histogram.quantile(1_000), Some(300));
+    assert_eq!(rt;
+        (histogram.count(), histogram.least, histogram.greatest),
+        (100, 35, 300)
+    );
+    for (share, delay) in [(500, 39), (990, 39), (991, 300), (999, 300), (1_000, 300)] {
+        assert_eq!(rt; histogram.quantile(share), Some(delay));
+    }
 }
 
 /// The upper end of a delay's bucket.
@@ -404,16 +401,21 @@ fn all_delays_are_kept(rt: HostRuntime) {
     }
     let delays = quality.delays();
     assert_eq!(rt; delays.count(), 301);
-    // -1,000 lies in the bucket of -1,024 to -897.
-    assert_eq!(rt; delays.below(-1_024), 0);
-    assert_eq!(rt; delays.below(-896), 1);
-    assert_eq!(rt; delays.below(0), 1);
-    assert_eq!(rt; delays.below(14), 1);
-    assert_eq!(rt; delays.below(16), 2);
-    assert_eq!(rt; delays.below(1_024), 3);
-    // 1,015 to 8,015 are below, and 9,015 lies in the bucket from 8,192 on.
-    assert_eq!(rt; delays.below(8_192), 10);
-    assert_eq!(rt; delays.below(i64::MAX), 301);
+    let rows = [
+        // -1,000 lies in the bucket of -1,024 to -897.
+        (-1_024, 0),
+        (-896, 1),
+        (0, 1),
+        (14, 1),
+        (16, 2),
+        (1_024, 3),
+        // 1,015 to 8,015 are below, and 9,015 lies in the bucket from 8,192 on.
+        (8_192, 10),
+        (i64::MAX, 301),
+    ];
+    for (bound, count) in rows {
+        assert_eq!(rt; delays.below(bound), count);
+    }
 }
 
 // ---- STAT
@@ -455,15 +457,20 @@ fn each_bit_of_stat_alone(rt: HostRuntime) {
         stat.note(0);
         stat.note(rows[place]);
         stat.note(0);
-        let mut wanted = [0; 18];
-        wanted[place] = 1;
-        assert_eq!(rt; counts(&stat.counts()), wanted);
-        assert_eq!(rt; stat.counts().last, 0);
+        is_counted(&rt, &stat.counts(), place, 1, 0);
         stat.note(rows[place]);
-        wanted[place] = 2;
-        assert_eq!(rt; counts(&stat.counts()), wanted);
-        assert_eq!(rt; stat.counts().last, rows[place]);
+        is_counted(&rt, &stat.counts(), place, 2, rows[place]);
     }
+}
+
+/// The count at this place is this one and all others are 0, and this was the last STAT.
+fn is_counted(rt: &impl Abort, stat: &StatCounts, place: usize, count: u64, last: u16)
+    requires { place < 18 }
+{
+    let mut wanted = [0; 18];
+    wanted[place] = count;
+    assert_eq!(*rt; counts(stat), wanted);
+    assert_eq!(*rt; stat.last, last);
 }
 
 #[test]
@@ -481,6 +488,15 @@ fn reason_of_the_last_trigger(rt: HostRuntime) {
 }
 
 // ---- time quality
+
+/// Whether a leap second is pending, deleted and added.
+fn leap_flags(quality: &TimeQuality) -> [bool; 3] {
+    [
+        quality.is_leap_pending(),
+        quality.is_leap_deleted(),
+        quality.is_leap_added(),
+    ]
+}
 
 #[test]
 fn time_quality_of_frames(rt: HostRuntime) {
@@ -500,13 +516,12 @@ fn time_quality_of_frames(rt: HostRuntime) {
     for (byte, not_locked, unreliable, pending, deleted, added) in rows {
         let mut quality = TimeQuality::new();
         quality.note(byte);
-        assert_eq!(rt; quality.last, byte);
-        assert_eq!(rt; quality.code(), byte % 16);
-        assert_eq!(rt; quality.not_locked, not_locked);
-        assert_eq!(rt; quality.unreliable, unreliable);
-        assert_eq!(rt; quality.is_leap_pending(), pending);
-        assert_eq!(rt; quality.is_leap_deleted(), deleted);
-        assert_eq!(rt; quality.is_leap_added(), added);
+        assert_eq!(rt; (quality.last, quality.code()), (byte, byte % 16));
+        assert_eq!(rt;
+            (quality.not_locked, quality.unreliable),
+            (not_locked, unreliable)
+        );
+        assert_eq!(rt; leap_flags(&quality), [pending, deleted, added]);
     }
 }
 
@@ -535,11 +550,10 @@ fn bands_of_seconds(rt: HostRuntime) {
         least: -5,
         greatest: 10,
     };
-    assert_eq!(rt; frequency.filed(1_000), Some(wanted));
-    assert_eq!(rt; frequency.filed(1_001), None);
-    assert_eq!(rt; frequency.filed(1_002), None);
-    assert_eq!(rt; frequency.freq, 7);
-    assert_eq!(rt; frequency.dfreq, 3);
+    for (second, band) in [(1_000, Some(wanted)), (1_001, None), (1_002, None)] {
+        assert_eq!(rt; frequency.filed(second), band);
+    }
+    assert_eq!(rt; (frequency.freq, frequency.dfreq), (7, 3));
     for (second, is_kept) in [(1_299, true), (1_300, true), (1_301, false)] {
         frequency.come_to(second);
         frequency.note(0, 0);

@@ -184,8 +184,8 @@ pub(crate) fn waiting_among(
     asked
 }
 
-/// Whether something waits to be handed out to a subscriber, which may not be there. Where subscribers are numbered from 1 it stands at the place of
-/// its number, and need not be searched for.
+/// Whether something waits to be handed out to a subscriber, which may not be there. Where subscribers were added in the order of their numbers from 1
+/// and none was dropped, it stands at the place of its number and need not be searched for.
 #[inline(always)]
 fn waits(subs: &IndexMap<SubId, SubscriberSlot>, sub: SubId) -> bool
     ensures { result ≡ slot_waits (lookup (nat_eq sub) subs.now.entries) }

@@ -236,7 +236,7 @@ fn merged_by_place(rt: HostRuntime) -> Result<(), Fail> {
     Ok(())
 }
 
-/// What comes behind its gap, or twice, is left out, and counted.
+/// What comes behind its gap, twice, or after it was handed out, is left out, and counted.
 #[test]
 fn repeated_are_left_out(rt: HostRuntime) -> Result<(), Fail> {
     let alloc = rt.alloc();
@@ -244,9 +244,9 @@ fn repeated_are_left_out(rt: HostRuntime) -> Result<(), Fail> {
     add_ticks(&rt, alloc, &mut merge, 1_000, &[0, 0, 2, 3])?;
     are_next(&rt, &mut merge, 0, 1);
     assert!(rt; matches!(merge.next(true), Merged::Gap(1, 2)));
-    add_ticks(&rt, alloc, &mut merge, 1_000, &[1, 3])?;
+    add_ticks(&rt, alloc, &mut merge, 1_000, &[0, 1, 3])?;
     are_next(&rt, &mut merge, 2, 4);
-    assert!(rt; merge.repeated() == 3);
+    assert!(rt; merge.repeated() == 4);
     assert!(rt; matches!(merge.next(true), Merged::More));
     Ok(())
 }

@@ -48,41 +48,45 @@ impl Asked {
 
 /// What was done.
 pub(crate) fn write_done<W: fmt::Write>(asked: Asked, f: &mut fmt::Formatter<W>) -> fmt::Result {
+    write_edited(&asked, f)?;
+    let done = participle(&asked);
     match asked {
-        Asked::AddPmu(pmu) => write!(f, "PMU {} is registered", pmu.get()),
-        Asked::DropPmu(pmu) => write!(f, "PMU {} is dropped", pmu.get()),
-        Asked::AddSub => f.write_str("added"),
-        Asked::DropSub => f.write_str("dropped"),
-        Asked::Grant(key) => {
-            let (source, pmu) = (key.source.get(), key.pmu.get());
-            write!(f, "PMU {source}/{pmu} is granted")
-        }
-        Asked::Revoke(key) => {
-            let (source, pmu) = (key.source.get(), key.pmu.get());
-            write!(f, "the grant of PMU {source}/{pmu} is revoked")
-        }
-        Asked::Define(stream) => write!(f, "stream {} is defined", stream.get()),
-        Asked::Remove(stream) => write!(f, "stream {} is removed", stream.get()),
+        Asked::AddSub | Asked::DropSub => f.write_str(done),
+        _ => write!(f, "is {done}"),
     }
 }
 
 /// What can't be done.
 pub(crate) fn write_asked<W: fmt::Write>(asked: Asked, f: &mut fmt::Formatter<W>) -> fmt::Result {
+    write_edited(&asked, f)?;
+    let done = participle(&asked);
+    write!(f, "can't be {done}")
+}
+
+/// What is edited, where it is not the subscriber that is named before.
+fn write_edited<W: fmt::Write>(asked: &Asked, f: &mut fmt::Formatter<W>) -> fmt::Result {
     match asked {
-        Asked::AddPmu(pmu) => write!(f, "PMU {} can't be registered", pmu.get()),
-        Asked::DropPmu(pmu) => write!(f, "PMU {} can't be dropped", pmu.get()),
-        Asked::AddSub => f.write_str("can't be added"),
-        Asked::DropSub => f.write_str("can't be dropped"),
-        Asked::Grant(key) => {
-            let (source, pmu) = (key.source.get(), key.pmu.get());
-            write!(f, "PMU {source}/{pmu} can't be granted")
-        }
+        Asked::AddPmu(pmu) | Asked::DropPmu(pmu) => write!(f, "PMU {} ", pmu.get()),
+        Asked::AddSub | Asked::DropSub => Ok(()),
+        Asked::Grant(key) => write!(f, "PMU {}/{} ", key.source.get(), key.pmu.get()),
         Asked::Revoke(key) => {
             let (source, pmu) = (key.source.get(), key.pmu.get());
-            write!(f, "the grant of PMU {source}/{pmu} can't be revoked")
+            write!(f, "the grant of PMU {source}/{pmu} ")
         }
-        Asked::Define(stream) => write!(f, "stream {} can't be defined", stream.get()),
-        Asked::Remove(stream) => write!(f, "stream {} can't be removed", stream.get()),
+        Asked::Define(stream) | Asked::Remove(stream) => write!(f, "stream {} ", stream.get()),
+    }
+}
+
+/// What an edit does to it.
+fn participle(asked: &Asked) -> &'static str {
+    match asked {
+        Asked::AddPmu(_) => "registered",
+        Asked::DropPmu(_) | Asked::DropSub => "dropped",
+        Asked::AddSub => "added",
+        Asked::Grant(_) => "granted",
+        Asked::Revoke(_) => "revoked",
+        Asked::Define(_) => "defined",
+        Asked::Remove(_) => "removed",
     }
 }
 

@@ -65,11 +65,24 @@ fn write_fault<W: fmt::Write>(
 /// The keys that are right in such a table.
 fn write_unknown<W: fmt::Write>(heading: &Heading, f: &mut fmt::Formatter<W>) -> fmt::Result {
     f.write_str("unknown key; known keys: ")?;
+    write_names(f, keys_of(*heading))
+}
+
+static FILE_KEYS: [SetupKey; 12] = SetupKey::FILE_KEYS;
+
+static PMU_KEYS: [SetupKey; 7] = SetupKey::PMU_KEYS;
+
+static SUBSCRIBER_KEYS: [SetupKey; 12] = SetupKey::SUBSCRIBER_KEYS;
+
+static STREAM_KEYS: [SetupKey; 7] = SetupKey::STREAM_KEYS;
+
+/// The keys of such a table.
+fn keys_of(heading: Heading) -> &'static [SetupKey] {
     match heading {
-        Heading::File => write_names(f, &SetupKey::FILE_KEYS),
-        Heading::Pmu => write_names(f, &SetupKey::PMU_KEYS),
-        Heading::Subscriber => write_names(f, &SetupKey::SUBSCRIBER_KEYS),
-        Heading::Stream => write_names(f, &SetupKey::STREAM_KEYS),
+        Heading::File => &FILE_KEYS,
+        Heading::Pmu => &PMU_KEYS,
+        Heading::Subscriber => &SUBSCRIBER_KEYS,
+        Heading::Stream => &STREAM_KEYS,
     }
 }
 
@@ -162,7 +175,7 @@ impl Search<'_> {
         ensures memory { IfErr result (λ refusal. refusal ≡ Refusal.NoMemory) }
     {
         let place = SetupTable::File;
-        self.look_at_keys(table, Heading::File, &SetupKey::FILE_KEYS, place)?;
+        self.look_at_keys(table, Heading::File, place)?;
         self.look_at_pmus(tables_at(table, &SetupKey::PMU))?;
         let subscribers = tables_at(table, &SetupKey::SUBSCRIBER);
         for (number, item) in subscribers.iter().enumerate() {
@@ -178,17 +191,12 @@ impl Search<'_> {
         ensures memory { IfErr result (λ refusal. refusal ≡ Refusal.NoMemory) }
     {
         let place = SetupTable::Subscriber(number);
-        self.look_at_keys(
-            table,
-            Heading::Subscriber,
-            &SetupKey::SUBSCRIBER_KEYS,
-            place,
-        )?;
+        self.look_at_keys(table, Heading::Subscriber, place)?;
         let streams = tables_at(table, &SetupKey::STREAM);
         for (stream, item) in streams.iter().enumerate() {
             if let Some(table) = item.as_table() {
                 let place = SetupTable::Stream(number, stream);
-                self.look_at_keys(table, Heading::Stream, &SetupKey::STREAM_KEYS, place)?;
+                self.look_at_keys(table, Heading::Stream, place)?;
             }
         }
         Ok(())
@@ -202,7 +210,7 @@ impl Search<'_> {
         for (number, item) in items.iter().enumerate() {
             if let Some(table) = item.as_table() {
                 let place = SetupTable::Pmu(number);
-                self.look_at_keys(table, Heading::Pmu, &SetupKey::PMU_KEYS, place)?;
+                self.look_at_keys(table, Heading::Pmu, place)?;
             }
             if let Some(pmu) = pmu_in(item) {
                 let own = Said::by(&pmu);
@@ -248,11 +256,11 @@ impl Search<'_> {
         &mut self,
         table: &Table,
         heading: Heading,
-        keys: &[SetupKey],
         place: SetupTable,
     ) -> Result<(), Refusal>
         ensures memory { IfErr result (λ refusal. refusal ≡ Refusal.NoMemory) }
     {
+        let keys = keys_of(heading);
         for key in table.keys() {
             if !keys.iter().any(|known| known.name == key.as_str()) {
                 self.tell(place, key.as_str(), Wrong::Unknown(heading))?;

@@ -16,7 +16,7 @@ struct KeyText {
 }
 
 #[rattlefmt::skip]
-const FILE_TEXTS: [KeyText; 10] = [
+static FILE_TEXTS: [KeyText; 10] = [
     KeyText { key: SetupKey::TICK_MS, example: "20", meaning: "milliseconds from tick to tick; `wait` counts ticks" },
     KeyText { key: SetupKey::INGEST, example: "2", meaning: "threads for sources" },
     KeyText { key: SetupKey::SERVE, example: "4", meaning: "threads for subscribers, for frames that are due to many at once" },
@@ -33,7 +33,7 @@ const FILE_TEXTS: [KeyText; 10] = [
 ];
 
 #[rattlefmt::skip]
-const PMU_TEXTS: [KeyText; 7] = [
+static PMU_TEXTS: [KeyText; 7] = [
     KeyText { key: SetupKey::PMU_ID, example: "7", meaning: "IDCODE of the PMU in its source's configuration" },
     KeyText { key: SetupKey::SOURCE, example: "300", meaning: "IDCODE of the source's frames; behind a PDC the PDC's" },
     KeyText { key: SetupKey::CONNECT, example: "\"10.0.0.1:4712\"", meaning: "address of the source, or a list of 1 to 4 that are tried in turn, in one table of each source" },
@@ -49,7 +49,7 @@ const PMU_TEXTS: [KeyText; 7] = [
 ];
 
 #[rattlefmt::skip]
-const SUBSCRIBER_TEXTS: [KeyText; 11] = [
+static SUBSCRIBER_TEXTS: [KeyText; 11] = [
     KeyText { key: SetupKey::SUBSCRIBER_ID, example: "1", meaning: "its number" },
     KeyText { key: SetupKey::PORT, example: "4800", meaning: "TCP port of its own, to which it connects" },
     KeyText { key: SetupKey::RING, example: "64", meaning: "queue length in data frames; when it is full, the oldest is dropped" },
@@ -68,7 +68,7 @@ const SUBSCRIBER_TEXTS: [KeyText; 11] = [
 ];
 
 #[rattlefmt::skip]
-const STREAM_TEXTS: [KeyText; 7] = [
+static STREAM_TEXTS: [KeyText; 7] = [
     KeyText { key: SetupKey::STREAM_ID, example: "101", meaning: "IDCODE of its frames" },
     KeyText { key: SetupKey::RATE, example: "30", meaning: "frames per second" },
     KeyText { key: SetupKey::BASE, example: "1000000", meaning: "TIME_BASE, parts of a second; at least `rate`" },

@@ -86,16 +86,24 @@ impl<'a> SetupLines<'a> {
             streams: Vec::new(alloc),
             current: Some(0),
         };
-        lines.tables.push(1)?;
+        lines.read_text(text)?;
+        Ok(lines)
+    }
+
+    /// Reads the lines of a file.
+    fn read_text(&mut self, text: &'a str) -> Result<(), Refusal>
+        ensures memory { IfErr result (λ refusal. refusal ≡ Refusal.NoMemory) }
+    {
+        self.tables.push(1)?;
         let mut passed = Passed::START;
         for (number, line) in text.split('\n').enumerate() {
             if passed == Passed::START {
-                lines.read_line(line, number.saturating_add(1))?;
+                self.read_line(line, number.saturating_add(1))?;
             }
             passed = passed.line(line);
         }
-        lines.keys.sort_by_key(|key| (key.table, key.name))?;
-        Ok(lines)
+        self.keys.sort_by_key(|key| (key.table, key.name))?;
+        Ok(())
     }
 
     /// The line, from 1, of a key of a table. Where the key is not there it is that of the table's heading, or of the value that

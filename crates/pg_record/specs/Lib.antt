@@ -2,6 +2,7 @@
 pub mod Numbers
 pub mod Records
 pub mod Blocks
+pub mod Checksums
 pub mod Taping
 pub mod Merging
 pub mod Rows

@@ -1,5 +1,5 @@
 -- What a tape holds, and the bytes of its records.
-use Rattle.std.specs.Prelude.{ℕ, Bool, ◌+◌, ◌-◌, ◌^◌, min, List, [], ◌∷◌, ◌++◌, length, take, drop, Option, Some, None, ◌&&◌, nat_le, nat_lt, if◌then◌else◌}
+use Rattle.std.specs.Prelude.{ℕ, Bool, ◌+◌, ◌-◌, ◌^◌, min, List, [], ◌∷◌, ◌++◌, length, take, drop, Option, Some, None, ◌&&◌, nat_eq, nat_le, nat_lt, if◌then◌else◌}
 use Rattle.std.specs.Int.{w32, w64, to_be_bytes}
 use Rattle.pg_record.specs.declared.record.Record.{Record}
 use Rattle.pg_record.specs.declared.record.RecordKind.{RecordKind}
@@ -7,6 +7,7 @@ use Rattle.pg_record.specs.declared.tape.Front.{Front}
 use Rattle.pg_record.specs.declared.tape.Front.TheVariants.{Nothing, Four, Eight}
 use Rattle.pg_record.specs.declared.tape.TapedCall.{TapedCall}
 use Rattle.pg_record.specs.Records.{record_bytes}
+use Rattle.pg_record.specs.Checksums.{short_sum_of}
 
 pub record Taped : Type 0 where
   -- the calls whose records were ended, and the bodies
@@ -44,6 +45,10 @@ ended_by None t place at answer handed sum = record t { missed = min (t.missed +
 
 abbrev pub ended : Taped → ℕ → ℕ → ℕ → ℕ → ℕ → Taped
 ended t = ended_by t.begun t
+
+-- the record of a drain that handed these bytes out: how many they are, at most 65,535, and their sum, which is 0 for none
+abbrev pub ended_drain : Taped → ℕ → ℕ → List ℕ → Taped
+ended_drain t place at bytes = ended t place at 0 (min (length bytes) 65535) (if nat_eq (length bytes) 0 then 0 else short_sum_of bytes)
 
 -- ---- its records as bytes
 

@@ -2,9 +2,10 @@
 //! record that finds no room is missed, and its place is a gap.
 
 ghost use Rattle.std.specs.Prelude.{◌≡◌, ◌++◌, ◌≤◌, [], IfOk, None, length, nat_eq, take, drop, vec_capacity};
-ghost use Rattle.pg_record.specs.Taping.{Taped, begun, ended, front_bytes, spelled, spelled_call};
+ghost use Rattle.pg_record.specs.Taping.{Taped, begun, ended, ended_drain, front_bytes, spelled, spelled_call};
 
-use crate::record::{Record, RecordKind, record_end, record_start};
+use crate::checksum::short_sum;
+use crate::record::{DONE, Record, RecordKind, record_end, record_start};
 use std::alloc::{AllocError, Global};
 use std::marker::Model;
 use std::mem;
@@ -290,6 +291,21 @@ impl Tape {
             from,
             len,
         });
+    }
+
+    /// Ends the record of a drain that handed these bytes out, with how many they are, at most 65,535, and their sum, which is 0 where there is
+    /// none.
+    #[inline(never)]
+    pub fn end_drain(&mut self, place: u64, at: u16, handed: &[u8])
+        ensures { self.new ≡ ended_drain self.old place at handed.now }
+    {
+        let size = u16::try_from(handed.len()).unwrap_or(u16::MAX);
+        let sum = if handed.is_empty() {
+            0
+        } else {
+            short_sum(handed)
+        };
+        self.end(place, at, DONE, size, sum);
     }
 
     /// Hands its calls over, and goes on with these, which are emptied.

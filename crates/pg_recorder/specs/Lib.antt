@@ -1,2 +1,4 @@
--- Definitions that the contracts of the gates of workers cite.
-pub mod Asking
+-- Definitions that the contracts of what threads record cite.
+pub mod Answering
+pub mod Beginning
+pub mod Recording

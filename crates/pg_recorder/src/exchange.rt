@@ -1,5 +1,7 @@
 //! Where threads that record hand their records over, and where the writer takes them.
 
+ghost use Rattle.pg_recorder.specs.Answering.{IsOrEmptied};
+
 use crate::prelude::Prelude;
 use pg_record::{Tape, TapedCalls};
 use pg_wire::Refusal;
@@ -57,8 +59,10 @@ impl TapeSlot {
         })
     }
 
-    /// Hands the calls of a tape over, where those that were handed over last were taken.
-    pub(crate) fn hand_over<R: Wait>(&self, rt: &R, tape: &mut Tape, start: u64) -> bool {
+    /// Hands the calls of a tape over, where those that were handed over last were taken, and returns whether it did.
+    pub(crate) fn hand_over<R: Wait>(&self, rt: &R, tape: &mut Tape, start: u64) -> bool
+        ensures { IsOrEmptied tape.old tape.new }
+    {
         if tape.calls() >= MANY_CALLS || tape.bytes() >= MANY_BYTES {
             self.has_many.store(true, Ordering::SeqCst);
         }

@@ -7,7 +7,8 @@ ghost use Rattle.pg_shared.specs.Gates.{said_at};
 ghost use Rattle.pg_shared.specs.Onward.{GoesOn};
 ghost use Rattle.pg_shared.specs.Continuing.{goes_on_same, goes_on_more};
 ghost use Rattle.pg_shared.specs.Sharing.{history_of, PostedCall, HandsByViews, AnswersByView};
-ghost use Rattle.pg_recorder.specs.Asking.{AsksAtMost};
+ghost use Rattle.pg_recorder.specs.Answering.{HandsOver};
+ghost use Rattle.pg_recorder.specs.Recording.{AsksAtMost, IsRecorded};
 
 use crate::call_records::CallRecords;
 use pg_gateway::{Event, Gate, Reply};
@@ -17,7 +18,7 @@ use std::marker::Model;
 use std::rt::Clock;
 use std::sync::Wait;
 
-/// A gate that posts at a seat of the shared gateway that N names, and records what it posts by T. Contracts see it as its seat.
+/// A gate that posts at a seat of the shared gateway that N names, and records what it posts by T.
 #[derive(Drop)]
 pub struct WorkerGate<'a, R: Wait, N: Named, T: CallRecords> {
     rt: &'a R,
@@ -26,13 +27,11 @@ pub struct WorkerGate<'a, R: Wait, N: Named, T: CallRecords> {
 }
 
 impl<'a, R: Wait, N: Named, T: CallRecords> Model for WorkerGate<'a, R, N, T> {
-    ghost use Rattle.pg_gateway.specs.declared.event.Event.{Event};
-    ghost use Rattle.pg_gateway.specs.declared.event.Reply.{Reply};
-    ghost use Rattle.pg_turn.specs.Known.{Known};
+    ghost use Rattle.pg_recorder.specs.Recording.{Recording};
 
-    ghost Value = { Known Event Reply };
+    ghost Value = { Recording };
 
-    ghost view = { λ g. g.gate };
+    ghost view = { λ g. record { seat = g.gate; taping = T.taping g.records } };
 }
 
 impl<'a, R: Wait, N: Named, T: CallRecords> WorkerGate<'a, R, N, T> {
@@ -40,7 +39,8 @@ impl<'a, R: Wait, N: Named, T: CallRecords> WorkerGate<'a, R, N, T> {
     pub fn new(rt: &'a R, shared: &'a Shared, seat: Seat, records: T) -> WorkerGate<'a, R, N, T>
         requires shared { shared.now ≡ N.table }
         requires seat { seat.table ≡ N.table }
-        ensures seat { result ≡ seat }
+        ensures seat { result.seat ≡ seat }
+        ensures taping { result.taping ≡ T.taping records }
     {
         WorkerGate {
             rt,
@@ -54,7 +54,8 @@ impl<'a, R: Wait, N: Named, T: CallRecords> WorkerGate<'a, R, N, T> {
     pub fn begin_round(&mut self)
     where
         R: Clock,
-        ensures { self.new ≡ self.old }
+        ensures seat { self.new.seat ≡ self.old.seat }
+        ensures handed { HandsOver self.old.taping self.new.taping }
     {
         self.records.begin_round(self.rt);
     }
@@ -62,14 +63,15 @@ impl<'a, R: Wait, N: Named, T: CallRecords> WorkerGate<'a, R, N, T> {
     /// A round of its worker ends: what it recorded is handed over.
     #[inline(always)]
     pub fn end_round(&mut self)
-        ensures { self.new ≡ self.old }
+        ensures seat { self.new.seat ≡ self.old.seat }
+        ensures handed { HandsOver self.old.taping self.new.taping }
     {
         self.records.end_round(self.rt);
     }
 
     /// Gives its seat back, which is one of the gateway that N names. What it recorded is handed over.
     pub fn into_seat(self) -> Seat
-        ensures seat { result ≡ self.entry }
+        ensures seat { result ≡ self.entry.seat }
         ensures table { result.table ≡ N.table }
     {
         let WorkerGate { rt, gate, records } = self;
@@ -81,8 +83,8 @@ impl<'a, R: Wait, N: Named, T: CallRecords> WorkerGate<'a, R, N, T> {
 impl<'a, R: Wait + Clock, N: Named, T: CallRecords> WorkerGate<'a, R, N, T> {
     /// Records that so many frames of a source were ignored for this reason, by a question, which changes nothing; where nothing is recorded none is asked.
     pub fn note_ignored(&mut self, source: PmuId, reason: Refusal, count: u64)
-        ensures goes_on { GoesOn self.old self.new }
-        ensures asks { AsksAtMost (record { source = source; pmu = source }) self.old self.new }
+        ensures goes_on { GoesOn self.old.seat self.new.seat }
+        ensures asks { AsksAtMost source reason count self.old self.new }
     {
         if self.records.note_ignored(source, reason, count) {
             let asked = Event::PmuStats(PmuKey {
@@ -95,29 +97,31 @@ impl<'a, R: Wait + Clock, N: Named, T: CallRecords> WorkerGate<'a, R, N, T> {
 }
 
 impl<'a, R: Wait + Clock, N: Named, T: CallRecords> Gate for WorkerGate<'a, R, N, T> {
-    ghost posts = { λ g. Some (said_at g.seen g.own) };
+    ghost posts = { λ g. Some (said_at g.seat.seen g.seat.own) };
 
-    ghost goes_on = { λ g h. GoesOn g h };
+    ghost goes_on = { λ g h. GoesOn g.seat h.seat };
 
     ghost frames = { λ _ _ e. absurd (cc e) };
 
-    ghost stays = { λ g. goes_on_same g };
+    ghost stays = { λ g. goes_on_same g.seat };
 
-    ghost joins = { λ g h k. goes_on_more g h k };
+    ghost joins = { λ g h k. goes_on_more g.seat h.seat k.seat };
 
     /// Posts at its seat, and records that. It waits by parking, and what is promised holds if it returns.
     #[inline(always)]
     fn post(&mut self, event: Event) -> Reply
         // All that `Shared::post` promises of the seat.
-        ensures seat { PostedCall self.old event result self.new }
-        ensures handed { HandsByViews (history_of self.new.seen) }
-        ensures own { AnswersByView (history_of self.new.seen) }
+        ensures seat { PostedCall self.old.seat event result self.new.seat }
+        ensures handed { HandsByViews (history_of self.new.seat.seen) }
+        ensures own { AnswersByView (history_of self.new.seat.seen) }
         ensures answers { Answers event result }
-        ensures posted { Notes (Some (said_at self.old.seen self.old.own)) (Some (said_at self.new.seen self.new.own))
+        ensures posted { Notes (Some (said_at self.old.seat.seen self.old.seat.own)) (Some (said_at self.new.seat.seen self.new.seat.own))
             ((gateway_event event, told result) ∷ []) }
         ensures takes { ◌≡◌ {A = GatewayEvent → Bool} (λ _. true) (λ _. true) }
         ensures refused { true ≡ false → result ≡ Reply.Refused Refusal.FarClock }
-        ensures goes_on { GoesOn self.old self.new }
+        ensures goes_on { GoesOn self.old.seat self.new.seat }
+        // The call is recorded: what was posted, at which place of the history, and how it was answered.
+        ensures recorded { IsRecorded self.old.taping event result self.new }
     {
         self.records.begin(self.rt, &event);
         let reply = self.gate.post(event);

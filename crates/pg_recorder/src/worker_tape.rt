@@ -1,13 +1,19 @@
 //! What one thread records of its calls.
 
+ghost use Rattle.std.specs.Prelude.{◌≡◌, ◌⊎◌, [], Some, None};
+ghost use Rattle.pg_recorder.specs.Answering.{IsOrEmptied, with_reply, with_refusal};
+ghost use Rattle.pg_recorder.specs.Beginning.{Begun, BegunEdit, BegunFrame, BegunOf, BegunUnspelled, ignored_of, is_question, noted_after, question_front, time_front};
+ghost use Rattle.pg_record.specs.declared.record.RecordKind.TheVariants as kind;
+
 use crate::exchange::{MANY_BYTES, MANY_CALLS, Recorder, TapeSlot};
 use crate::script_lines::edit_line;
 use crate::writer::now_ms;
 use pg_config::{SourceConfig, write_source};
 use pg_gateway::{Event, Reply};
-use pg_record::{DONE, Front, LOST, RecordKind, Tape, short_sum};
+use pg_record::{DONE, Front, LOST, RecordKind, Tape};
 use pg_wire::{PmuId, Refusal};
 use std::alloc::Global;
+use std::marker::Model;
 use std::rt::Clock;
 use std::sync::{Arc, Wait};
 
@@ -28,6 +34,14 @@ pub struct WorkerTape {
     ignored: Option<u64>,
 }
 
+impl Model for WorkerTape {
+    ghost use Rattle.pg_recorder.specs.Answering.{Taping};
+
+    ghost Value = { Taping };
+
+    ghost view = { λ t. record { tape = t.tape; at = t.at; ignored = t.ignored } };
+}
+
 impl WorkerTape {
     /// The tape of one more thread; `None` once each thread of the recorder has one.
     pub(crate) fn new<R: Wait>(rt: &R, recorder: &Recorder) -> Option<WorkerTape> {
@@ -45,7 +59,9 @@ impl WorkerTape {
     }
 
     /// A round of the thread begins: what it records has this machine's time by now.
-    pub(crate) fn begin_round<R: Clock>(&mut self, rt: &R) {
+    pub(crate) fn begin_round<R: Clock>(&mut self, rt: &R)
+        ensures { self.new ≡ record self.old { at = self.new.at } }
+    {
         if let Some(clock) = now_ms(rt) {
             self.clock = clock;
             let late = clock.saturating_sub(self.start);
@@ -54,7 +70,11 @@ impl WorkerTape {
     }
 
     /// Hands the records over where there are any and the writer has taken those before.
-    pub(crate) fn hand_over<R: Wait>(&mut self, rt: &R) {
+    pub(crate) fn hand_over<R: Wait>(&mut self, rt: &R)
+        ensures tape { IsOrEmptied self.old.tape self.new.tape }
+        ensures at { self.new.at ≡ self.old.at }
+        ensures ignored { self.new.ignored ≡ self.old.ignored }
+    {
         if !self.tape.is_empty() {
             self.slot.hand_over(rt, &mut self.tape, self.start);
         }
@@ -78,7 +98,10 @@ impl WorkerTape {
     /// Begins the record of an event that is about to be posted, and that is no edit. What is recorded is given on as numbers and by what the
     /// event refers to, so that the event itself need not be kept in memory for it.
     #[inline(always)]
-    pub(crate) fn begin(&mut self, event: &Event) {
+    pub(crate) fn begin(&mut self, event: &Event)
+        ensures begun { BegunOf self.old.ignored self.old.tape event.now self.new.tape }
+        ensures ignored { self.new.ignored ≡ noted_after (is_question event.now) self.old.ignored }
+    {
         self.start_if_empty();
         match event {
             Event::Measure(frame) => {
@@ -118,7 +141,9 @@ impl WorkerTape {
 
     /// Where there is no record yet, the next one is the first of a block that starts now.
     #[inline(always)]
-    fn start_if_empty(&mut self) {
+    fn start_if_empty(&mut self)
+        ensures { self.new ≡ record self.old { at = self.new.at } }
+    {
         if self.tape.is_empty() {
             self.start = self.clock;
             self.at = 0;
@@ -126,26 +151,52 @@ impl WorkerTape {
     }
 
     /// The same of an event that may be an edit.
-    pub(crate) fn begin_any(&mut self, event: &Event) {
+    pub(crate) fn begin_any(&mut self, event: &Event)
+        ensures begun { BegunOf self.old.ignored self.old.tape event.now self.new.tape }
+        ensures ignored { self.new.ignored ≡ noted_after (is_question event.now) self.old.ignored }
+    {
+        match event {
+            Event::AddPmu(_)
+            | Event::DropPmu(_)
+            | Event::AddSub(..)
+            | Event::DropSub(_)
+            | Event::Grant(..)
+            | Event::Revoke(..)
+            | Event::Define(..)
+            | Event::Remove(..) => self.begin_edit(event),
+            _ => self.begin(event),
+        }
+    }
+
+    /// Begins the record of an edit.
+    fn begin_edit(&mut self, event: &Event)
+        ensures begun { BegunEdit self.old.tape self.new.tape }
+        ensures rest { self.new ≡ record self.old { tape = self.new.tape; at = self.new.at } }
+    {
+        self.start_if_empty();
         match edit_line(self.alloc, event) {
             Some(line) => {
-                self.start_if_empty();
                 let line = line.as_str().as_bytes();
                 self.begin_with(RecordKind::Edit, 0, Front::Nothing, line);
             }
-            None => self.begin(event),
+            None => self.begin_unspelled(),
         }
     }
 
     /// Begins a record.
     #[inline(never)]
-    fn begin_with(&mut self, kind: RecordKind, number: u16, front: Front, rest: &[u8]) {
+    fn begin_with(&mut self, kind: RecordKind, number: u16, front: Front, rest: &[u8])
+        ensures begun { Begun self.old.tape kind number front rest.now self.new.tape }
+        ensures rest { self.new ≡ record self.old { tape = self.new.tape } }
+    {
         self.tape.begin(kind, number, front, rest);
     }
 
     /// Notes that so many frames of a source were ignored for this reason. The next question's record has it as its body: the source and the number of the
     /// reason in two bytes each, and the count in four.
-    pub(crate) fn note_ignored(&mut self, source: PmuId, reason: Refusal, count: u64) {
+    pub(crate) fn note_ignored(&mut self, source: PmuId, reason: Refusal, count: u64)
+        ensures { self.new ≡ record self.old { ignored = Some (ignored_of source reason count) } }
+    {
         let why = u64::from(source.get()) << 16 | u64::from(reason.number());
         let count = u32::try_from(count).unwrap_or(u32::MAX);
         self.ignored = Some(why << 32 | u64::from(count));
@@ -153,7 +204,10 @@ impl WorkerTape {
 
     /// Begins the record of a question.
     #[inline(never)]
-    fn begin_question(&mut self) {
+    fn begin_question(&mut self)
+        ensures begun { Begun self.old.tape kind.Question 0 (question_front self.old.ignored) [] self.new.tape }
+        ensures rest { self.new ≡ record self.old { tape = self.new.tape; ignored = None } }
+    {
         let front = match self.ignored.take() {
             Some(body) => Front::Eight(body),
             None => Front::Nothing,
@@ -163,7 +217,10 @@ impl WorkerTape {
 
     /// Begins the record of a configuration.
     #[inline(never)]
-    fn begin_configuration(&mut self, config: &SourceConfig) {
+    fn begin_configuration(&mut self, config: &SourceConfig)
+        ensures begun { BegunFrame self.old.tape config.now self.new.tape ⊎ BegunUnspelled self.old.tape self.new.tape }
+        ensures rest { self.new ≡ record self.old { tape = self.new.tape } }
+    {
         match write_source(self.alloc, config) {
             Ok(frame) => {
                 let source = config.source.get();
@@ -175,14 +232,21 @@ impl WorkerTape {
 
     /// Begins the record of an event that no line of a script says.
     #[inline(never)]
-    fn begin_unspelled(&mut self) {
+    fn begin_unspelled(&mut self)
+        ensures begun { BegunUnspelled self.old.tape self.new.tape }
+        ensures rest { self.new ≡ record self.old { tape = self.new.tape } }
+    {
         self.slot.count_unspelled();
         self.begin_with(RecordKind::Unspelled, 0, Front::Nothing, &[]);
     }
 
     /// Ends the record that was begun: its call has this place and was answered so.
     #[inline(always)]
-    pub(crate) fn end<R: Wait>(&mut self, rt: &R, place: u64, reply: &Reply) {
+    pub(crate) fn end<R: Wait>(&mut self, rt: &R, place: u64, reply: &Reply)
+        ensures tape { IsOrEmptied (with_reply self.old place reply.now) self.new.tape }
+        ensures at { self.new.at ≡ self.old.at }
+        ensures ignored { self.new.ignored ≡ self.old.ignored }
+    {
         // Of a reply, which has room for all counters, what is recorded alone is looked at, so that it is neither filled nor moved.
         match reply {
             Reply::Done { made, kept } => {
@@ -191,7 +255,10 @@ impl WorkerTape {
             }
             Reply::Refused(refusal) => self.end_refused(place, *refusal),
             Reply::Drained { buf, out } => match out {
-                Ok(drained) => self.end_drain(place, buf.get(..drained.len).unwrap_or(&[])),
+                Ok(drained) => {
+                    let handed = buf.get(..drained.len).unwrap_or(buf);
+                    self.tape.end_drain(place, self.at, handed);
+                }
                 Err(refusal) => self.end_refused(place, *refusal),
             },
             _ => self.tape.end(place, self.at, DONE, 0, 0),
@@ -203,25 +270,17 @@ impl WorkerTape {
 
     /// Ends the record of a call that was refused.
     #[inline(never)]
-    fn end_refused(&mut self, place: u64, refusal: Refusal) {
+    fn end_refused(&mut self, place: u64, refusal: Refusal)
+        ensures { self.new ≡ record self.old { tape = with_refusal self.old place refusal } }
+    {
         self.tape.end(place, self.at, refusal.number(), 0, 0);
-    }
-
-    /// Ends the record of a drain that handed these bytes out.
-    #[inline(never)]
-    fn end_drain(&mut self, place: u64, handed: &[u8]) {
-        let size = u16::try_from(handed.len()).unwrap_or(u16::MAX);
-        let sum = if handed.is_empty() {
-            0
-        } else {
-            short_sum(handed)
-        };
-        self.tape.end(place, self.at, DONE, size, sum);
     }
 }
 
 /// The first bytes of a measurement's record: SOC, and FRACSEC with the quality in its first byte (C37.118.2, 6.2.2).
-fn front_of(soc: u32, quality: u8, frac: u32) -> Front {
+fn front_of(soc: u32, quality: u8, frac: u32) -> Front
+    ensures { result ≡ time_front soc quality frac }
+{
     let low = u32::from(quality) << 24 | (frac & 0x00FF_FFFF);
     Front::Eight(u64::from(soc) << 32 | u64::from(low))
 }

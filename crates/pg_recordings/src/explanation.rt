@@ -103,8 +103,7 @@ pub fn explain<W: Write, C: Write + Drop>(
     capture: Option<C>,
 ) -> Result<Totals, Fault> {
     let mut explanation = Explanation::new(alloc, inquiry, capture)?;
-    explanation.print_all(reader, out)?;
-    Ok(explanation.totals)
+    explanation.print_all(reader, out)
 }
 
 impl Inquiry {
@@ -151,12 +150,12 @@ impl<C: Write + Drop> Explanation<C> {
         })
     }
 
-    /// Replays all that the reader has and prints the frames that are asked for.
+    /// Replays all that the reader has, prints the frames that are asked for, and returns what it counted.
     fn print_all<W: Write>(
         &mut self,
         reader: &mut RecordReader<'_>,
         out: &mut W,
-    ) -> Result<(), Fault> {
+    ) -> Result<Totals, Fault> {
         print_heading(self.inquiry.form(), out)?;
         for _ in 0..u64::MAX {
             let step = reader.next()?;
@@ -164,7 +163,8 @@ impl<C: Write + Drop> Explanation<C> {
                 break;
             }
         }
-        self.end(out)
+        self.end(out)?;
+        Ok(self.totals)
     }
 
     /// Follows a step of the reader. Whether another one is to come.
@@ -207,14 +207,19 @@ impl<C: Write + Drop> Explanation<C> {
         let is_first = !self.is_begun;
         self.is_begun = true;
         if !is_first {
-            self.replayed = Replayed::new(self.alloc)?;
-            self.streams.clear();
-            self.disconnect(start.at)?;
+            self.begin_again(start.at)?;
         }
         match start_text(self.alloc, start, is_first)? {
             Some(text) => print_comment(self.alloc, text.as_str(), out),
             None => Ok(()),
         }
+    }
+
+    /// The service was started again at this time.
+    fn begin_again(&mut self, at: u64) -> Result<(), Fault> {
+        self.replayed = Replayed::new(self.alloc)?;
+        self.streams.clear();
+        self.disconnect(at)
     }
 
     /// Notes places without a record.

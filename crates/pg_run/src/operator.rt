@@ -45,7 +45,7 @@ impl<'a, R: Wait + Input<Reader = StdinLock<'static>> + Print + Net + Clock, N: 
     ghost Value = { Known Event Reply };
 
     // It is seen as the seat of its gate.
-    ghost view = { λ w. w.gate.gate };
+    ghost view = { λ w. w.gate.gate.seat };
 }
 
 impl<'a, R: Wait + Input<Reader = StdinLock<'static>> + Print + Net + Clock, N: Named> Operator<
@@ -62,7 +62,7 @@ impl<'a, R: Wait + Input<Reader = StdinLock<'static>> + Print + Net + Clock, N: 
         service: ServiceHandle<'a>,
         in_force: SetupManager<'a, R>,
     ) -> Operator<'a, R, N>
-        ensures seat { result ≡ gate.entry }
+        ensures seat { result ≡ gate.entry.seat }
     {
         let StandardIo { input, output } = lines;
         Operator {
@@ -77,7 +77,7 @@ impl<'a, R: Wait + Input<Reader = StdinLock<'static>> + Print + Net + Clock, N: 
     /// Its gate.
     pub fn into_gate(self) -> WorkerGate<'a, R, N, RecordedAtOnce>
         // With its own seat.
-        ensures seat { result ≡ self.entry }
+        ensures seat { result.seat ≡ self.entry }
     {
         let Operator { gate, .. } = self;
         gate.into_inner()

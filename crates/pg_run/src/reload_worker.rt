@@ -39,7 +39,7 @@ impl<'a, R: Wait + Net + Clock, N: Named> Model for ReloadWorker<'a, R, N> {
     ghost Value = { Known Event Reply };
 
     // It is seen as the seat of its gate.
-    ghost view = { λ w. w.gate.gate };
+    ghost view = { λ w. w.gate.gate.seat };
 }
 
 impl<'a, R: Wait + Net + Clock, N: Named> ReloadWorker<'a, R, N> {
@@ -53,7 +53,7 @@ impl<'a, R: Wait + Net + Clock, N: Named> ReloadWorker<'a, R, N> {
         service: ServiceHandle<'a>,
         in_force: SetupManager<'a, R>,
     ) -> ReloadWorker<'a, R, N>
-        ensures seat { result ≡ gate.entry }
+        ensures seat { result ≡ gate.entry.seat }
     {
         ReloadWorker {
             rt,
@@ -68,7 +68,7 @@ impl<'a, R: Wait + Net + Clock, N: Named> ReloadWorker<'a, R, N> {
     /// Its gate.
     pub fn into_gate(self) -> WorkerGate<'a, R, N, RecordedAtOnce>
         // With its own seat.
-        ensures seat { result ≡ self.entry }
+        ensures seat { result.seat ≡ self.entry }
     {
         let ReloadWorker { gate, .. } = self;
         gate.into_inner()

@@ -175,9 +175,17 @@ fn end_log<R: Wait + Clock + Eprint + Net>(
     now: Instant,
 ) {
     write_last(rt, alloc, context, journal);
-    if let Ok(mut log) = logger_of(rt, alloc, journal, context.start.has_priority, now) {
-        log.write_rest();
-        log.write(Level::Info, None, &"the gateway has ended");
+    match logger_of(rt, alloc, journal, context.start.has_priority, now) {
+        Ok(mut log) => {
+            log.write_rest();
+            log.write(Level::Info, None, &"the gateway has ended");
+        }
+        Err(_) => {
+            // Where this can't be written either, nothing is left to write to.
+            let _ = eprintln!(rt;
+                "the gateway has ended; there is no memory for the last lines of the log"
+            );
+        }
     }
 }
 

@@ -5,6 +5,7 @@
 
 mod counted_announcements;
 mod measures;
+mod own_sources;
 mod pace;
 mod quality_gate;
 mod source;

@@ -30,7 +30,7 @@ impl<'a, R: Wait + Clock, N: Named, T: CallRecords> Model for Ticker<'a, R, N, T
     ghost Value = { Known Event Reply };
 
     // It is seen as the seat of its gate.
-    ghost view = { λ w. w.gate.gate };
+    ghost view = { λ w. w.gate.gate.seat };
 }
 
 impl<'a, R: Wait + Clock, N: Named, T: CallRecords> Ticker<'a, R, N, T> {
@@ -41,7 +41,7 @@ impl<'a, R: Wait + Clock, N: Named, T: CallRecords> Ticker<'a, R, N, T> {
         wait: Duration,
         handles: WorkerHandles<'a>,
     ) -> Ticker<'a, R, N, T>
-        ensures seat { result ≡ gate.entry }
+        ensures seat { result ≡ gate.entry.seat }
     {
         Ticker {
             rt,
@@ -54,7 +54,7 @@ impl<'a, R: Wait + Clock, N: Named, T: CallRecords> Ticker<'a, R, N, T> {
     /// Its gate.
     pub fn into_gate(self) -> WorkerGate<'a, R, N, T>
         // With its own seat.
-        ensures seat { result ≡ self.entry }
+        ensures seat { result.seat ≡ self.entry }
     {
         let Ticker { gate, .. } = self;
         gate.into_inner()

@@ -139,27 +139,36 @@ fn print_completeness<W: Write>(out: &mut W, sources: &[SourceState]) -> io::Res
 
 /// Writes the histograms of delays. They have no sum: a delay may be negative.
 fn print_delays<W: Write>(out: &mut W, sources: &[SourceState]) -> io::Result<()> {
-    let name = "pdcgw_source_delay_seconds";
     let help = "This machine's clock minus the timestamp of a data frame, when it is read.";
-    print_head(out, name, "histogram", help)?;
+    print_head(out, DELAYS, "histogram", help)?;
     for source in sources {
-        let Some(quality) = &source.quality else {
-            continue;
-        };
-        let number = source.source.get();
-        for (bound, count) in BOUNDS.iter().zip(quality.below.iter()) {
-            write!(out, "{name}_bucket{{source=\"{number}\",le=\"")?;
-            print_thousandths(out, *bound)?;
-            writeln!(out, "\"}} {count}")?;
+        if let Some(quality) = &source.quality {
+            print_source_delays(out, source.source.get(), quality)?;
         }
-        let frames = quality.frames;
-        writeln!(
-            out,
-            "{name}_bucket{{source=\"{number}\",le=\"+Inf\"}} {frames}"
-        )?;
-        writeln!(out, "{name}_count{{source=\"{number}\"}} {frames}")?;
     }
     Ok(())
+}
+
+/// The name of the histograms of delays.
+const DELAYS: &str = "pdcgw_source_delay_seconds";
+
+/// Writes the histogram of a source.
+fn print_source_delays<W: Write>(
+    out: &mut W,
+    source: u16,
+    quality: &FrameSummary,
+) -> io::Result<()> {
+    let name = DELAYS;
+    for (bound, count) in BOUNDS.iter().zip(quality.below.iter()) {
+        write!(out, "{name}_bucket{{source=\"{source}\",le=\"")?;
+        print_thousandths(out, *bound)?;
+        writeln!(out, "\"}} {count}")?;
+    }
+    let frames = quality.frames;
+    writeln!(
+        out,
+        "{name}_bucket{{source=\"{source}\",le=\"+Inf\"}} {frames}\n{name}_count{{source=\"{source}\"}} {frames}"
+    )
 }
 
 /// Writes which registered PMUs are announced.

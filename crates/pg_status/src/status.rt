@@ -45,19 +45,25 @@ fn print_source<W: Write>(out: &mut W, source: &SourceState) -> io::Result<()> {
         Some(address) => write!(out, " {}", address.as_str())?,
         None => write!(out, " -")?,
     }
-    match source.call {
-        Call::Up => write!(out, " up")?,
-        Call::Connected => write!(out, " connected")?,
-        Call::Calling => write!(out, " calling")?,
-        Call::Pause(seconds) => write!(out, " pause {seconds}")?,
-        Call::Rests => write!(out, " pause -")?,
-    }
+    print_call(out, source.call)?;
     write!(out, " frames {} events {}", source.frames, source.events)?;
     print_ignored(out, source.ignored.as_slice())?;
     match source.last {
         Some(seconds) => writeln!(out, " last {seconds}"),
         None => writeln!(out, " last -"),
     }
+}
+
+/// Writes how the connection to a source stands.
+fn print_call<W: Write>(out: &mut W, call: Call) -> io::Result<()> {
+    let word = match call {
+        Call::Up => " up",
+        Call::Connected => " connected",
+        Call::Calling => " calling",
+        Call::Pause(seconds) => return write!(out, " pause {seconds}"),
+        Call::Rests => " pause -",
+    };
+    write!(out, "{word}")
 }
 
 /// Writes what was ignored.
@@ -87,12 +93,16 @@ fn print_subscriber<W: Write>(out: &mut W, subscriber: &SubscriberState) -> io::
         Presence::Connected(address) => write!(out, " connected {}", address.as_str())?,
         Presence::Waiting(seconds) => write!(out, " waiting {seconds}")?,
     }
-    write!(out, " made {}", subscriber.made)?;
-    write!(out, " dropped {}", subscriber.dropped)?;
-    write!(out, " lost {}", subscriber.lost)?;
-    write!(out, " late {}", subscriber.late)?;
-    write!(out, " twice {}", subscriber.twice)?;
-    write!(out, " handed {}", subscriber.handed)?;
+    for (word, count) in [
+        ("made", subscriber.made),
+        ("dropped", subscriber.dropped),
+        ("lost", subscriber.lost),
+        ("late", subscriber.late),
+        ("twice", subscriber.twice),
+        ("handed", subscriber.handed),
+    ] {
+        write!(out, " {word} {count}")?;
+    }
     let queue = subscriber.queue;
     writeln!(out, " queue {} {}", queue.frames, queue.bytes)
 }

@@ -20,12 +20,15 @@ pub(crate) fn print_stream<W: Write>(out: &mut W, stream: &StreamState) -> io::R
         stream.effective,
         stream.members.len()
     )?;
-    write!(
-        out,
-        " complete {} waited {}",
-        stream.complete, stream.waited
-    )?;
-    writeln!(out, " pushed {} changed {}", stream.pushed, stream.changed)?;
+    for (word, count) in [
+        ("complete", stream.complete),
+        ("waited", stream.waited),
+        ("pushed", stream.pushed),
+        ("changed", stream.changed),
+    ] {
+        write!(out, " {word} {count}")?;
+    }
+    writeln!(out)?;
     for member in &stream.members {
         print_member(out, member)?;
     }

@@ -7,6 +7,7 @@ mod commands;
 mod connection;
 mod endpoint;
 mod latency;
+mod own_ports;
 mod port;
 mod port_worker;
 mod standings;

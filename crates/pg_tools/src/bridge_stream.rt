@@ -86,35 +86,62 @@ pub fn bridge<R>(rt: &R, options: &BridgeOptions<'_>) -> Result<(), Fault>
 where
     R: Net + Clock + Print + Eprint + Alloc<A = Global>,
 {
-    let alloc = rt.alloc();
-    let start = Instant::now(rt)?;
-    let at = Instants {
-        millis: 0,
-        time: UnixTime::now(rt)?,
-    };
-    let mut worker = Worker {
-        alloc,
-        start,
-        poll: Poll::new(rt)?,
-        events: Events::with_capacity(alloc, 4)?,
-        output: OutputPoll::new(rt, alloc, STANDARD_OUTPUT)?,
-        error: OutputPoll::new(rt, alloc, STANDARD_ERROR)?,
-        link: Link {
-            target: options.address,
+    let mut worker = Worker::new(rt, rt.alloc(), options)?;
+    for _ in 0..u64::MAX {
+        worker.turn(rt)?;
+    }
+    Ok(())
+}
+
+impl<'a> Worker<'a> {
+    /// A worker of this bridge, which has no connection yet.
+    fn new<R: Net + Clock>(
+        rt: &R,
+        alloc: Global,
+        options: &BridgeOptions<'a>,
+    ) -> Result<Worker<'a>, Fault> {
+        let start = Instant::now(rt)?;
+        let at = Instants {
+            millis: 0,
+            time: UnixTime::now(rt)?,
+        };
+        let poll = Poll::new(rt)?;
+        let events = Events::with_capacity(alloc, 4)?;
+        let (output, error) = standard_polls(rt, alloc)?;
+        Ok(Worker {
+            alloc,
+            start,
+            poll,
+            events,
+            output,
+            error,
+            link: Link::new(options.address),
+            converter: Converter::new(alloc, options, at),
+            has_more: false,
+            is_full: false,
+        })
+    }
+}
+
+/// What waits for standard output, and for standard error.
+fn standard_polls<R: Net>(rt: &R, alloc: Global) -> io::Result<(OutputPoll, OutputPoll)> {
+    let output = OutputPoll::new(rt, alloc, STANDARD_OUTPUT)?;
+    let error = OutputPoll::new(rt, alloc, STANDARD_ERROR)?;
+    Ok((output, error))
+}
+
+impl<'a> Link<'a> {
+    /// A link to this address, which is to be connected at once.
+    fn new(target: Target<'a>) -> Link<'a> {
+        Link {
+            target,
             stream: None,
             phase: Phase::Waits,
             due: 0,
             pause: Pause::none(),
             tries: 0,
-        },
-        converter: Converter::new(alloc, options, at),
-        has_more: false,
-        is_full: false,
-    };
-    for _ in 0..u64::MAX {
-        worker.turn(rt)?;
+        }
     }
-    Ok(())
 }
 
 impl Worker<'_> {

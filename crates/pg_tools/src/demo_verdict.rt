@@ -33,7 +33,7 @@ impl DemoVerdict {
 impl fmt::Display for DemoVerdict {
     fn fmt<W: fmt::Write>(&self, f: &mut fmt::Formatter<W>) -> fmt::Result {
         match self {
-            DemoVerdict::Ended => write!(f, "ended"),
+            DemoVerdict::Ended => f.write_str("ended"),
             DemoVerdict::Whole(first, second) => write!(
                 f,
                 "every frame came, byte for byte as the sources sent it: {first} of the first stream, {second} of the second"
@@ -47,10 +47,9 @@ impl fmt::Display for DemoVerdict {
                 f,
                 "stream {stream}: a check, an order or an end is wrong"
             ),
-            DemoVerdict::OutOfStep => write!(f, "the sources have sent frames of unlike slots"),
-            DemoVerdict::NotBegun => write!(
-                f,
-                "no frame could be compared: the sources were not called, or the streams not started"
+            DemoVerdict::OutOfStep => f.write_str("the sources have sent frames of unlike slots"),
+            DemoVerdict::NotBegun => f.write_str(
+                "no frame could be compared: the sources were not called, or the streams not started",
             ),
         }
     }

@@ -7,7 +7,7 @@ use crate::unix_time::{TIME_BASE, UnixTime};
 use crate::watcher::Watcher;
 use jiff_core::Timestamp;
 use jiff_fmt::temporal::DateTimePrinter;
-use pg_config::SourceConfig;
+use pg_config::{PmuConfig, SourceConfig};
 use pg_data::DataFrame;
 use std::alloc::AllocError;
 use std::fmt;
@@ -93,23 +93,30 @@ pub const NO_PMU: &str = "no PMU yet";
 pub fn write_heading(out: &mut String, config: &SourceConfig) -> Result<(), AllocError> {
     out.push_str("time,quality")?;
     for part in config.parts.iter() {
-        let reading = Reading::new(part, &[]);
-        let station = Cell(reading.station());
-        write!(out, ",{station} STAT")?;
-        for k in 0..usize::from(part.phasors) {
-            let name = Cell(reading.channel(k));
-            write!(out, ",{station} {name} magnitude,{station} {name} degrees")?;
-        }
-        write!(out, ",{station} Hz,{station} Hz/s")?;
-        for k in 0..usize::from(part.analogs) {
-            let name = Cell(reading.channel(usize::from(part.phasors).saturating_add(k)));
-            write!(out, ",{station} {name}")?;
-        }
-        for k in 0..part.digitals {
-            write!(out, ",{station} digital {k}")?;
-        }
+        write_headings_of(out, part)?;
     }
     out.push('\n')
+}
+
+/// The headings of one PMU.
+fn write_headings_of(out: &mut String, part: &PmuConfig) -> Result<(), AllocError> {
+    let reading = Reading::new(part, &[]);
+    let station = Cell(reading.station());
+    let phasors = usize::from(part.phasors);
+    write!(out, ",{station} STAT")?;
+    for k in 0..phasors {
+        let name = Cell(reading.channel(k));
+        write!(out, ",{station} {name} magnitude,{station} {name} degrees")?;
+    }
+    write!(out, ",{station} Hz,{station} Hz/s")?;
+    for k in 0..usize::from(part.analogs) {
+        let name = Cell(reading.channel(phasors.saturating_add(k)));
+        write!(out, ",{station} {name}")?;
+    }
+    for k in 0..part.digitals {
+        write!(out, ",{station} digital {k}")?;
+    }
+    Ok(())
 }
 
 /// The line of a frame: magnitudes in volts or amperes, angles in degrees. A value that is absent is left out.
@@ -208,16 +215,20 @@ pub fn write_second(
     )?;
     for (i, part) in frame.config.parts.iter().enumerate() {
         if i < frame.count() {
-            let reading = Reading::new(part, frame.block(i));
-            let station = reading.station();
-            match reading.millihertz() {
-                Some(millihertz) => {
-                    let hertz = f64::from(millihertz) / 1_000.0;
-                    write!(out, "; {station} {hertz:.3} Hz")?;
-                }
-                None => write!(out, "; {station} absent")?,
-            }
+            write_frequency(out, &Reading::new(part, frame.block(i)))?;
         }
     }
     out.push('\n')
+}
+
+/// The frequency of one PMU.
+fn write_frequency(out: &mut String, reading: &Reading<'_>) -> Result<(), AllocError> {
+    let station = reading.station();
+    match reading.millihertz() {
+        Some(millihertz) => {
+            let hertz = f64::from(millihertz) / 1_000.0;
+            write!(out, "; {station} {hertz:.3} Hz")
+        }
+        None => write!(out, "; {station} absent"),
+    }
 }

@@ -63,7 +63,7 @@ impl fmt::Display for Cell {
     fn fmt<W: fmt::Write>(&self, f: &mut fmt::Formatter<W>) -> fmt::Result {
         for byte in self.0.bytes.iter().take(self.0.len()) {
             match shown(*byte) {
-                ',' | '"' => write!(f, "_")?,
+                ',' | '"' => f.write_str("_")?,
                 letter => write!(f, "{letter}")?,
             }
         }
@@ -347,12 +347,12 @@ impl fmt::Display for Quality {
     fn fmt<W: fmt::Write>(&self, f: &mut fmt::Formatter<W>) -> fmt::Result {
         let code = self.0 % 16;
         match code {
-            0 => write!(f, "locked")?,
-            15 => write!(f, "unreliable")?,
+            0 => f.write_str("locked")?,
+            15 => f.write_str("unreliable")?,
             _ => write!(f, "unlocked, code {code}")?,
         }
         if self.0 / 16 % 2 == 1 {
-            write!(f, ", leap second ahead")?;
+            f.write_str(", leap second ahead")?;
         }
         Ok(())
     }

@@ -212,44 +212,47 @@ fn over(
 
 /// The head: address, stream, time and counts.
 fn draw_head(page: &mut Page, view: &View<'_>) -> Result<(), AllocError> {
-    let address = view.address;
-    let stream = view.stream;
-    write!(page.line, "{address}  stream {stream}  ")?;
-    if view.has_no_pmu {
-        page.line.push_str(NO_PMU)?;
-    } else if let Some(frame) = view.frame {
-        let time = FrameTime::of(frame);
-        let quality = Quality(frame.quality);
-        write!(page.line, "{time}  {quality}")?;
-        if let Some(delay) = view.delay {
-            write!(page.line, "  {delay} ms behind")?;
-        }
-    }
-    page.end_line()?;
-    let measured = view.measured;
-    write!(page.line, "rate ")?;
-    match view.config.and_then(|config| config.parts.first()) {
-        Some(part) => {
-            let rate = part.rate;
-            write!(page.line, "{rate} configured, ")?;
-        }
-        None => write!(page.line, "unknown, ")?,
-    }
-    let frames = view.tally.frames;
-    let missing = view.tally.missing;
-    let fillers = view.tally.fillers;
-    let troubles = view.tally.troubles;
-    write!(
-        page.line,
-        "{measured} measured  frames {frames}  missing {missing}  fillers {fillers}  troubles {troubles}"
-    )?;
-    page.end_line()?;
+    draw_time(page, view)?;
+    draw_counts(page, view)?;
     for byte in view.header.iter().take(COLUMNS) {
         page.line.push(shown(*byte))?;
     }
     page.end_line()?;
     if let Some(trouble) = view.trouble {
         write!(page.line, "last trouble: {trouble}")?;
+    }
+    page.end_line()
+}
+
+/// The line of the address, the stream, and the time of the last frame.
+fn draw_time(page: &mut Page, view: &View<'_>) -> Result<(), AllocError> {
+    write!(page.line, "{}  stream {}  ", view.address, view.stream)?;
+    if view.has_no_pmu {
+        page.line.push_str(NO_PMU)?;
+    } else if let Some(frame) = view.frame {
+        let (time, quality) = (FrameTime::of(frame), Quality(frame.quality));
+        write!(page.line, "{time}  {quality}")?;
+        if let Some(delay) = view.delay {
+            write!(page.line, "  {delay} ms behind")?;
+        }
+    }
+    page.end_line()
+}
+
+/// The line of the rates and the counts.
+fn draw_counts(page: &mut Page, view: &View<'_>) -> Result<(), AllocError> {
+    match view.config.and_then(|config| config.parts.first()) {
+        Some(part) => write!(page.line, "rate {} configured, ", part.rate)?,
+        None => page.line.push_str("rate unknown, ")?,
+    }
+    write!(page.line, "{} measured", view.measured)?;
+    for (word, count) in [
+        ("frames", view.tally.frames),
+        ("missing", view.tally.missing),
+        ("fillers", view.tally.fillers),
+        ("troubles", view.tally.troubles),
+    ] {
+        write!(page.line, "  {word} {count}")?;
     }
     page.end_line()
 }
@@ -323,20 +326,24 @@ fn draw_pmu(
 fn draw_history(page: &mut Page, history: &History, rows: u8) -> Result<(), AllocError> {
     let (least, most) = history.range();
     for down in 0..rows {
+        let row = rows - 1 - down;
         if down == 0 {
-            let top = f64::from(most) / 1_000.0;
-            write!(page.line, "  {top:.3} ")?;
-        } else if down + 1 == rows {
-            let bottom = f64::from(least) / 1_000.0;
-            write!(page.line, "  {bottom:.3} ")?;
+            write_hertz(&mut page.line, most)?;
+        } else if row == 0 {
+            write_hertz(&mut page.line, least)?;
         } else {
-            write!(page.line, "         ")?;
+            page.line.push_str("         ")?;
         }
-        let row = i64::from(rows - 1 - down);
-        history.write_row(&mut page.line, row, i64::from(rows))?;
+        history.write_row(&mut page.line, i64::from(row), i64::from(rows))?;
         page.end_line()?;
     }
     Ok(())
+}
+
+/// A frequency in mHz, left of a plot.
+fn write_hertz(line: &mut String, millihertz: i32) -> Result<(), AllocError> {
+    let hertz = f64::from(millihertz) / 1_000.0;
+    write!(line, "  {hertz:.3} ")
 }
 
 /// The phasors, two in a line.
@@ -394,7 +401,7 @@ impl fmt::Display for Padded {
         let name = self.0;
         write!(f, "{name}")?;
         for _ in name.len()..16 {
-            write!(f, " ")?;
+            f.write_str(" ")?;
         }
         Ok(())
     }

@@ -95,7 +95,7 @@ impl fmt::Display for EventText {
                 let name = refusal.name();
                 write!(f, "a frame is ignored: {name}")
             }
-            CommandEvent::More => write!(f, "nothing"),
+            CommandEvent::More => f.write_str("nothing"),
             CommandEvent::Broken(refusal) => {
                 let name = refusal.name();
                 write!(f, "the bytes are no frames: {name}")

@@ -235,36 +235,10 @@ pub fn watch_with<R, W: Write, A: Observer>(
 where
     R: Net + Clock + Print + Eprint,
 {
-    let mut poll = Poll::new(rt)?;
-    let mut events = Events::with_capacity(alloc, 4)?;
-    let stream = connect_target(rt, alloc, options.address, &mut poll, &mut events)?;
+    let mut connection = Connection::open(rt, alloc, options.address)?;
     let mut state = WatchState::new(alloc, options.stream)?;
-    let start = UnixTime::now(rt)?;
-    let mut second = start;
-    // Whether the observer would go on.
-    let mut goes_on = true;
-    for _ in 0..u64::MAX {
-        send_commands(rt, &stream, &mut state)?;
-        poll.poll(&mut events, Some(Duration::from_millis(TURN)))?;
-        read_all(rt, &stream, &mut state, options, raw, observer)?;
-        let at = UnixTime::now(rt)?;
-        if at.micros.saturating_sub(second.micros) >= SECOND {
-            second = UnixTime {
-                micros: second.micros.saturating_add(SECOND),
-            };
-            state.end_second(rt, options, at.micros.saturating_sub(start.micros))?;
-        }
-        goes_on = observer.turn(&state.watcher);
-        let micros = at.micros.saturating_sub(start.micros);
-        let is_last = state.is_over || !goes_on || has_all(&state, options, micros);
-        if options.style == Style::Screen {
-            state.draw(rt, options, observer, at, is_last)?;
-        }
-        if is_last {
-            break;
-        }
-    }
-    stop_stream(rt, &stream, &state, &mut poll, &mut events)?;
+    let goes_on = watch_turns(rt, &mut connection, &mut state, options, raw, observer)?;
+    connection.stop_stream(rt, &state)?;
     if goes_on {
         // That no data frame came, where that is so.
         if let Some(trouble) = state.watcher.close() {
@@ -275,12 +249,103 @@ where
     Ok(state.watcher.tally().troubles == 0)
 }
 
+/// Watches until the stream ends, all has come that was asked for, or the observer ends it. It answers whether the observer would go on.
+fn watch_turns<R, W: Write, A: Observer>(
+    rt: &R,
+    connection: &mut Connection,
+    state: &mut WatchState,
+    options: &WatchOptions<'_>,
+    raw: &mut Option<W>,
+    observer: &mut A,
+) -> Result<bool, Fault>
+where
+    R: Net + Clock + Print + Eprint,
+{
+    let start = UnixTime::now(rt)?;
+    let mut second = start.micros;
+    for _ in 0..u64::MAX {
+        send_commands(rt, &connection.stream, state)?;
+        connection.wait()?;
+        read_all(rt, &connection.stream, state, options, raw, observer)?;
+        let at = UnixTime::now(rt)?;
+        let micros = at.micros.saturating_sub(start.micros);
+        if at.micros.saturating_sub(second) >= SECOND {
+            second = second.saturating_add(SECOND);
+            state.end_second(rt, options, micros)?;
+        }
+        let goes_on = observer.turn(&state.watcher);
+        let is_last = state.is_over || !goes_on || has_all(state, options, micros);
+        if options.style == Style::Screen {
+            state.draw(rt, options, observer, at, is_last)?;
+        }
+        if is_last {
+            return Ok(goes_on);
+        }
+    }
+    Ok(true)
+}
+
 /// Whether as much has come as was asked for.
 fn has_all(state: &WatchState, options: &WatchOptions<'_>, micros: u64) -> bool {
     let frames = state.watcher.tally().frames;
     let by_frames = matches!(options.frames, Some(most) if frames >= u64::from(most));
     let by_time = matches!(options.seconds, Some(most) if micros / SECOND >= u64::from(most));
     by_frames || by_time
+}
+
+/// The connection of `watch`, and what waits for it.
+#[derive(Drop)]
+struct Connection {
+    poll: Poll,
+    events: Events<Global>,
+    stream: TcpStream,
+}
+
+impl Connection {
+    /// Connects.
+    fn open<R: Net>(rt: &R, alloc: Global, target: Target<'_>) -> Result<Connection, Fault> {
+        let mut poll = Poll::new(rt)?;
+        let mut events = Events::with_capacity(alloc, 4)?;
+        let stream = connect_target(rt, alloc, target, &mut poll, &mut events)?;
+        Ok(Connection {
+            poll,
+            events,
+            stream,
+        })
+    }
+
+    /// Waits a turn at most, until something can be read.
+    fn wait(&mut self) -> Result<(), Fault> {
+        let turn = Some(Duration::from_millis(TURN));
+        self.poll.poll(&mut self.events, turn)?;
+        Ok(())
+    }
+
+    /// Stops the stream, and waits a little until the peer has closed, so that it reads the command.
+    fn stop_stream<R: Clock>(&mut self, rt: &R, state: &WatchState) -> Result<(), Fault> {
+        let _ = (&self.stream).write(&state.watcher.stop(UnixTime::now(rt)?.soc()));
+        let _ = self.stream.shutdown(Shutdown::Write);
+        for _ in 0..ENDING {
+            self.wait()?;
+            if self.is_closed() {
+                return Ok(());
+            }
+        }
+        Ok(())
+    }
+
+    /// Whether the peer has closed, once what came before is read.
+    fn is_closed(&self) -> bool {
+        let mut piece = [0; PIECE];
+        for _ in 0..READS {
+            match (&self.stream).read(&mut piece) {
+                Ok(0) => return true,
+                Ok(_) => {}
+                Err(error) => return error.kind() != ErrorKind::WouldBlock,
+            }
+        }
+        false
+    }
 }
 
 /// Connects. Of the addresses of a name it is the first one that can be had.
@@ -396,31 +461,6 @@ fn read_all<R: Clock + Print + Eprint, W: Write, A: Observer>(
         }
         if state.is_over || has_all(state, options, 0) {
             return Ok(());
-        }
-    }
-    Ok(())
-}
-
-/// Stops the stream, and waits a little until the peer has closed, so that it reads the command.
-fn stop_stream<R: Clock>(
-    rt: &R,
-    stream: &TcpStream,
-    state: &WatchState,
-    poll: &mut Poll,
-    events: &mut Events<Global>,
-) -> Result<(), Fault> {
-    let _ = (&*stream).write(&state.watcher.stop(UnixTime::now(rt)?.soc()));
-    let _ = stream.shutdown(Shutdown::Write);
-    let mut piece = [0; PIECE];
-    for _ in 0..ENDING {
-        poll.poll(events, Some(Duration::from_millis(TURN)))?;
-        for _ in 0..READS {
-            match (&*stream).read(&mut piece) {
-                Ok(0) => return Ok(()),
-                Ok(_) => {}
-                Err(error) if error.kind() == ErrorKind::WouldBlock => break,
-                Err(_) => return Ok(()),
-            }
         }
     }
     Ok(())
