@@ -104,7 +104,7 @@ fn ticks_at_a_gate(rt: HostRuntime) {
     ticks_by::<_, Brand>(&rt, alloc, &gateway, seat);
 }
 
-/// Posts at two gates in turn. Each gate tells the place of its own last post among all.
+/// Posts at two gates in turn. Each gate reports the places of its own posts among all.
 fn places_by<R: Abort + Wait, N: Named>(rt: &R, gateway: &Shared, seat: Seat)
     requires shared { gateway.now ≡ N.table }
     requires seat { seat.table ≡ N.table }
@@ -112,12 +112,10 @@ fn places_by<R: Abort + Wait, N: Named>(rt: &R, gateway: &Shared, seat: Seat)
     let (first, second) = gateway.split(seat);
     let mut first = SharedGate::<R, N>::new(rt, gateway, first);
     let mut second = SharedGate::<R, N>::new(rt, gateway, second);
-    assert!(rt; first.last_place().is_none());
-    let _ = first.post(Event::Tick(1));
-    assert!(rt; first.last_place() == Some(0) && second.last_place().is_none());
-    let _ = second.post(Event::Tick(2));
-    let _ = first.post(Event::Tick(3));
-    assert!(rt; first.last_place() == Some(2) && second.last_place() == Some(1));
+    let (_, at_first) = first.post_placed(Event::Tick(1));
+    let (_, at_second) = second.post_placed(Event::Tick(2));
+    let (_, at_third) = first.post_placed(Event::Tick(3));
+    assert!(rt; at_first == 0 && at_second == 1 && at_third == 2);
 }
 
 #[test]

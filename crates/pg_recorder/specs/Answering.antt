@@ -38,10 +38,10 @@ with_reply t place (reply.Waiting _) = ended t.tape place t.at 0 0 0
 abbrev pub IsOrEmptied : Taped → Taped → Type 0
 IsOrEmptied t u = (u ≡ t) ⊎ ((u.calls ≡ []) × (u.bodies ≡ []) × (u.begun ≡ None) × (u.missed ≡ t.missed))
 
--- A call with this place was answered so: where the thread records, and the call has a place, that is recorded.
-abbrev pub Records : Option Taping → Option ℕ → Reply → Option Taping → Type 0
-Records (Some t) (Some place) answer w = IsSomeAnd w (λ u. IsOrEmptied (with_reply t place answer) u.tape × (u.at ≡ t.at) × (u.ignored ≡ t.ignored))
-Records t _ answer w = w ≡ t
+-- A call with this place was answered so: where the thread records, that is recorded.
+abbrev pub Records : Option Taping → ℕ → Reply → Option Taping → Type 0
+Records (Some t) place answer w = IsSomeAnd w (λ u. IsOrEmptied (with_reply t place answer) u.tape × (u.at ≡ t.at) × (u.ignored ≡ t.ignored))
+Records None _ _ w = w ≡ None
 
 -- What was recorded stays, or is handed over.
 abbrev pub HandsOver : Option Taping → Option Taping → Type 0

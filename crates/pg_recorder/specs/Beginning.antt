@@ -17,17 +17,17 @@ use Rattle.pg_recorder.specs.Answering.{Taping}
 
 -- ---- the fronts of bodies
 
--- two numbers as one of so many bits: the second in its lowest bits, so many of them
-abbrev pub beside : ℕ → ℕ → ℕ → ℕ → ℕ
-beside width low one other = bit_or ((one * 2 ^ low) % 2 ^ width) other
+-- a word of so many bits that holds two numbers: `first` above the lowest `low` bits, and `second` in these
+abbrev pub word_of : (bits low first second : ℕ) → ℕ
+word_of bits low first second = bit_or ((first * 2 ^ low) % 2 ^ bits) second
 
 -- SOC, and FRACSEC: the time quality and the lowest 24 bits of the numerator (C37.118.2, 6.2.2)
 abbrev pub time_front : ℕ → ℕ → ℕ → Front
-time_front soc quality frac = Eight (beside 64 32 soc (beside 32 24 quality (bit_and frac 0x00FFFFFF)))
+time_front soc quality frac = Eight (word_of 64 32 soc (word_of 32 24 quality (bit_and frac 0x00FFFFFF)))
 
 -- of frames of a source that were ignored: the source, the number of the reason, and how many they are
 abbrev pub ignored_of : ℕ → Refusal → ℕ → ℕ
-ignored_of source reason count = beside 64 32 (beside 64 16 source (number_of reason)) (min count (2 ^ 32 - 1))
+ignored_of source reason count = word_of 64 32 (word_of 64 16 source (number_of reason)) (min count (2 ^ 32 - 1))
 
 abbrev pub question_front : Option ℕ → Front
 question_front (Some ignored) = Eight ignored
@@ -68,7 +68,7 @@ abbrev pub BegunOf : Option ℕ → Taped → Event → Taped → Type 0
 BegunOf _ t (event.Measure frame) u = BegunData t (arc_value frame) u
 BegunOf _ t (event.Announce config) u = BegunFrame t (arc_value config) u ⊎ BegunUnspelled t u
 BegunOf _ t (event.Drain sub buffer) u = Begun t kind.Drain sub (Four (min (length buffer.items) (2 ^ 32 - 1))) [] u
-BegunOf _ t (event.Command sub asked) u = Begun t kind.Command sub (Four (beside 32 16 asked.stream asked.word)) [] u
+BegunOf _ t (event.Command sub asked) u = Begun t kind.Command sub (Four (word_of 32 16 asked.stream asked.word)) [] u
 BegunOf _ t (event.Connect sub) u = Begun t kind.Connect sub Nothing [] u
 BegunOf _ t (event.Hangup sub) u = Begun t kind.Hangup sub Nothing [] u
 BegunOf _ t (event.Tick soc) u = Begun t kind.Tick 0 (Four soc) [] u

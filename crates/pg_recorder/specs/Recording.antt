@@ -1,5 +1,5 @@
 -- What a gate records of what it posts.
-use Rattle.std.specs.Prelude.{◌≡◌, ◌⊎◌, ℕ, List, Option, IfSome, true}
+use Rattle.std.specs.Prelude.{◌≡◌, ◌⊎◌, ℕ, List, Option, true}
 use Rattle.pg_turn.specs.Known.{Known}
 use Rattle.pg_wire.specs.declared.ids.PmuKey.{PmuKey}
 use Rattle.pg_wire.specs.declared.refusal.Refusal.{Refusal}
@@ -15,13 +15,12 @@ pub record Recording : Type 0 where
   pub seat : Known Event Reply
   pub taping : Option Taping
 
--- The call of this event, which was answered so, is recorded with its place in the history, the last one of the seat's own. (Where the seat
--- is not given the place nothing is recorded.)
+-- Where calls are recorded, the record of this event's call has its place in the history, the last one of the seat's own, and its answer.
 pub record IsRecorded (before : Option Taping) (asked : Event) (answer : Reply) (after : Recording) : Type 0 where
   pub begun : Option Taping
   pub begins : Begins before asked begun
-  pub place : Option ℕ
-  pub is_last : IfSome place (λ n. IsLastPlace n after.seat.own)
+  pub place : ℕ
+  pub is_last : IsLastPlace place after.seat.own
   pub records : Records begun place answer after.taping
 
 -- So many frames of a source were ignored for this reason: that is noted, and the seat asked how a PMU stands, which is recorded, and that alone.

@@ -38,7 +38,7 @@ pub trait CallRecords: Sized + Drop {
         ensures { Begins (taping self.old) event.now (taping self.new) };
 
     /// Ends the record of a call that has this place in the history and was answered so.
-    fn end<R: Wait>(&mut self, rt: &R, place: Option<u64>, reply: &Reply)
+    fn end<R: Wait>(&mut self, rt: &R, place: u64, reply: &Reply)
         ensures { Records (taping self.old) place reply.now (taping self.new) };
 
     /// The worker ends: what it recorded is handed over.
@@ -70,7 +70,7 @@ impl CallRecords for Unrecorded {
     fn begin<R: Clock>(&mut self, _: &R, _: &Event) {}
 
     #[inline(always)]
-    fn end<R: Wait>(&mut self, _: &R, _: Option<u64>, _: &Reply) {}
+    fn end<R: Wait>(&mut self, _: &R, _: u64, _: &Reply) {}
 
     fn end_all<R: Wait>(self, _: &R) {}
 }
@@ -130,8 +130,8 @@ impl CallRecords for Recorded {
     }
 
     #[inline(always)]
-    fn end<R: Wait>(&mut self, rt: &R, place: Option<u64>, reply: &Reply) {
-        if let (Some(tape), Some(place)) = (&mut self.tape, place) {
+    fn end<R: Wait>(&mut self, rt: &R, place: u64, reply: &Reply) {
+        if let Some(tape) = &mut self.tape {
             tape.end(rt, place, reply);
         }
     }
@@ -182,8 +182,8 @@ impl CallRecords for RecordedAtOnce {
         }
     }
 
-    fn end<R: Wait>(&mut self, rt: &R, place: Option<u64>, reply: &Reply) {
-        if let (Some(tape), Some(place)) = (&mut self.tape, place) {
+    fn end<R: Wait>(&mut self, rt: &R, place: u64, reply: &Reply) {
+        if let Some(tape) = &mut self.tape {
             tape.end(rt, place, reply);
             tape.hand_over(rt);
         }

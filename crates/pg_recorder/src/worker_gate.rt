@@ -120,12 +120,12 @@ impl<'a, R: Wait + Clock, N: Named, T: CallRecords> Gate for WorkerGate<'a, R, N
         ensures takes { ◌≡◌ {A = GatewayEvent → Bool} (λ _. true) (λ _. true) }
         ensures refused { true ≡ false → result ≡ Reply.Refused Refusal.FarClock }
         ensures goes_on { GoesOn self.old.seat self.new.seat }
-        // The call is recorded: what was posted, at which place of the history, and how it was answered.
+        // Where calls are recorded, so is this one: what was posted, at which place of the history, and how it was answered.
         ensures recorded { IsRecorded self.old.taping event result self.new }
     {
         self.records.begin(self.rt, &event);
-        let reply = self.gate.post(event);
-        self.records.end(self.rt, self.gate.last_place(), &reply);
+        let (reply, place) = self.gate.post_placed(event);
+        self.records.end(self.rt, place, &reply);
         reply
     }
 }

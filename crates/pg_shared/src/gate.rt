@@ -1,6 +1,6 @@
 //! The gates of workers, whose seats are of one shared gateway.
 
-ghost use Rattle.std.specs.Prelude.{◌≡◌, Bool, true, false, [], ◌∷◌, Some, IfSome};
+ghost use Rattle.std.specs.Prelude.{◌≡◌, Bool, true, false, [], ◌∷◌, Some};
 ghost use Rattle.atomic_table.specs.Seated.{TableId};
 ghost use Rattle.pg_gateway.specs.GatewayEvents.{GatewayEvent, gateway_event, told};
 ghost use Rattle.pg_gateway.specs.Posting.{Answers, Notes};
@@ -60,12 +60,20 @@ impl<'a, R: Wait, N: Named> SharedGate<'a, R, N> {
         }
     }
 
-    /// The place of its last post in the history: how many calls came before it, of all threads, and `u64::MAX` where it is no less.
-    /// `None` before its first post.
-    pub fn last_place(&self) -> Option<u64>
-        ensures place { IfSome result (λ n. IsLastPlace n self.now.own) }
+    /// Posts at its seat as `post` does, and returns the call's place in the history too: how many calls came before it, of all threads,
+    /// and `u64::MAX` where it is no less.
+    #[inline(always)]
+    pub fn post_placed(&mut self, event: Event) -> (Reply, u64)
+        ensures seat { PostedCall self.old event result.0 self.new }
+        ensures place { IsLastPlace result.1 self.new.own }
+        ensures handed { HandsByViews (history_of self.new.seen) }
+        ensures own { AnswersByView (history_of self.new.seen) }
+        ensures answers { Answers event result.0 }
+        ensures posted { Notes (Some (said_at self.old.seen self.old.own)) (Some (said_at self.new.seen self.new.own))
+            ((gateway_event event, told result.0) ∷ []) }
+        ensures goes_on { GoesOn self.old self.new }
     {
-        self.gate.last_place()
+        self.gate.post_placed(event)
     }
 
     /// Gives its seat back, which is one of the gateway that N names.

@@ -1,6 +1,6 @@
 //! A gate that posts to a shared gateway.
 
-ghost use Rattle.std.specs.Prelude.{◌≡◌, Bool, true, false, [], ◌∷◌, Some, IfSome};
+ghost use Rattle.std.specs.Prelude.{◌≡◌, Bool, true, false, [], ◌∷◌, Some};
 ghost use Rattle.pg_gateway.specs.GatewayEvents.{GatewayEvent, gateway_event, told};
 ghost use Rattle.pg_gateway.specs.Posting.{Answers, Notes};
 ghost use Rattle.pg_shared.specs.Gates.{said_at};
@@ -22,23 +22,19 @@ pub struct SeatGate<'a, R: Wait> {
     rt: &'a R,
     gateway: &'a Shared,
     seat: Option<Seat>,
-    // The place of its last post.
-    last: Option<u64>,
 }
 
 impl<'a, R: Wait> Model for SeatGate<'a, R> {
-    ghost use Rattle.std.specs.Prelude.{IfSome};
     ghost use Rattle.pg_gateway.specs.declared.event.Event.{Event};
     ghost use Rattle.pg_gateway.specs.declared.event.Reply.{Reply};
     ghost use Rattle.pg_turn.specs.Known.{Known};
     ghost use Rattle.pg_shared.specs.Gates.{seat_in, IsHeld};
-    ghost use Rattle.pg_shared.specs.Sharing.{IsLastPlace};
 
     ghost Value = { Known Event Reply };
 
     ghost view = { λ g. seat_in g.gateway.now g.seat };
 
-    ghost invariant = { λ g. IsHeld g.gateway.now g.seat × IfSome g.last (λ n. IsLastPlace n (seat_in g.gateway.now g.seat).own) };
+    ghost invariant = { λ g. IsHeld g.gateway.now g.seat };
 }
 
 impl<'a, R: Wait> SeatGate<'a, R> {
@@ -51,7 +47,6 @@ impl<'a, R: Wait> SeatGate<'a, R> {
             rt,
             gateway,
             seat: Some(seat),
-            last: None,
         }
     }
 
@@ -62,12 +57,27 @@ impl<'a, R: Wait> SeatGate<'a, R> {
         self.gateway
     }
 
-    /// The place of its last post in the history: how many calls came before it, of all threads, and `u64::MAX` where it is no less.
-    /// `None` before its first post.
-    pub fn last_place(&self) -> Option<u64>
-        ensures place { IfSome result (λ n. IsLastPlace n self.now.own) }
+    /// Posts at its seat as `post` does, and returns the call's place in the history too: how many calls came before it, of all threads,
+    /// and `u64::MAX` where it is no less.
+    #[inline(always)]
+    pub fn post_placed(&mut self, event: Event) -> (Reply, u64)
+        ensures table { self.new.table ≡ self.old.table }
+        // All that `Shared::post_placed` promises of the seat.
+        ensures seat { PostedCall self.old event result.0 self.new }
+        ensures place { IsLastPlace result.1 self.new.own }
+        ensures handed { HandsByViews (history_of self.new.seen) }
+        ensures own { AnswersByView (history_of self.new.seen) }
+        ensures answers { Answers event result.0 }
+        ensures posted { Notes (Some (said_at self.old.seen self.old.own)) (Some (said_at self.new.seen self.new.own))
+            ((gateway_event event, told result.0) ∷ []) }
+        ensures goes_on { GoesOn self.old self.new }
     {
-        self.last
+        let Some(seat) = self.seat.take() else {
+            unreachable!();
+        };
+        let (seat, reply, place) = self.gateway.post_placed(self.rt, seat, event);
+        self.seat = Some(seat);
+        (reply, place)
     }
 
     /// Gives its seat back.
@@ -107,12 +117,7 @@ impl<R: Wait> Gate for SeatGate<'_, R> {
         ensures refused { true ≡ false → result ≡ Reply.Refused Refusal.FarClock }
         ensures goes_on { GoesOn self.old self.new }
     {
-        let Some(seat) = self.seat.take() else {
-            unreachable!();
-        };
-        let (seat, reply, place) = self.gateway.post_placed(self.rt, seat, event);
-        self.seat = Some(seat);
-        self.last = Some(place);
+        let (reply, _) = self.post_placed(event);
         reply
     }
 }

@@ -9,6 +9,7 @@ use pg_tools::{
 };
 use pg_wire::PmuId;
 use std::alloc::Global;
+use std::ops::Range;
 use std::process::Abort;
 use std::test::*;
 
@@ -112,6 +113,58 @@ fn describe(rt: &impl Abort, text: &mut String, line: &str) {
     written.expect(rt, "memory");
 }
 
+/// Its connection stands at a time, and the source's configuration comes at another.
+fn connect(
+    rt: &impl Abort,
+    converter: &mut Converter<'_>,
+    config: &[u8],
+    since: u32,
+    configured: u32,
+) {
+    converter.connect(at(since)).expect(rt, "memory");
+    let ending = converter.take(config, at(configured));
+    assert!(*rt; ending.is_none());
+}
+
+/// The data frames that are due at these half seconds come, each by itself.
+fn take_frames(
+    rt: &impl Abort,
+    alloc: Global,
+    converter: &mut Converter<'_>,
+    source: &mut Source,
+    halves: Range<u8>,
+    millis: u32,
+) {
+    for half in halves {
+        let frames = due(rt, alloc, source, half);
+        assert!(*rt; !frames.is_empty());
+        let ending = converter.take(&frames, at(millis));
+        assert!(*rt; ending.is_none());
+    }
+}
+
+/// At these times nothing is due.
+fn nothing_is_due(rt: &impl Abort, converter: &mut Converter<'_>, times: &[u32]) {
+    for millis in times {
+        let ending = converter.tick(at(*millis)).expect(rt, "memory");
+        assert!(*rt; ending.is_none());
+    }
+}
+
+/// These lines are handed out.
+fn hands_out(rt: &impl Abort, alloc: Global, converter: &mut Converter<'_>, wanted: &str) {
+    let lines = handed_out(rt, alloc, converter);
+    same(rt, lines.as_str(), wanted);
+}
+
+/// A source that was asked for its data, which it sends from now on.
+fn started(rt: &impl Abort, alloc: Global) -> Source {
+    let mut source = source(rt, alloc);
+    let answer = answered(rt, alloc, &mut source, 2);
+    assert!(*rt; answer.is_empty());
+    source
+}
+
 // Frames that come one by one; then nothing for two slots; then lines that nobody takes.
 #[test]
 fn slots_of_a_bridge(rt: HostRuntime) {
@@ -119,42 +172,33 @@ fn slots_of_a_bridge(rt: HostRuntime) {
     let Ok(options) = read_bridge_options(&words_for("3")) else {
         panic!(&rt; "no options");
     };
-    let mut source = source(&rt, alloc);
-    let mut converter = Converter::new(alloc, &options, at(0));
-    converter.connect(at(0)).expect(&rt, "memory");
+    let mut source = started(&rt, alloc);
     let config = answered(&rt, alloc, &mut source, 5);
-    assert!(rt; converter.take(&config, at(0)).is_none());
-    let started = answered(&rt, alloc, &mut source, 2);
-    assert!(rt; started.is_empty());
-    for halves in 1..3u8 {
-        let frames = due(&rt, alloc, &mut source, halves);
-        assert!(rt; converter.take(&frames, at(0)).is_none());
-    }
-    let lines = handed_out(&rt, alloc, &mut converter);
-    same(&rt, lines.as_str(), "config 20.0;data 20.5;data 21.0;");
+    let mut converter = Converter::new(alloc, &options, at(0));
+    connect(&rt, &mut converter, &config, 0, 0);
+    take_frames(&rt, alloc, &mut converter, &mut source, 1..3, 0);
+    hands_out(
+        &rt,
+        alloc,
+        &mut converter,
+        "config 20.0;data 20.5;data 21.0;",
+    );
     converter.disconnect(Ending::Closed);
     let lost = due(&rt, alloc, &mut source, 4);
     assert!(rt; !lost.is_empty());
-    converter.connect(at(2_000)).expect(&rt, "memory");
-    assert!(rt; converter.take(&config, at(2_000)).is_none());
-    for halves in 5..7u8 {
-        let frames = due(&rt, alloc, &mut source, halves);
-        assert!(rt; converter.take(&frames, at(2_000)).is_none());
-    }
-    let lines = handed_out(&rt, alloc, &mut converter);
-    same(
+    connect(&rt, &mut converter, &config, 2_000, 2_000);
+    take_frames(&rt, alloc, &mut converter, &mut source, 5..7, 2_000);
+    hands_out(
         &rt,
-        lines.as_str(),
+        alloc,
+        &mut converter,
         "gap 22.5 2 reconnect;data 22.5;data 23.0;",
     );
-    for halves in 7..13u8 {
-        let frames = due(&rt, alloc, &mut source, halves);
-        assert!(rt; converter.take(&frames, at(2_000)).is_none());
-    }
-    let lines = handed_out(&rt, alloc, &mut converter);
-    same(
+    take_frames(&rt, alloc, &mut converter, &mut source, 7..13, 2_000);
+    hands_out(
         &rt,
-        lines.as_str(),
+        alloc,
+        &mut converter,
         "gap 25.0 3 output;data 25.0;data 25.5;data 26.0;",
     );
     let counts = converter.counts();
@@ -174,23 +218,18 @@ fn times_of_a_bridge(rt: HostRuntime) {
         panic!(&rt; "no options");
     };
     let mut source = source(&rt, alloc);
-    let mut converter = Converter::new(alloc, &options, at(0));
-    converter.connect(at(0)).expect(&rt, "memory");
     let config = answered(&rt, alloc, &mut source, 5);
-    assert!(rt; converter.take(&config, at(1_000)).is_none());
-    let ending = converter.tick(at(5_999)).expect(&rt, "memory");
-    assert!(rt; ending.is_none());
+    let mut converter = Converter::new(alloc, &options, at(0));
+    connect(&rt, &mut converter, &config, 0, 1_000);
+    nothing_is_due(&rt, &mut converter, &[5_999]);
     let ending = converter.tick(at(6_000)).expect(&rt, "memory");
     assert!(rt; matches!(ending, Some(Ending::Silent(5))));
     converter.disconnect(Ending::Silent(5));
-    for millis in [10_000, 19_999, 20_000, 61_000] {
-        let ending = converter.tick(at(millis)).expect(&rt, "memory");
-        assert!(rt; ending.is_none());
-    }
-    let lines = handed_out(&rt, alloc, &mut converter);
-    same(
+    nothing_is_due(&rt, &mut converter, &[10_000, 19_999, 20_000, 61_000]);
+    hands_out(
         &rt,
-        lines.as_str(),
+        alloc,
+        &mut converter,
         "config 21.0;state 40.0;config 21.0;state 21.0;",
     );
 }
@@ -202,38 +241,28 @@ fn times_set_back(rt: HostRuntime) {
     let Ok(options) = read_bridge_options(&words_for("100")) else {
         panic!(&rt; "no options");
     };
-    let mut converter = Converter::new(alloc, &options, at(0));
-    converter.connect(at(0)).expect(&rt, "memory");
-    let mut first = source(&rt, alloc);
+    let mut first = started(&rt, alloc);
     let config = answered(&rt, alloc, &mut first, 5);
-    assert!(rt; converter.take(&config, at(0)).is_none());
-    let started = answered(&rt, alloc, &mut first, 2);
+    let mut converter = Converter::new(alloc, &options, at(0));
+    connect(&rt, &mut converter, &config, 0, 0);
     // (of those that are due at once a source sends the last second)
-    let frames = due(&rt, alloc, &mut first, 4);
-    assert!(rt; started.is_empty() && converter.take(&frames, at(0)).is_none());
-    let mut second = source(&rt, alloc);
-    let started = answered(&rt, alloc, &mut second, 2);
-    let frames = due(&rt, alloc, &mut second, 1);
-    assert!(rt; started.is_empty() && converter.take(&frames, at(1_000)).is_none());
+    take_frames(&rt, alloc, &mut converter, &mut first, 4..5, 0);
+    let mut second = started(&rt, alloc);
+    take_frames(&rt, alloc, &mut converter, &mut second, 1..2, 1_000);
     let frames = due(&rt, alloc, &mut second, 2);
     let ending = converter.take(&frames, at(6_000));
     assert!(rt; matches!(ending, Some(Ending::SetBack)));
     converter.disconnect(Ending::SetBack);
-    converter.connect(at(7_000)).expect(&rt, "memory");
-    assert!(rt; converter.take(&config, at(7_000)).is_none());
-    let frames = due(&rt, alloc, &mut second, 3);
-    assert!(rt; converter.take(&frames, at(7_000)).is_none());
-    let lines = handed_out(&rt, alloc, &mut converter);
-    same(
+    connect(&rt, &mut converter, &config, 7_000, 7_000);
+    take_frames(&rt, alloc, &mut converter, &mut second, 3..4, 7_000);
+    hands_out(
         &rt,
-        lines.as_str(),
+        alloc,
+        &mut converter,
         "config 20.0;data 21.5;data 22.0;gap 21.5 0 reconnect;data 21.5;",
     );
-    same(
-        &rt,
-        (converter.counts().frames, converter.counts().ignored),
-        (3, 2),
-    );
+    let counts = converter.counts();
+    same(&rt, (counts.frames, counts.ignored), (3, 2));
 }
 
 fn entry(rt: &impl Abort, alloc: Global, content: Content, text: &str) -> Entry {
@@ -288,12 +317,19 @@ fn slots_by_rate(rt: HostRuntime) {
     same(&rt, gap.why.word(), "change");
 }
 
-/// These words are refused for this option.
-fn is_refused(rt: &impl Abort, words: &BridgeArgs<'_>, option: &str) {
-    match read_bridge_options(words) {
-        Err(wrong) => same(rt, wrong.option, option),
-        Ok(_) => assert!(*rt; false),
+/// The words of `words_for` with this value of an option.
+fn words_with<'a>(option: &str, value: &'a str) -> BridgeArgs<'a> {
+    let mut words = words_for("3");
+    match option {
+        "--format" => words.format = value,
+        "--name" => words.name = Some(value),
+        "--repeat" => words.repeat = value,
+        "--heartbeat" => words.heartbeat = value,
+        "--silence" => words.silence = value,
+        "--keep" => words.keep = value,
+        _ => words.stream = value,
     }
+    words
 }
 
 // Values of options that are none.
@@ -307,61 +343,18 @@ fn words_of_a_bridge(rt: HostRuntime) {
         (right.keep, right.repeat, right.heartbeat),
         (3, 60, 10),
     );
-    let words = words_for("3");
-    is_refused(
-        &rt,
-        &BridgeArgs {
-            format: "xml",
-            ..words
-        },
-        "--format",
-    );
-    is_refused(
-        &rt,
-        &BridgeArgs {
-            name: Some("a\tb"),
-            ..words
-        },
-        "--name",
-    );
-    is_refused(
-        &rt,
-        &BridgeArgs {
-            repeat: "0",
-            ..words
-        },
-        "--repeat",
-    );
-    is_refused(
-        &rt,
-        &BridgeArgs {
-            heartbeat: "86401",
-            ..words
-        },
-        "--heartbeat",
-    );
-    is_refused(
-        &rt,
-        &BridgeArgs {
-            silence: "",
-            ..words
-        },
-        "--silence",
-    );
-    is_refused(
-        &rt,
-        &BridgeArgs {
-            keep: "1000001",
-            ..words
-        },
-        "--keep",
-    );
-    is_refused(
-        &rt,
-        &BridgeArgs {
-            stream: "0",
-            ..words
-        },
-        "--stream",
-    );
+    for (option, value) in [
+        ("--format", "xml"),
+        ("--name", "a\tb"),
+        ("--repeat", "0"),
+        ("--heartbeat", "86401"),
+        ("--silence", ""),
+        ("--keep", "1000001"),
+        ("--stream", "0"),
+    ] {
+        match read_bridge_options(&words_with(option, value)) {
+            Err(wrong) => same(&rt, wrong.option, option),
+            Ok(_) => assert!(rt; false),
+        }
+    }
 }

@@ -1,7 +1,7 @@
 use Rattle.std.proofs.Common.{rules, ◌≡◌, subst}
 use Rattle.pg_shared.specs.Sharing.{PostedCall}
 use Rattle.pg_shared.proofs.Gating.{said_more, goes_on_posted}
-use Rattle.pg_shared.proofs.seat_gate.SeatGateGate.post.Goals as goal
+use Rattle.pg_shared.proofs.seat_gate.SeatGate.post_placed.Goals as goal
 
 pub returns-clause-posted : goal.returns-clause-posted
 returns-clause-posted g c =
