@@ -31,6 +31,9 @@ const FRACSEC_AT: usize = 10;
 /// The ticks of FRACSEC and of TIME_BASE: the other byte is the clock's quality.
 const TICKS: u32 = 0x00ff_ffff;
 
+/// The microseconds of a second, and the usual TIME_BASE: FRACSEC is microseconds then.
+const MICROS: u32 = 1_000_000;
+
 /// TIME_BASE of a stream.
 #[derive(Clone, Copy)]
 struct Base {
@@ -230,8 +233,12 @@ fn age_of(stamp: u64, base: u32, clock: u64) -> Option<u64> {
     if frac >= u64::from(base) {
         return None;
     }
-    let micros = frac.saturating_mul(1_000_000) / u64::from(base.max(1));
-    let stamp = soc.saturating_mul(1_000_000).saturating_add(micros);
+    let micros = if base == MICROS {
+        frac
+    } else {
+        frac.saturating_mul(u64::from(MICROS)) / u64::from(base.max(1))
+    };
+    let stamp = soc.saturating_mul(u64::from(MICROS)).saturating_add(micros);
     Some(clock.saturating_sub(stamp))
 }
 

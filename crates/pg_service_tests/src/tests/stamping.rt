@@ -41,6 +41,28 @@ fn an_age_is_counted_once_the_time_base_is_known(rt: HostRuntime) {
     same(&rt, stamps.frames(), 2);
 }
 
+/// FRACSEC is read by the stream's TIME_BASE, here of milliseconds: 250,000 is no fraction of it and has no age, and 250 is a quarter of a second.
+#[test]
+fn an_age_is_read_by_the_time_base(rt: HostRuntime) {
+    let mut stamps = LatencyMeter::new();
+    let mut ages = Histogram::new();
+    let mut milliseconds = config(7);
+    milliseconds[15] = 0;
+    milliseconds[16] = 0x03;
+    milliseconds[17] = 0xe8;
+    stamps.pass(&milliseconds, CLOCK, &mut ages);
+    stamps.pass(&data(7), CLOCK + 500_000, &mut ages);
+    same(&rt, ages, Histogram::new());
+    let mut quarter = data(7);
+    quarter[11] = 0;
+    quarter[12] = 0;
+    quarter[13] = 250;
+    stamps.pass(&quarter, CLOCK + 500_000, &mut ages);
+    let mut wanted = Histogram::new();
+    wanted.observe(250_000);
+    same(&rt, ages, wanted);
+}
+
 /// However the bytes are cut, each frame counts once, and no byte behind a head is taken for a head.
 #[test]
 fn frames_count_however_they_are_cut(rt: HostRuntime) {
