@@ -4,9 +4,10 @@
     python3 tests/run.py PROGRAM              all tests
     python3 tests/run.py PROGRAM NAME..       the tests of these names, such as test_allow_at_the_start
 
-PROGRAM is `pdcgw`, as `sh try.sh` or `rt ci` leaves it. As many tests run side by side as there are processors, each in a process of its own
-with its own ports, folder and a time limit of 60 seconds, or twice the seconds that it says to wait. A test that failed is run once more alone, as some wait for real seconds; the
-second result counts. The last line is 'N passed, M failed', and the status is 1 where one failed.
+PROGRAM is `pdcgw`, as `sh try.sh` or `rt ci` leaves it. Tests run side by side, two for each processor, since most of them wait: each in a
+process of its own, with its own ports and folder, and a time limit of 60 seconds, or twice the seconds that it says to wait. A test that failed is
+run once more alone, as some wait for real seconds; the second result counts. The last line is 'N passed, M failed', and the status is 1 where one
+failed.
 """
 import glob
 import importlib
@@ -149,7 +150,7 @@ def main():
         signal.signal(it, lambda number, _: sys.exit(128 + number))
     # Each test's process ends where this pipe does.
     guard, _held = os.pipe()
-    begun, lanes = time.monotonic(), len(os.sched_getaffinity(0))
+    begun, lanes = time.monotonic(), 2 * len(os.sched_getaffinity(0))
     failed = run_all(program, names, lanes, guard)
     if failed:
         print(f"{len(failed)} failed: once more, alone", flush=True)

@@ -138,9 +138,9 @@ def test_a_client_that_connects_and_closes_without_end(bench):
         if text.startswith("subscriber 20: ") and "may connect" not in text:
             kinds.setdefault(re.sub(r"\S+:\d+| \(\d+ times\)$", "", text).strip(), []).append(it)
     connected = kinds["subscriber 20: connected from"]
-    # At 0, 1, 3 and 7 seconds; one kind may begin later.
+    # At 0, 1, 3 and 7 seconds; one kind may begin later, and a refusal, which comes now and then, begins again.
     for kind, lines in kinds.items():
-        expect(len(lines) <= 4, f"{made} connections in 7.6 s made {len(lines)} lines of {kind!r}: {lines}")
+        expect(len(lines) <= (8 if "refused" in kind else 4), f"{made} connections in 7.6 s made {len(lines)} lines of {kind!r}: {lines}")
     same(len(connected), 4, "lines of connections")
     expect(gateway.logged("subscriber 20: connected from \\S+") > 50, f"the lines count too few of {made} connections: {connected}")
     gateway.quit()

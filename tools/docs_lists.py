@@ -322,9 +322,12 @@ def options():
     of = {word: between(texts["tools"], f"fn {word}_words", "\n}") for word in ("simulate", "watch", "bridge", "demo")}
     of |= {word: between(texts[word], "fn words", "\n}") for word in ("ctl", "explain")}
     for word, text in of.items():
-        words[word] = set(re.findall(r'long\("([\w-]+)"\)', text)) | set(re.findall(r'(?:option|valued|flag)\(\s*alloc,\s*"([\w-]+)"', text))
-        # (an option of several words has a function of its name)
-        words[word] |= set(re.findall(r"\.arg\((stream)\(alloc\)\)", text))
+        file = texts.get(word, texts["tools"])
+        for table in re.findall(r"&([A-Z]+)\)", text):
+            text += between(file, f"static {table}:", "\n];")
+        if "with_stream(" in text:
+            text += between(file, "fn with_stream", "\n}")
+        words[word] = set(re.findall(r'long\("([\w-]+)"\)', text)) | set(re.findall(r'(?:valued\(\s*alloc,\s*|name: )"([\w-]+)"', text))
     for word in ("run", "check"):
         words[word] = {"setup"}
     return words

@@ -1,9 +1,9 @@
 //! The subcommand `explain`: why a subscriber was sent what it was sent.
 
+use crate::options::{OptionWord, valued, with_options};
 use crate::recordings::{ended_by, files_word, reader_of};
-use crate::tools::valued;
 use crate::{Outcome, help};
-use clap::{Arg, ArgAction, ArgMatches, Command};
+use clap::{ArgMatches, Command};
 use pg_log::system_words;
 use pg_recordings::{Fault, Inquiry, explain, read_time};
 use pg_tools::{BadOption, number};
@@ -17,43 +17,25 @@ use std::os::unix::fs::OpenOptionsExt;
 /// What `--from` and `--to` take.
 const TIME: &str = "a time, as 2026-11-28T14:03:17Z";
 
+#[rattlefmt::skip]
+static OPTIONS: [OptionWord; 5] = [
+    OptionWord { name: "stream", value: Some("N"), absent: None, help: "The IDCODE of the stream; else all of the subscriber" },
+    OptionWord { name: "from", value: Some("TIME"), absent: None, help: "The time of the first frame; else the first of the recording" },
+    OptionWord { name: "to", value: Some("TIME"), absent: None,
+        help: "The time before which the last frame lies; else the last of the recording" },
+    OptionWord { name: "csv", value: None, absent: None, help: "Prints comma-separated values, a line for each member of a frame" },
+    OptionWord { name: "pcap", value: Some("FILE"), absent: None,
+        help: "Writes the frames that were handed out to this file, for Wireshark" },
+];
+
 /// The words of `explain`.
 pub fn words<'a>(alloc: Global) -> Result<Command<'a>, AllocError> {
-    Command::new(alloc, "explain")
+    let command = Command::new(alloc, "explain")
         .about("Prints why a subscriber was sent what it was sent, by a recording")
         .after_help(help::EXPLAIN)
         .arg(files_word(alloc))?
-        .arg(valued(alloc, "subscriber", "U", "The subscriber").required(true))?
-        .arg(valued(
-            alloc,
-            "stream",
-            "N",
-            "The IDCODE of the stream; else all of the subscriber",
-        ))?
-        .arg(valued(
-            alloc,
-            "from",
-            "TIME",
-            "The time of the first frame; else the first of the recording",
-        ))?
-        .arg(valued(
-            alloc,
-            "to",
-            "TIME",
-            "The time before which the last frame lies; else the last of the recording",
-        ))?
-        .arg(
-            Arg::new(alloc, "csv")
-                .long("csv")
-                .action(ArgAction::SetTrue)
-                .help("Prints comma-separated values, a line for each member of a frame"),
-        )?
-        .arg(valued(
-            alloc,
-            "pcap",
-            "FILE",
-            "Writes the frames that were handed out to this file, for Wireshark",
-        ))
+        .arg(valued(alloc, "subscriber", "U", "The subscriber").required(true))?;
+    with_options(alloc, command, &OPTIONS)
 }
 
 /// The value of an option with a number, if it is there.

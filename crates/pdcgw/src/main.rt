@@ -4,6 +4,7 @@
 mod ctl;
 mod explain;
 mod help;
+mod options;
 mod recordings;
 mod setup;
 mod tools;
@@ -60,24 +61,45 @@ fn check_words<'a>(alloc: Global) -> Result<Command<'a>, AllocError> {
         .arg(setup_word(alloc))
 }
 
-/// The program's own words, where `help` is that of `run`.
-fn program<'a>(alloc: Global, help: &'a str) -> Result<Command<'a>, AllocError> {
-    Command::new(alloc, "pdcgw")
-        .about("A phasor data concentrator gateway for many subscribers")
-        .version(VERSION)
-        .after_help(help::PROGRAM)
-        .subcommand_required(true)
+/// A command with the subcommands for a gateway, where `help` is that of `run`.
+fn with_gateway<'a>(
+    alloc: Global,
+    command: Command<'a>,
+    help: &'a str,
+) -> Result<Command<'a>, AllocError> {
+    command
         .subcommand(replay_words(alloc))?
         .subcommand(run_words(alloc, help)?)?
         .subcommand(check_words(alloc)?)?
-        .subcommand(ctl::words(alloc)?)?
+        .subcommand(ctl::words(alloc)?)
+}
+
+/// A command with the subcommands for recordings.
+fn with_recordings<'a>(alloc: Global, command: Command<'a>) -> Result<Command<'a>, AllocError> {
+    command
         .subcommand(recordings::script_words(alloc)?)?
         .subcommand(recordings::verify_words(alloc)?)?
-        .subcommand(explain::words(alloc)?)?
+        .subcommand(explain::words(alloc)?)
+}
+
+/// A command with the tools as subcommands.
+fn with_tools<'a>(alloc: Global, command: Command<'a>) -> Result<Command<'a>, AllocError> {
+    command
         .subcommand(tools::simulate_words(alloc)?)?
         .subcommand(tools::watch_words(alloc)?)?
         .subcommand(tools::bridge_words(alloc)?)?
         .subcommand(tools::demo_words(alloc)?)
+}
+
+/// The program's own words, where `help` is that of `run`.
+fn program<'a>(alloc: Global, help: &'a str) -> Result<Command<'a>, AllocError> {
+    let command = Command::new(alloc, "pdcgw")
+        .about("A phasor data concentrator gateway for many subscribers")
+        .version(VERSION)
+        .after_help(help::PROGRAM)
+        .subcommand_required(true);
+    let command = with_gateway(alloc, command, help)?;
+    with_tools(alloc, with_recordings(alloc, command)?)
 }
 
 /// What the program comes to.

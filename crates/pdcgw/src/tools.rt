@@ -1,5 +1,6 @@
 //! The words of the tools: `simulate`, `watch`, `bridge` and `demo`.
 
+use crate::options::{OptionWord, valued, with_options};
 use crate::{Outcome, help};
 use clap::{Arg, ArgAction, ArgMatches, Command};
 use pg_demo::DemoOptions;
@@ -15,94 +16,57 @@ use std::rt::{Clock, Files};
 /// What `--plain` of `watch` and `demo` does.
 const PLAIN: &str = "Writes a line a second, where standard output is a terminal too";
 
-/// An option with a value, and the value that it has where it is absent.
-fn option<'a>(
-    alloc: Global,
-    name: &'a str,
-    value: &'a str,
-    absent: &'a str,
-    text: &'a str,
-) -> Arg<'a> {
-    Arg::new(alloc, name)
-        .long(name)
-        .value_name(value)
-        .default_value(absent)
-        .help(text)
-}
+#[rattlefmt::skip]
+static SIMULATE: [OptionWord; 9] = [
+    OptionWord { name: "listen", value: Some("A.B.C.D:PORT"), absent: Some("127.0.0.1:4712"), help: "Where it listens" },
+    OptionWord { name: "source", value: Some("N"), absent: Some("7"), help: "Its IDCODE, from which on its PMUs are numbered" },
+    OptionWord { name: "pmus", value: Some("N"), absent: Some("1"), help: "How many PMUs, 1 to 16" },
+    OptionWord { name: "rate", value: Some("N"), absent: Some("30"), help: "Data frames a second, 1 to 120" },
+    OptionWord { name: "phasors", value: Some("N"), absent: Some("3"), help: "Phasors of each PMU, 0 to 32" },
+    OptionWord { name: "analogs", value: Some("N"), absent: Some("1"), help: "Analog values of each PMU, 0 to 32" },
+    OptionWord { name: "digitals", value: Some("N"), absent: Some("1"), help: "Digital words of each PMU, 0 to 32" },
+    OptionWord { name: "nominal", value: Some("HZ"), absent: Some("60"), help: "The frequency of the grid, 50 or 60" },
+    OptionWord { name: "clients", value: Some("N"), absent: Some("1"), help: "How many clients it serves at once, 1 to 8" },
+];
 
-/// An option with a value, which may be absent.
-pub fn valued<'a>(alloc: Global, name: &'a str, value: &'a str, text: &'a str) -> Arg<'a> {
-    Arg::new(alloc, name)
-        .long(name)
-        .value_name(value)
-        .help(text)
-}
+#[rattlefmt::skip]
+static WATCH: [OptionWord; 5] = [
+    OptionWord { name: "csv", value: None, absent: None, help: "Writes each data frame as a line of values with commas between" },
+    OptionWord { name: "plain", value: None, absent: None, help: PLAIN },
+    OptionWord { name: "raw", value: Some("FILE"), absent: None, help: "Keeps the bytes in this file as they come" },
+    OptionWord { name: "frames", value: Some("N"), absent: None, help: "Ends after so many data frames" },
+    OptionWord { name: "seconds", value: Some("N"), absent: None, help: "Ends after so many seconds" },
+];
 
-/// An option without a value.
-fn flag<'a>(alloc: Global, name: &'a str, text: &'a str) -> Arg<'a> {
-    Arg::new(alloc, name)
-        .long(name)
-        .action(ArgAction::SetTrue)
-        .help(text)
-}
+#[rattlefmt::skip]
+static BRIDGE: [OptionWord; 7] = [
+    OptionWord { name: "format", value: Some("FORMAT"), absent: Some("json"), help: "The format of the lines: json, influx or csv" },
+    OptionWord { name: "name", value: Some("NAME"), absent: None, help: "The name of the gateway, which each line has" },
+    OptionWord { name: "key", value: None, absent: None, help: "Puts STREAM/IDCODE and a tab before each line" },
+    OptionWord { name: "repeat", value: Some("SECONDS"), absent: Some("60"), help: "How often the configuration is repeated, 1 to 86400" },
+    OptionWord { name: "heartbeat", value: Some("SECONDS"), absent: Some("10"), help: "How often the state is reported, 1 to 86400" },
+    OptionWord { name: "silence", value: Some("SECONDS"), absent: Some("5"), help: "After how long without a frame it connects again, 1 to 86400" },
+    OptionWord { name: "keep", value: Some("LINES"), absent: Some("10000"), help: "How many lines wait for standard output at most, 1 to 1000000" },
+];
+
+#[rattlefmt::skip]
+static DEMO: [OptionWord; 2] = [
+    OptionWord { name: "plain", value: None, absent: None, help: PLAIN },
+    OptionWord { name: "seconds", value: Some("N"), absent: None, help: "Ends after so many seconds, with status 0 only where every frame came" },
+];
 
 /// The words of `simulate`.
 pub fn simulate_words<'a>(alloc: Global) -> Result<Command<'a>, AllocError> {
-    Command::new(alloc, "simulate")
+    let command = Command::new(alloc, "simulate")
         .about("Plays a source with PMUs, to try a gateway with")
-        .after_help(help::SIMULATE)
-        .arg(option(
-            alloc,
-            "listen",
-            "A.B.C.D:PORT",
-            "127.0.0.1:4712",
-            "Where it listens",
-        ))?
-        .arg(option(
-            alloc,
-            "source",
-            "N",
-            "7",
-            "Its IDCODE, from which on its PMUs are numbered",
-        ))?
-        .arg(option(alloc, "pmus", "N", "1", "How many PMUs, 1 to 16"))?
-        .arg(option(alloc, "rate", "N", "30", "Data frames a second, 1 to 120"))?
-        .arg(option(alloc, "phasors", "N", "3", "Phasors of each PMU, 0 to 32"))?
-        .arg(option(
-            alloc,
-            "analogs",
-            "N",
-            "1",
-            "Analog values of each PMU, 0 to 32",
-        ))?
-        .arg(option(
-            alloc,
-            "digitals",
-            "N",
-            "1",
-            "Digital words of each PMU, 0 to 32",
-        ))?
-        .arg(option(
-            alloc,
-            "nominal",
-            "HZ",
-            "60",
-            "The frequency of the grid, 50 or 60",
-        ))?
-        .arg(option(
-            alloc,
-            "clients",
-            "N",
-            "1",
-            "How many clients it serves at once, 1 to 8",
-        ))?
-        .arg(valued(
-            alloc,
-            "fault",
-            "FAULT",
-            "What it does wrong, as below; may be repeated",
-        )
-        .action(ArgAction::Append))
+        .after_help(help::SIMULATE);
+    let fault = valued(
+        alloc,
+        "fault",
+        "FAULT",
+        "What it does wrong, as below; may be repeated",
+    );
+    with_options(alloc, command, &SIMULATE)?.arg(fault.action(ArgAction::Append))
 }
 
 /// Does the work of `simulate`.
@@ -131,48 +95,29 @@ where
     }
 }
 
-/// The address of `watch` and `bridge`.
-fn address<'a>(alloc: Global) -> Arg<'a> {
-    Arg::new(alloc, "address")
+/// A subcommand with the words of `watch` and `bridge` for an address and a stream there.
+fn with_stream<'a>(alloc: Global, command: Command<'a>) -> Result<Command<'a>, AllocError> {
+    let address = Arg::new(alloc, "address")
         .value_name("ADDRESS")
         .help(
             "Where a gateway's subscriber connects, or a source listens: A.B.C.D:PORT or NAME:PORT",
         )
-        .required(true)
-}
-
-/// The stream of `watch` and `bridge`.
-fn stream<'a>(alloc: Global) -> Arg<'a> {
-    valued(
+        .required(true);
+    let stream = valued(
         alloc,
         "stream",
         "N",
         "The IDCODE of the stream, or of the source",
-    )
-    .required(true)
+    );
+    command.arg(address)?.arg(stream.required(true))
 }
 
 /// The words of `watch`.
 pub fn watch_words<'a>(alloc: Global) -> Result<Command<'a>, AllocError> {
-    Command::new(alloc, "watch")
+    let command = Command::new(alloc, "watch")
         .about("Plays a subscriber: checks a stream, and shows it")
-        .after_help(help::WATCH)
-        .arg(address(alloc))?
-        .arg(stream(alloc))?
-        .arg(flag(
-            alloc,
-            "csv",
-            "Writes each data frame as a line of values with commas between",
-        ))?
-        .arg(flag(alloc, "plain", PLAIN))?
-        .arg(valued(
-            alloc,
-            "raw",
-            "FILE",
-            "Keeps the bytes in this file as they come",
-        ))?
-        .arg(valued(alloc, "frames", "N", "Ends after so many data frames"))?
-        .arg(valued(alloc, "seconds", "N", "Ends after so many seconds"))
+        .after_help(help::WATCH);
+    with_options(alloc, with_stream(alloc, command)?, &WATCH)
 }
 
 /// Does the work of `watch`.
@@ -202,57 +147,10 @@ where
 
 /// The words of `bridge`.
 pub fn bridge_words<'a>(alloc: Global) -> Result<Command<'a>, AllocError> {
-    Command::new(alloc, "bridge")
+    let command = Command::new(alloc, "bridge")
         .about("Prints a stream as lines, for a message broker, a database or a historian")
-        .after_help(help::BRIDGE)
-        .arg(address(alloc))?
-        .arg(stream(alloc))?
-        .arg(option(
-            alloc,
-            "format",
-            "FORMAT",
-            "json",
-            "The format of the lines: json, influx or csv",
-        ))?
-        .arg(valued(
-            alloc,
-            "name",
-            "NAME",
-            "The name of the gateway, which each line has",
-        ))?
-        .arg(flag(
-            alloc,
-            "key",
-            "Puts STREAM/IDCODE and a tab before each line",
-        ))?
-        .arg(option(
-            alloc,
-            "repeat",
-            "SECONDS",
-            "60",
-            "How often the configuration is repeated, 1 to 86400",
-        ))?
-        .arg(option(
-            alloc,
-            "heartbeat",
-            "SECONDS",
-            "10",
-            "How often the state is reported, 1 to 86400",
-        ))?
-        .arg(option(
-            alloc,
-            "silence",
-            "SECONDS",
-            "5",
-            "After how long without a frame it connects again, 1 to 86400",
-        ))?
-        .arg(option(
-            alloc,
-            "keep",
-            "LINES",
-            "10000",
-            "How many lines wait for standard output at most, 1 to 1000000",
-        ))
+        .after_help(help::BRIDGE);
+    with_options(alloc, with_stream(alloc, command)?, &BRIDGE)
 }
 
 /// Does the work of `bridge`.
@@ -282,16 +180,10 @@ where
 
 /// The words of `demo`.
 pub fn demo_words<'a>(alloc: Global) -> Result<Command<'a>, AllocError> {
-    Command::new(alloc, "demo")
+    let command = Command::new(alloc, "demo")
         .about("Shows the gateway at work: two sources, two subscribers, in one process")
-        .after_help(help::DEMO)
-        .arg(flag(alloc, "plain", PLAIN))?
-        .arg(valued(
-            alloc,
-            "seconds",
-            "N",
-            "Ends after so many seconds, with status 0 only where every frame came",
-        ))
+        .after_help(help::DEMO);
+    with_options(alloc, command, &DEMO)
 }
 
 /// Does the work of `demo`.

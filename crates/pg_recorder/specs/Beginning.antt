@@ -1,5 +1,5 @@
 -- What is recorded of an event before it is posted.
-use Rattle.std.specs.Prelude.{◌≡◌, ◌⊎◌, ℕ, ◌≤◌, ◌*◌, ◌-◌, ◌%◌, ◌^◌, min, bit_and, bit_or, Bool, true, false, List, [], length, Option, Some, None, IsSomeAnd}
+use Rattle.std.specs.Prelude.{◌≡◌, ◌⊎◌, ℕ, ◌≤◌, ◌*◌, ◌-◌, ◌%◌, ◌^◌, min, bit_and, bit_or, Bool, true, false, List, [], length, Option, Some, None, IsSomeAnd, nat_eq, if◌then◌else◌}
 use Rattle.std.specs.Arc.{arc_value}
 use Rattle.pg_wire.specs.Number.{number_of}
 use Rattle.pg_wire.specs.declared.refusal.Refusal.{Refusal}
@@ -100,9 +100,13 @@ abbrev pub noted_after : Bool → Option ℕ → Option ℕ
 noted_after true _ = None
 noted_after false ignored = ignored
 
--- Where the thread records, the record of this event begins.
+-- when the first call of a tape was begun, once one more begins when the clock stands so
+abbrev pub start_after : Taping → ℕ → ℕ
+start_after t clock = if nat_eq (length t.tape.calls) 0 then clock else t.start
+
+-- Where the thread records, the record of this event begins. (The clock may be read.)
 abbrev pub Begins : Option Taping → Event → Option Taping → Type 0
-Begins (Some t) asked w = IsSomeAnd w (λ u. BegunOf t.ignored t.tape asked u.tape × (u.ignored ≡ noted_after (is_question asked) t.ignored))
+Begins (Some t) asked w = IsSomeAnd w (λ u. BegunOf t.ignored t.tape asked u.tape × (u.start ≡ start_after t u.clock) × (u.ignored ≡ noted_after (is_question asked) t.ignored))
 Begins None _ w = w ≡ None
 
 -- What is noted of ignored frames is kept for the record of the next question, and nothing else changes; or it is not kept, and nothing changes.

@@ -15,7 +15,8 @@ pub record Recording : Type 0 where
   pub seat : Known Event Reply
   pub taping : Option Taping
 
--- Where calls are recorded, the record of this event's call has its place in the history, the last one of the seat's own, and its answer.
+-- Where calls are recorded, a record of this event began, and ended with its call's place in the history, the last one of the seat's own, and its answer;
+-- then it stayed, or was handed over.
 pub record IsRecorded (before : Option Taping) (asked : Event) (answer : Reply) (after : Recording) : Type 0 where
   pub begun : Option Taping
   pub begins : Begins before asked begun

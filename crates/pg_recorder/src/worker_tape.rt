@@ -2,7 +2,7 @@
 
 ghost use Rattle.std.specs.Prelude.{◌≡◌, ◌⊎◌, [], Some, None};
 ghost use Rattle.pg_recorder.specs.Answering.{IsOrEmptied, with_reply, with_refusal};
-ghost use Rattle.pg_recorder.specs.Beginning.{Begun, BegunEdit, BegunFrame, BegunOf, BegunUnspelled, ignored_of, is_question, noted_after, question_front, time_front};
+ghost use Rattle.pg_recorder.specs.Beginning.{Begun, BegunEdit, BegunFrame, BegunOf, BegunUnspelled, ignored_of, is_question, noted_after, question_front, start_after, time_front};
 ghost use Rattle.pg_record.specs.declared.record.RecordKind.TheVariants as kind;
 
 use crate::exchange::{MANY_BYTES, MANY_CALLS, Recorder, TapeSlot};
@@ -35,11 +35,14 @@ pub struct WorkerTape {
 }
 
 impl Model for WorkerTape {
+    ghost use Rattle.std.specs.Prelude.{◌≡◌, ◌-◌, min};
     ghost use Rattle.pg_recorder.specs.Answering.{Taping};
 
     ghost Value = { Taping };
 
-    ghost view = { λ t. record { tape = t.tape; at = t.at; ignored = t.ignored } };
+    ghost view = { λ t. record { tape = t.tape; clock = t.clock; start = t.start; ignored = t.ignored } };
+
+    ghost invariant = { λ t. t.at ≡ min (t.clock - t.start) 65535 };
 }
 
 impl WorkerTape {
@@ -60,7 +63,7 @@ impl WorkerTape {
 
     /// A round of the thread begins: what it records has this machine's time by now.
     pub(crate) fn begin_round<R: Clock>(&mut self, rt: &R)
-        ensures { self.new ≡ record self.old { at = self.new.at } }
+        ensures { self.new ≡ record self.old { clock = self.new.clock } }
     {
         if let Some(clock) = now_ms(rt) {
             self.clock = clock;
@@ -72,8 +75,7 @@ impl WorkerTape {
     /// Hands the records over where there are any and the writer has taken those before.
     pub(crate) fn hand_over<R: Wait>(&mut self, rt: &R)
         ensures tape { IsOrEmptied self.old.tape self.new.tape }
-        ensures at { self.new.at ≡ self.old.at }
-        ensures ignored { self.new.ignored ≡ self.old.ignored }
+        ensures rest { self.new ≡ record self.old { tape = self.new.tape } }
     {
         if !self.tape.is_empty() {
             self.slot.hand_over(rt, &mut self.tape, self.start);
@@ -100,7 +102,8 @@ impl WorkerTape {
     #[inline(always)]
     pub(crate) fn begin(&mut self, event: &Event)
         ensures begun { BegunOf self.old.ignored self.old.tape event.now self.new.tape }
-        ensures ignored { self.new.ignored ≡ noted_after (is_question event.now) self.old.ignored }
+        ensures start { self.new.start ≡ start_after self.old self.old.clock }
+        ensures rest { self.new ≡ record self.old { tape = self.new.tape; start = self.new.start; ignored = noted_after (is_question event.now) self.old.ignored } }
     {
         self.start_if_empty();
         match event {
@@ -142,7 +145,7 @@ impl WorkerTape {
     /// Where there is no record yet, the next one is the first of a block that starts now.
     #[inline(always)]
     fn start_if_empty(&mut self)
-        ensures { self.new ≡ record self.old { at = self.new.at } }
+        ensures { self.new ≡ record self.old { start = start_after self.old self.old.clock } }
     {
         if self.tape.is_empty() {
             self.start = self.clock;
@@ -153,7 +156,8 @@ impl WorkerTape {
     /// The same of an event that may be an edit.
     pub(crate) fn begin_any(&mut self, event: &Event)
         ensures begun { BegunOf self.old.ignored self.old.tape event.now self.new.tape }
-        ensures ignored { self.new.ignored ≡ noted_after (is_question event.now) self.old.ignored }
+        ensures start { self.new.start ≡ start_after self.old self.old.clock }
+        ensures rest { self.new ≡ record self.old { tape = self.new.tape; start = self.new.start; ignored = noted_after (is_question event.now) self.old.ignored } }
     {
         match event {
             Event::AddPmu(_)
@@ -171,7 +175,7 @@ impl WorkerTape {
     /// Begins the record of an edit.
     fn begin_edit(&mut self, event: &Event)
         ensures begun { BegunEdit self.old.tape self.new.tape }
-        ensures rest { self.new ≡ record self.old { tape = self.new.tape; at = self.new.at } }
+        ensures rest { self.new ≡ record self.old { tape = self.new.tape; start = start_after self.old self.old.clock } }
     {
         self.start_if_empty();
         match edit_line(self.alloc, event) {
@@ -244,8 +248,7 @@ impl WorkerTape {
     #[inline(always)]
     pub(crate) fn end<R: Wait>(&mut self, rt: &R, place: u64, reply: &Reply)
         ensures tape { IsOrEmptied (with_reply self.old place reply.now) self.new.tape }
-        ensures at { self.new.at ≡ self.old.at }
-        ensures ignored { self.new.ignored ≡ self.old.ignored }
+        ensures rest { self.new ≡ record self.old { tape = self.new.tape } }
     {
         // Of a reply, which has room for all counters, what is recorded alone is looked at, so that it is neither filled nor moved.
         match reply {

@@ -1,0 +1,2 @@
+-- Definitions that the contracts of a service's workers cite.
+pub mod Kinds
