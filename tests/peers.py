@@ -6,6 +6,7 @@ import ctypes
 import fcntl
 import os
 import re
+import signal
 import socket
 import struct
 import subprocess
@@ -346,6 +347,12 @@ class LiveSource(Source):
         super().close()
 
 
+def is_stopped(task):
+    """Whether a thread, by its folder in /proc, is stopped."""
+    with open(f"{task}/stat", encoding="utf-8") as file:
+        return file.read().rpartition(") ")[2][0] == "T"
+
+
 class Subscriber(Connection):
     """A subscriber's connection to its port."""
 
@@ -620,6 +627,12 @@ class Gateway:
         for number in subscribers:
             self.line(f"subscriber {number}: may connect at ")
         return self
+
+    def freeze(self):
+        """Stops the program, with all its threads, until it is sent SIGCONT."""
+        self.process.send_signal(signal.SIGSTOP)
+        tasks = f"/proc/{self.process.pid}/task"
+        until(lambda: all(is_stopped(f"{tasks}/{it}") for it in os.listdir(tasks)), "the program's stop")
 
     def say(self, line):
         """Writes a line to standard input."""

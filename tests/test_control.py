@@ -419,12 +419,6 @@ def test_the_socket_is_never_open_to_others(bench):
         stranger.kill()
 
 
-def stopped(gateway):
-    """Stops the program until it is sent SIGCONT."""
-    gateway.process.send_signal(signal.SIGSTOP)
-    until(lambda: open(f"/proc/{gateway.process.pid}/stat").read().rpartition(") ")[2][0] == "T", "the program's stop")
-
-
 def test_sixteen_lines_at_a_time(bench):
     """Of a client that floods lines 16 are answered before the line of another one, and lines that ask for nothing count among them."""
     pair, path = controlled(bench)
@@ -435,7 +429,7 @@ def test_sixteen_lines_at_a_time(bench):
         for client in (flood, other):
             client.send(b"pmustats 8\n")
             client.gets(b"pmustats taken 0\n")
-        stopped(gateway)
+        gateway.freeze()
         flood.send(each * 100)
         other.send(b"droppmu 8\n")
         gateway.process.send_signal(signal.SIGCONT)
@@ -461,7 +455,7 @@ def test_a_flood_of_lines(bench):
         client.send(b"pmustats 8\n")
         client.gets(b"pmustats taken 0\n")
     # Both clients' lines wait when the program goes on.
-    gateway.process.send_signal(signal.SIGSTOP)
+    gateway.freeze()
     flood.send(b"pmustats 8\n" * 8_000)
     other.send(b"droppmu 8\n")
     gateway.process.send_signal(signal.SIGCONT)

@@ -1,5 +1,4 @@
 """Whether the gateway does its work, as those see it that watch over it: `/health` is answered 200 or 503, with the reason in a line."""
-import os
 import signal
 import socket
 import time
@@ -13,11 +12,6 @@ NO_DATA = "no source sent data within {} s\n"
 def health(page, query=""):
     head, body = http(page, "/health" + query)
     return head.split("\r\n")[0].split(" ", 1)[1], body
-
-
-def is_stopped(pid, task):
-    with open(f"/proc/{pid}/task/{task}/stat", encoding="utf-8") as file:
-        return file.read().rpartition(")")[2].split()[0] == "T"
 
 
 def served(bench):
@@ -53,14 +47,29 @@ def test_health_by_data(bench):
     gateway.quit()
 
 
+@takes(3)
+def test_health_without_data(bench):
+    """A source that announces again and again, and sends no data, does not make the gateway well; `last` of `status` counts its announcements."""
+    page, seven, gateway = served(bench)
+    time.sleep(1.1)
+    seven.link.send(seven.configuration())
+    until(lambda: " events 2 " in gateway.status()["source 7"], "another configuration")
+    expect(gateway.status()["source 7"].endswith((" last 0", " last 1")), "the configuration is the last event")
+    # The page looks once a second.
+    time.sleep(1.1)
+    same(health(page), ("503 Service Unavailable", NO_DATA.format(10)))
+    same(health(page, "?within=86400"), ("503 Service Unavailable", NO_DATA.format(86400)))
+    seven.measure(int(time.time() * RATE), 1)
+    until(lambda: health(page) == ("200 OK", WELL.format(10)), "200")
+    gateway.quit()
+
+
 def test_health_of_a_frozen_gateway(bench):
     """A gateway whose process is stopped answers nobody; once it goes on, it does."""
     page, seven, gateway = served(bench)
     seven.measure(int(time.time() * RATE), 1)
     until(lambda: health(page)[0] == "200 OK", "200")
-    pid = gateway.process.pid
-    os.kill(pid, signal.SIGSTOP)
-    until(lambda: all(is_stopped(pid, task) for task in os.listdir(f"/proc/{pid}/task")), "a stopped process")
+    gateway.freeze()
     try:
         with socket.create_connection(("127.0.0.1", page), 1) as peer:
             peer.sendall(b"GET /health HTTP/1.1\r\n\r\n")
@@ -70,6 +79,6 @@ def test_health_of_a_frozen_gateway(bench):
             except socket.timeout:
                 pass
     finally:
-        os.kill(pid, signal.SIGCONT)
+        gateway.process.send_signal(signal.SIGCONT)
     until(lambda: health(page)[0] == "200 OK", "200 again")
     gateway.quit()

@@ -133,6 +133,7 @@ fn uncalled(alloc: Global, source: PmuId, pmus: &[PmuKey]) -> Result<SourceState
         events: 0,
         ignored: Vec::new(alloc),
         last: None,
+        last_data: None,
         quality: None,
         pmus: pmus_of(alloc, source, pmus, &[])?,
     })
@@ -151,6 +152,7 @@ fn source_state(
         counts,
         far,
         last,
+        last_data,
         quality,
         pmus,
         ..
@@ -169,13 +171,19 @@ fn source_state(
         frames,
         events: counts.taken.saturating_sub(far),
         ignored,
-        last: match last {
-            Some(last) => Some(last.as_secs()),
-            None => None,
-        },
+        last: seconds_of(last),
+        last_data: seconds_of(last_data),
         quality: Some(quality),
         pmus: pmus_of(alloc, source, registered, pmus.as_slice())?,
     })
+}
+
+/// Whole seconds.
+fn seconds_of(past: Option<Duration>) -> Option<u64> {
+    match past {
+        Some(past) => Some(past.as_secs()),
+        None => None,
+    }
 }
 
 /// What of a source was ignored, by its reasons, and of its measurements because they were too far from the clock.

@@ -50,6 +50,8 @@ pub struct SourceReport {
     pub far: u64,
     /// How long its last event is past, if there was one.
     pub last: Option<Duration>,
+    /// How long its last data frame that counts is past, if there was one.
+    pub last_data: Option<Duration>,
     /// How good its data frames are.
     pub quality: FrameSummary,
     /// How long its data frames took in the last 60 seconds.

@@ -60,9 +60,10 @@ pub(crate) struct SourceEntry {
     size: usize,
     // What its link had counted at its last entry in the log.
     reported: PmuStats,
-    // The measurements that were too far from the clock, and when the last event came that was not.
+    // The measurements that were too far from the clock, when the last event came that was not, and the last data frame.
     far: u64,
-    measured_at: Option<Instant>,
+    event_at: Option<Instant>,
+    data_at: Option<Instant>,
     // By how many milliseconds its last measurement was ahead of the clock, where it was refused for that.
     pub(crate) off: Option<i64>,
     // The time of its last measurement in its connection, in milliseconds since 1970-01-01 00:00 UTC.
@@ -96,7 +97,8 @@ impl SourceEntry {
             size: SHORTEST,
             reported: PmuStats::new(),
             far: 0,
-            measured_at: None,
+            event_at: None,
+            data_at: None,
             off: None,
             newest: None,
         }
@@ -118,7 +120,8 @@ impl SourceEntry {
         self.close();
         self.reported = PmuStats::new();
         self.far = 0;
-        self.measured_at = None;
+        self.event_at = None;
+        self.data_at = None;
         self.off = None;
         self.newest = None;
     }
@@ -146,17 +149,14 @@ impl SourceEntry {
                 None => LinkState::Rests,
             },
         };
-        let last = match self.measured_at {
-            Some(at) => Some(now.saturating_duration_since(at)),
-            None => None,
-        };
         Ok(SourceReport {
             source: self.connection.source(),
             address,
             reach,
             counts: *self.connection.link().stats(),
             far: self.far,
-            last,
+            last: past(now, self.event_at),
+            last_data: past(now, self.data_at),
             quality: quality.summary(second),
             delays: quality.delays().last_minute(second),
             pmus: summaries_of(alloc, quality.pmus())?,
@@ -184,7 +184,10 @@ impl SourceEntry {
     /// Keeps when it sent data and how far its clock is off, and returns whether its data are refused for that from now on, or no longer.
     pub(crate) fn note_seen(&mut self, seen: &GateStats, clock: u64, now: Instant) -> bool {
         if seen.rate.is_some() || seen.measured > seen.far {
-            self.measured_at = Some(now);
+            self.event_at = Some(now);
+        }
+        if seen.measured > seen.far {
+            self.data_at = Some(now);
         }
         self.has_measured |= seen.measured > seen.far;
         self.far = self.far.saturating_add(seen.far);
@@ -599,4 +602,12 @@ fn pmus_of(config: &SourceConfig) -> [u16; MOST_PMUS] {
         *place = part.id();
     }
     pmus
+}
+
+/// How long it is past, if it was.
+fn past(now: Instant, at: Option<Instant>) -> Option<Duration> {
+    match at {
+        Some(at) => Some(now.saturating_duration_since(at)),
+        None => None,
+    }
 }

@@ -11,9 +11,9 @@ is_before within (Some seconds) = nat_lt seconds within
 
 -- it sent data that count less than so many seconds ago
 abbrev pub is_recent : ℕ → SourceState → Bool
-is_recent within source = is_before within source.last
+is_recent within source = is_before within source.last_data
 
--- Each worker answered, and one source at least sent data.
+-- Each worker answered, and one source at least sent data. A configuration is no data.
 abbrev pub health_of : ℕ → ℕ → List SourceState → Health
 health_of unanswered within sources =
     if nat_lt 0 unanswered then Unanswered unanswered

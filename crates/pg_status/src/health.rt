@@ -42,7 +42,7 @@ fn has_recent(sources: &[SourceState], within: u64) -> bool
 fn is_recent(source: &SourceState, within: u64) -> bool
     ensures { result ≡ is_recent within source.now }
 {
-    match source.last {
+    match source.last_data {
         Some(seconds) => seconds < within,
         None => false,
     }

@@ -53,6 +53,8 @@ pub struct SourceState {
     pub ignored: Vec<Ignored>,
     /// Whole seconds since its last event, if there was one.
     pub last: Option<u64>,
+    /// Whole seconds since its last data frame that counts, if there was one.
+    pub last_data: Option<u64>,
     /// How good its data frames are, if a worker reports it.
     pub quality: Option<FrameSummary>,
     /// Its registered PMUs, in the order of their numbers.

@@ -67,6 +67,7 @@ fn source(rt: &impl Abort, alloc: Global, address: &str) -> SourceState {
         events: 0,
         ignored: Vec::new(alloc),
         last: None,
+        last_data: None,
         quality: None,
         pmus: Vec::new(alloc),
     }
