@@ -756,6 +756,16 @@ class Bench:
                     continue
                 return port
 
+    def listener(self, host=""):
+        """A socket of another program, which listens at a port of its own."""
+        made = socket.socket()
+        self.made.append(made)
+        # (connections of an earlier test that had this port do not hold it back)
+        made.setsockopt(socket.SOL_SOCKET, socket.SO_REUSEADDR, 1)
+        made.bind((host, self.port()))
+        made.listen()
+        return made
+
     def source(self, idcode, host="127.0.0.1", port=None, **keys):
         made = Source(idcode, host, port or self.port(), **keys)
         self.made.append(made)

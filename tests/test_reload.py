@@ -309,12 +309,8 @@ class Taken(Reloads):
     def __init__(self, bench):
         super().__init__(bench)
         self.begin()
-        self.port, self.holder = bench.port(), socket.socket()
-        bench.made.append(self.holder)
-        # (connections of an earlier test that had this port do not hold it back)
-        self.holder.setsockopt(socket.SOL_SOCKET, socket.SO_REUSEADDR, 1)
-        self.holder.bind(("", self.port))
-        self.holder.listen()
+        self.holder = bench.listener()
+        self.port = self.holder.getsockname()[1]
         self.tables["third"] = subscriber(3, self.port, ring=16, grants=[9]) + stream(300, [9])
         self.is_taken()
 
@@ -460,11 +456,7 @@ def test_quit_amid_a_reload(bench):
     the program within two seconds."""
     beside, more = Beside(bench), []
     for at in range(5):
-        port, holder = bench.port(), socket.socket()
-        bench.made.append(holder)
-        holder.bind(("", port))
-        holder.listen()
-        more.append(subscriber(30 + at, port, ring=16))
+        more.append(subscriber(30 + at, bench.listener().getsockname()[1], ring=16))
     beside.gateway.write(beside.pair.text + pmu(8) + "".join(more))
     beside.asking.send(b"reload\n")
     beside.gateway.logs("subscriber 34: added")

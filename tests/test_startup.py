@@ -3,7 +3,6 @@ import os
 import re
 import resource
 import signal
-import socket
 import subprocess
 import sys
 import time
@@ -24,12 +23,7 @@ def printed(bench, text, word="run", name="setup"):
 
 def taken_port(bench, host="127.0.0.1"):
     """A port at which another process listens."""
-    made, port = socket.socket(), bench.port()
-    made.setsockopt(socket.SOL_SOCKET, socket.SO_REUSEADDR, 1)
-    made.bind((host, port))
-    made.listen(1)
-    bench.made.append(made)
-    return port
+    return bench.listener(host).getsockname()[1]
 
 
 def test_mistakes_of_a_setup(bench):

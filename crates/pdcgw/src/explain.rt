@@ -19,12 +19,12 @@ const TIME: &str = "a time, as 2026-11-28T14:03:17Z";
 
 #[rattlefmt::skip]
 static OPTIONS: [OptionWord; 5] = [
-    OptionWord { name: "stream", value: Some("N"), absent: None, help: "The IDCODE of the stream; else all of the subscriber" },
-    OptionWord { name: "from", value: Some("TIME"), absent: None, help: "The time of the first frame; else the first of the recording" },
-    OptionWord { name: "to", value: Some("TIME"), absent: None,
+    OptionWord { name: "stream", value: Some("N"), default: None, help: "The IDCODE of the stream; else all of the subscriber" },
+    OptionWord { name: "from", value: Some("TIME"), default: None, help: "The time of the first frame; else the first of the recording" },
+    OptionWord { name: "to", value: Some("TIME"), default: None,
         help: "The time before which the last frame lies; else the last of the recording" },
-    OptionWord { name: "csv", value: None, absent: None, help: "Prints comma-separated values, a line for each member of a frame" },
-    OptionWord { name: "pcap", value: Some("FILE"), absent: None,
+    OptionWord { name: "csv", value: None, default: None, help: "Prints comma-separated values, a line for each member of a frame" },
+    OptionWord { name: "pcap", value: Some("FILE"), default: None,
         help: "Writes the frames that were handed out to this file, for Wireshark" },
 ];
 

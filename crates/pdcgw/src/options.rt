@@ -11,7 +11,7 @@ pub struct OptionWord {
     /// The name of its value; a flag has none.
     pub value: Option<&'static str>,
     /// The value that it has where it is absent, if it has one then.
-    pub absent: Option<&'static str>,
+    pub default: Option<&'static str>,
     /// What it does.
     pub help: &'static str,
 }
@@ -33,8 +33,8 @@ fn arg_of<'a>(alloc: Global, option: OptionWord) -> Arg<'a> {
             .help(option.help);
     };
     let arg = valued(alloc, option.name, value, option.help);
-    match option.absent {
-        Some(absent) => arg.default_value(absent),
+    match option.default {
+        Some(default) => arg.default_value(default),
         None => arg,
     }
 }

@@ -18,41 +18,41 @@ const PLAIN: &str = "Writes a line a second, where standard output is a terminal
 
 #[rattlefmt::skip]
 static SIMULATE: [OptionWord; 9] = [
-    OptionWord { name: "listen", value: Some("A.B.C.D:PORT"), absent: Some("127.0.0.1:4712"), help: "Where it listens" },
-    OptionWord { name: "source", value: Some("N"), absent: Some("7"), help: "Its IDCODE, from which on its PMUs are numbered" },
-    OptionWord { name: "pmus", value: Some("N"), absent: Some("1"), help: "How many PMUs, 1 to 16" },
-    OptionWord { name: "rate", value: Some("N"), absent: Some("30"), help: "Data frames a second, 1 to 120" },
-    OptionWord { name: "phasors", value: Some("N"), absent: Some("3"), help: "Phasors of each PMU, 0 to 32" },
-    OptionWord { name: "analogs", value: Some("N"), absent: Some("1"), help: "Analog values of each PMU, 0 to 32" },
-    OptionWord { name: "digitals", value: Some("N"), absent: Some("1"), help: "Digital words of each PMU, 0 to 32" },
-    OptionWord { name: "nominal", value: Some("HZ"), absent: Some("60"), help: "The frequency of the grid, 50 or 60" },
-    OptionWord { name: "clients", value: Some("N"), absent: Some("1"), help: "How many clients it serves at once, 1 to 8" },
+    OptionWord { name: "listen", value: Some("A.B.C.D:PORT"), default: Some("127.0.0.1:4712"), help: "Where it listens" },
+    OptionWord { name: "source", value: Some("N"), default: Some("7"), help: "Its IDCODE, from which on its PMUs are numbered" },
+    OptionWord { name: "pmus", value: Some("N"), default: Some("1"), help: "How many PMUs, 1 to 16" },
+    OptionWord { name: "rate", value: Some("N"), default: Some("30"), help: "Data frames a second, 1 to 120" },
+    OptionWord { name: "phasors", value: Some("N"), default: Some("3"), help: "Phasors of each PMU, 0 to 32" },
+    OptionWord { name: "analogs", value: Some("N"), default: Some("1"), help: "Analog values of each PMU, 0 to 32" },
+    OptionWord { name: "digitals", value: Some("N"), default: Some("1"), help: "Digital words of each PMU, 0 to 32" },
+    OptionWord { name: "nominal", value: Some("HZ"), default: Some("60"), help: "The frequency of the grid, 50 or 60" },
+    OptionWord { name: "clients", value: Some("N"), default: Some("1"), help: "How many clients it serves at once, 1 to 8" },
 ];
 
 #[rattlefmt::skip]
 static WATCH: [OptionWord; 5] = [
-    OptionWord { name: "csv", value: None, absent: None, help: "Writes each data frame as a line of values with commas between" },
-    OptionWord { name: "plain", value: None, absent: None, help: PLAIN },
-    OptionWord { name: "raw", value: Some("FILE"), absent: None, help: "Keeps the bytes in this file as they come" },
-    OptionWord { name: "frames", value: Some("N"), absent: None, help: "Ends after so many data frames" },
-    OptionWord { name: "seconds", value: Some("N"), absent: None, help: "Ends after so many seconds" },
+    OptionWord { name: "csv", value: None, default: None, help: "Writes each data frame as a line of values with commas between" },
+    OptionWord { name: "plain", value: None, default: None, help: PLAIN },
+    OptionWord { name: "raw", value: Some("FILE"), default: None, help: "Keeps the bytes in this file as they come" },
+    OptionWord { name: "frames", value: Some("N"), default: None, help: "Ends after so many data frames" },
+    OptionWord { name: "seconds", value: Some("N"), default: None, help: "Ends after so many seconds" },
 ];
 
 #[rattlefmt::skip]
 static BRIDGE: [OptionWord; 7] = [
-    OptionWord { name: "format", value: Some("FORMAT"), absent: Some("json"), help: "The format of the lines: json, influx or csv" },
-    OptionWord { name: "name", value: Some("NAME"), absent: None, help: "The name of the gateway, which each line has" },
-    OptionWord { name: "key", value: None, absent: None, help: "Puts STREAM/IDCODE and a tab before each line" },
-    OptionWord { name: "repeat", value: Some("SECONDS"), absent: Some("60"), help: "How often the configuration is repeated, 1 to 86400" },
-    OptionWord { name: "heartbeat", value: Some("SECONDS"), absent: Some("10"), help: "How often the state is reported, 1 to 86400" },
-    OptionWord { name: "silence", value: Some("SECONDS"), absent: Some("5"), help: "After how long without a frame it connects again, 1 to 86400" },
-    OptionWord { name: "keep", value: Some("LINES"), absent: Some("10000"), help: "How many lines wait for standard output at most, 1 to 1000000" },
+    OptionWord { name: "format", value: Some("FORMAT"), default: Some("json"), help: "The format of the lines: json, influx or csv" },
+    OptionWord { name: "name", value: Some("NAME"), default: None, help: "The name of the gateway, which each line has" },
+    OptionWord { name: "key", value: None, default: None, help: "Puts STREAM/IDCODE and a tab before each line" },
+    OptionWord { name: "repeat", value: Some("SECONDS"), default: Some("60"), help: "How often the configuration is repeated, 1 to 86400" },
+    OptionWord { name: "heartbeat", value: Some("SECONDS"), default: Some("10"), help: "How often the state is reported, 1 to 86400" },
+    OptionWord { name: "silence", value: Some("SECONDS"), default: Some("5"), help: "After how long without a frame it connects again, 1 to 86400" },
+    OptionWord { name: "keep", value: Some("LINES"), default: Some("10000"), help: "How many lines wait for standard output at most, 1 to 1000000" },
 ];
 
 #[rattlefmt::skip]
 static DEMO: [OptionWord; 2] = [
-    OptionWord { name: "plain", value: None, absent: None, help: PLAIN },
-    OptionWord { name: "seconds", value: Some("N"), absent: None, help: "Ends after so many seconds, with status 0 only where every frame came" },
+    OptionWord { name: "plain", value: None, default: None, help: PLAIN },
+    OptionWord { name: "seconds", value: Some("N"), default: None, help: "Ends after so many seconds, with status 0 only where every frame came" },
 ];
 
 /// The words of `simulate`.

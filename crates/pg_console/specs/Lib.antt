@@ -1,2 +1,3 @@
 -- Definitions that the contracts of a shared gateway and its console cite.
 pub mod Joining
+pub mod Kinds

@@ -19,11 +19,7 @@ pub struct AdminListeners {
 
 impl AdminListeners {
     /// Has this server serve what these listen for, and writes it to the log.
-    ///
-    /// # Errors
-    ///
-    /// That of the system, where a socket can't be waited for, and `OutOfMemory`.
-    pub fn open<R: Wait + Clock + Net, C: AdminBackend + Drop>(
+    pub(crate) fn open<R: Wait + Clock + Net, C: AdminBackend + Drop>(
         self,
         rt: &R,
         admin: &mut AdminServer<'_, R, C>,

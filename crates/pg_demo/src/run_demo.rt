@@ -8,13 +8,13 @@ use crate::sockets::Sockets;
 use crate::state::DemoState;
 use crate::workers::own_workers;
 use pg_console::{
-    Mailboxes, NoServiceCommands, Pollers, Runtime, SetUp, SharedState, WorkerCounts, set_up,
+    Mailboxes, NoServiceCommands, Pollers, Runtime, ServiceBuilder, SetUp, SharedState,
+    WorkerCounts, set_up,
 };
 use pg_recorder::Unrecorded;
 use pg_service::Directory;
 use pg_shared::{Named, Seat, Shared};
 use pg_tools::{DemoVerdict, ExpectedStreams, Style};
-use pg_workers::ServiceBuilder;
 use std::alloc::Global;
 use std::marker::Brand;
 use std::sync::atomic::AtomicBool;

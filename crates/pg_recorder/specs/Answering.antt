@@ -10,7 +10,7 @@ use Rattle.pg_record.specs.Taping.{Taped, ended, ended_drain}
 pub record Taping : Type 0 where
   -- the calls that a thread recorded and has not handed over
   pub tape : Taped
-  -- its clock in milliseconds, as it was read last, and as it was when the first of them was begun
+  -- the milliseconds of the clock that the thread goes by, which no clause says when to read; and those when the first of them was begun
   pub clock : ℕ
   pub start : ℕ
   -- what the record of the next question says of ignored frames

@@ -120,8 +120,8 @@ impl<'a, R: Wait + Clock, N: Named, T: CallRecords> Gate for WorkerGate<'a, R, N
         ensures takes { ◌≡◌ {A = GatewayEvent → Bool} (λ _. true) (λ _. true) }
         ensures refused { true ≡ false → result ≡ Reply.Refused Refusal.FarClock }
         ensures goes_on { GoesOn self.old.seat self.new.seat }
-        // Where calls are recorded, a record was made of this one: what was posted, when, at which place of the history, and how it was answered. It
-        // stayed, or was handed over; no clause says what becomes of it then.
+        // Where calls are recorded, a record was made of this one: what was posted, when by the thread's clock, at which place of the history, and how it
+        // was answered. It stayed, or was handed over. No clause says what becomes of it then, nor when the clock is read.
         ensures recorded { IsRecorded self.old.taping event result self.new }
     {
         self.records.begin(self.rt, &event);

@@ -7,12 +7,11 @@ use crate::reload_worker::ReloadWorker;
 use crate::run_context::RunContext;
 use crate::running::logger_of;
 use crate::workers::Worker;
-use pg_console::{DelayWatch, Runtime};
+use pg_console::{DelayWatch, Runtime, ServiceBuilder};
 use pg_recorder::{RecordWriter, RecordedAtOnce, Segments};
 use pg_service::Poller;
 use pg_shared::{Named, Seat};
 use pg_wire::Refusal;
-use pg_workers::ServiceBuilder;
 
 /// The workers that write the log, watch delays, do reloads, write what is recorded to these segments, if it is, and answer an operator's
 /// lines. The one that waits for lines is the last, so that where a thread can't be started it is not there to wait for.

@@ -9,13 +9,14 @@ use crate::operator::StandardIo;
 use crate::reloading::SetupManager;
 use crate::run_context::RunContext;
 use crate::workers::Worker;
-use pg_console::{Mailboxes, Pollers, Runtime, SharedState, WorkerCounts};
+use pg_console::{
+    Mailboxes, Pollers, Runtime, ServiceBuilder, ServicePlan, SharedState, WorkerCounts,
+};
 use pg_log::{Detail, Entry, Journal, LogEvent, Subject};
 use pg_recorder::{CallRecords, Recorded, Segments, Unrecorded};
 use pg_shared::{Named, Seat, Shared};
 use pg_subscribers::Port;
 use pg_wire::Refusal;
-use pg_workers::{ServiceBuilder, ServicePlan};
 use std::alloc::Global;
 use std::net::Net;
 use std::rt::Clock;

@@ -1,5 +1,5 @@
 use Rattle.std.proofs.Common.{◌≡◌}
-use Rattle.pg_workers.proofs.builder.ServiceBuilder.idle_source_workers.Given as goal
+use Rattle.pg_console.proofs.builder.ServiceBuilder.idle_port_workers.Given as goal
 
 abbrev pub invariant-pollers : goal.invariant-pollers
 invariant-pollers g l =

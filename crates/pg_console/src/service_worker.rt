@@ -1,9 +1,11 @@
 //! The workers that each service has, of whatever kind.
 
-ghost use Rattle.pg_workers.specs.Kinds.{Gives};
+ghost use Rattle.pg_console.specs.Kinds.{Gives};
 
+use crate::backend::ControlBackend;
+use crate::console::ServiceCommands;
+use crate::seats::HoldsSeat;
 use pg_admin::AdminServer;
-use pg_console::{ControlBackend, HoldsSeat, ServiceCommands};
 use pg_recorder::CallRecords;
 use pg_service::{ConnectionsWorker, ResolverWorker};
 use pg_shared::{Named, Seat, Work};

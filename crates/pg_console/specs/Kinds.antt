@@ -1,8 +1,8 @@
 -- Which seat a worker of a service gives back at its end.
 use Rattle.std.specs.Prelude.{◌≡◌, Option, Some, None, is_some, true}
 use Rattle.pg_console.specs.Joining.{Place}
-use Rattle.pg_workers.specs.declared.service_worker.ServiceWorker.{ServiceWorker}
-use Rattle.pg_workers.specs.declared.service_worker.ServiceWorker.TheVariants as worker
+use Rattle.pg_console.specs.declared.service_worker.ServiceWorker.{ServiceWorker}
+use Rattle.pg_console.specs.declared.service_worker.ServiceWorker.TheVariants as worker
 
 -- Its own. A worker that reports addresses and one that reads the table of connections have none; of one that serves the control socket and
 -- the page it is known that it gives one; one that only this program has gives what it says itself.

@@ -3,11 +3,14 @@
 ghost use Rattle.std.specs.Prelude.{◌≡◌, [], IfOk};
 ghost use Rattle.pg_console.specs.Joining.{Begins};
 
+use crate::admin_listeners::AdminListeners;
+use crate::backend::ControlBackend;
+use crate::console::ServiceCommands;
+use crate::mailboxes::Pollers;
+use crate::seats::{HoldsSeat, serve_by};
+use crate::service_handle::ServiceHandle;
 use crate::service_worker::ServiceWorker;
 use pg_admin::{AdminBackend, AdminServer};
-use pg_console::{
-    AdminListeners, ControlBackend, HoldsSeat, Pollers, ServiceCommands, ServiceHandle, serve_by,
-};
 use pg_recorder::{CallRecords, RecordedAtOnce, WorkerGate};
 use pg_service::{
     Assignment, ConnectionsWorker, Dial, Mailbox, Poller, ResolverWorker, WorkerHandles,

@@ -1,2 +1,0 @@
--- Definitions that the contracts of a service's workers cite.
-pub mod Kinds
