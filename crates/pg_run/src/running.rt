@@ -29,6 +29,7 @@ use pg_operator::{
 };
 use pg_service::{Address, ConnectionRules, Dial, Guards, Logger};
 use pg_setup::check_setup;
+use pg_shared::{Named, Seat, Shared};
 use pg_subscribers::Port;
 use pg_wire::{PmuId, Refusal, SubId};
 use std::alloc::Global;
@@ -104,7 +105,7 @@ fn run_at<'a, R: Runtime + Alloc<A = Global>>(
         turn: &turn,
         stop,
     };
-    run_by(rt, context, edits, warnings.as_str(), lines)
+    run_by(rt, context, edits, warnings, lines)
 }
 
 /// Serves by the setup of this context, whose edits are posted before anything is listened to. The log has its warnings, a line each.
@@ -112,7 +113,7 @@ fn run_by<'a, R: Runtime + Alloc<A = Global>>(
     rt: &'a R,
     context: RunContext<'a>,
     edits: Vec<Edit>,
-    warnings: &str,
+    warnings: String,
     lines: StandardIo<'a, R>,
 ) -> Result<(), Failure> {
     let alloc = rt.alloc();
@@ -122,10 +123,27 @@ fn run_by<'a, R: Runtime + Alloc<A = Global>>(
         directory,
     } = set_up(rt, alloc, edits, context.recorder)?;
     let state = SharedState::new(alloc, directory)?;
+    serve_logged::<R, Brand>(rt, alloc, &shared, seat, context, warnings, &state, lines)
+}
+
+/// Serves a gateway that is set up, from the first line of the log to the last.
+fn serve_logged<'a, R: Runtime, N: Named + Send>(
+    rt: &'a R,
+    alloc: Global,
+    shared: &'a Shared,
+    seat: Seat,
+    context: RunContext<'a>,
+    warnings: String,
+    state: &'a SharedState,
+    lines: StandardIo<'a, R>,
+) -> Result<(), Failure>
+    requires shared { shared.now ≡ N.table }
+    requires seat { seat.table ≡ N.table }
+{
     let mut plan = bound_plan(rt, alloc, context)?;
     let (now, control) = (plan.now, plan.control.take());
-    begin_log(rt, alloc, context, &state.journal, now, warnings)?;
-    let ended = serve_all::<R, Brand>(rt, alloc, &shared, seat, context, plan, &state, lines);
+    begin_log(rt, alloc, context, &state.journal, now, warnings.as_str())?;
+    let ended = serve_all::<R, N>(rt, alloc, shared, seat, context, plan, state, lines);
     end_log(rt, alloc, context, &state.journal, now);
     remove_control(context.files, control);
     match ended {
