@@ -317,9 +317,10 @@ def links():
 
 def options():
     """The options of each word of the program."""
-    texts = {name: source("pdcgw", name) for name in ("main", "tools", "ctl", "recordings", "explain")}
+    texts = {name: source("pdcgw", name) for name in ("main", "ctl", "recordings", "explain")}
+    texts |= {"tools": source("pg_tools", "command_line"), "demo": source("pg_demo", "command_line")}
     words = {word: set() for word in re.findall(r'Command::new\(alloc, "(\w+)"\)', "".join(texts.values()))}
-    of = {word: between(texts["tools"], f"fn {word}_words", "\n}") for word in ("simulate", "watch", "bridge", "demo")}
+    of = {word: between(texts.get(word, texts["tools"]), f"fn {word}_words", "\n}") for word in ("simulate", "watch", "bridge", "demo")}
     of |= {word: between(texts[word], "fn words", "\n}") for word in ("ctl", "explain")}
     for word, text in of.items():
         file = texts.get(word, texts["tools"])

@@ -1,12 +1,11 @@
 //! The subcommand `explain`: why a subscriber was sent what it was sent.
 
-use crate::options::{OptionWord, valued, with_options};
 use crate::recordings::{ended_by, files_word, reader_of};
 use crate::{Outcome, help};
 use clap::{ArgMatches, Command};
 use pg_log::system_words;
 use pg_recordings::{Fault, Inquiry, explain, read_time};
-use pg_tools::{BadOption, number};
+use pg_tools::{BadOption, OptionWord, number, valued, with_options};
 use pg_wire::{Refusal, StreamId, SubId};
 use std::alloc::{AllocError, Global};
 use std::fs::{File, OpenOptions};

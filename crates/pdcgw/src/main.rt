@@ -4,7 +4,6 @@
 mod ctl;
 mod explain;
 mod help;
-mod options;
 mod recordings;
 mod setup;
 mod tools;
@@ -12,10 +11,11 @@ mod tools;
 use clap::error::ErrorKind;
 use clap::{Arg, ArgMatches, Command};
 use pg_admin::{Signed, say};
+use pg_demo::demo_words;
 use pg_replay::{Fault, replay};
 use pg_run::{Runtime, Start};
 use pg_setup::{Checked, Trouble};
-use pg_tools::BadOption;
+use pg_tools::{BadOption, bridge_words, simulate_words, watch_words};
 use pg_wire::Refusal;
 use std::alloc::{AllocError, Global};
 use std::io::{BufWriter, IsTerminal, StdinLock};
@@ -85,10 +85,10 @@ fn with_recordings<'a>(alloc: Global, command: Command<'a>) -> Result<Command<'a
 /// A command with the tools as subcommands.
 fn with_tools<'a>(alloc: Global, command: Command<'a>) -> Result<Command<'a>, AllocError> {
     command
-        .subcommand(tools::simulate_words(alloc)?)?
-        .subcommand(tools::watch_words(alloc)?)?
-        .subcommand(tools::bridge_words(alloc)?)?
-        .subcommand(tools::demo_words(alloc)?)
+        .subcommand(simulate_words(alloc)?)?
+        .subcommand(watch_words(alloc)?)?
+        .subcommand(bridge_words(alloc)?)?
+        .subcommand(demo_words(alloc)?)
 }
 
 /// The program's own words, where `help` is that of `run`.

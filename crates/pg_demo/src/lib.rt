@@ -2,6 +2,7 @@
 //! What no clause of IEEE C37.118.2 is named for is a rule of this project.
 #![tactic(auto)]
 
+mod command_line;
 mod fault;
 mod keyboard;
 mod run_demo;
@@ -12,5 +13,6 @@ mod state;
 mod subscribers;
 mod workers;
 
+pub use command_line::{DemoError, demo_by, demo_words};
 pub use fault::Fault;
 pub use run_demo::{DemoOptions, demo};

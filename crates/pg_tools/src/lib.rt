@@ -5,6 +5,7 @@
 
 mod bridge_options;
 mod bridge_stream;
+mod command_line;
 mod converter;
 mod csv_lines;
 mod demo_phases;
@@ -13,6 +14,7 @@ mod demo_verdict;
 mod expected_frames;
 mod expected_streams;
 mod fault;
+mod help;
 mod holdover;
 mod influx_lines;
 mod json_lines;
@@ -23,6 +25,7 @@ mod line_writer;
 mod lines;
 mod measuring;
 mod name_text;
+mod options;
 mod output_poll;
 mod reading;
 mod repeat;
@@ -44,6 +47,9 @@ mod wave;
 
 pub use bridge_options::{BridgeArgs, BridgeOptions, Format, read_bridge_options};
 pub use bridge_stream::bridge;
+pub use command_line::{
+    PLAIN, ToolError, bridge_by, bridge_words, simulate_by, simulate_words, watch_by, watch_words,
+};
 pub use converter::{BridgeCounts, Converter, Ending, Instants};
 pub use demo_phases::{DemoFacts, DemoPhase, PhaseMachine};
 pub use demo_sources::{DEMO_RATE, DEMO_SOURCES, demo_settings, frame_len};
@@ -53,6 +59,7 @@ pub use expected_streams::ExpectedStreams;
 pub use fault::Fault;
 pub use line_queue::{Content, Entry, Gap, LineQueue, Why};
 pub use measuring::add_measured;
+pub use options::{OptionWord, valued, with_options};
 pub use retry::{RETRY_TIMEOUT, Retry};
 pub use settings::{
     BadOption, Channels, Nominal, Numbers, Settings, SimulateArgs, SimulateOptions, address,

@@ -1,4 +1,4 @@
-//! The options of the subcommands.
+//! Options of a subcommand, as `clap` takes them.
 
 use clap::{Arg, ArgAction, Command};
 use std::alloc::{AllocError, Global};
