@@ -706,6 +706,23 @@ class Gateway:
         same(self.ended(), 0, "status at quit")
 
 
+class SetClock:
+    """This machine's clock, as the program has it that these words run: it may be set. The C compiler `cc` makes the library for that."""
+
+    def __init__(self, folder):
+        library, source = f"{folder}/clock.so", os.path.join(os.path.dirname(os.path.abspath(__file__)), "clock.c")
+        subprocess.run(["cc", "-O1", "-shared", "-fPIC", "-o", library, source, "-ldl"], check=True)
+        self.file = f"{folder}/clock"
+        self.words = ("env", f"LD_PRELOAD={library}", f"CLOCK_FILE={self.file}")
+        with open(self.file, "wb") as f:
+            f.write(bytes(8))
+
+    def ahead(self, seconds):
+        """It is so many seconds ahead from now on."""
+        with open(self.file, "r+b") as f:
+            f.write(struct.pack("=q", seconds))
+
+
 def http(port, path, host="127.0.0.1", method="GET"):
     """The answer to a request of the page's host: its head, and its body."""
     with socket.create_connection((host, port), PATIENCE) as peer:

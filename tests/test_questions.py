@@ -4,7 +4,7 @@ import re
 import subprocess
 import time
 
-from peers import DATA, RATE, block, expect, frame, pmu, same, stamp, stream, subscriber, takes, until
+from peers import DATA, RATE, SetClock, block, expect, frame, pmu, same, stamp, stream, subscriber, takes, until
 
 
 def printed(bench, *words):
@@ -226,4 +226,21 @@ def test_late_data_are_logged(bench):
     gateway.logs(r"INFO source 9: data come within `wait` again: subscriber 20, stream 1: 99% within \d+ ms of the first member, `wait` is 400 ms")
     same(gateway.logged(late), 1)
     same(gateway.logged(r".*data come .*`wait`.*"), 2)
+    gateway.quit()
+
+
+@takes(28)
+def test_where_the_clock_is_set_no_data_are_late(bench):
+    """This machine's clock is set ahead: delays by both clocks are looked at together, and neither source is named for that."""
+    seven, nine, clock = bench.live(7), bench.live(9), SetClock(bench.folder)
+    text = pmu(7, connect=seven.address) + pmu(9, connect=nine.address) + subscriber(20, grants=[7, 9]) + stream(1, [7, 9], wait=10)
+    gateway = bench.gateway(text, words=clock.words)
+    for source in (seven, nine):
+        gateway.line(f"source {source.idcode}: announced")
+    time.sleep(3)
+    clock.ahead(20)
+    until(lambda: re.search(r" delay \d+ 20\d\d\d 20\d\d\d ms ", gateway.status()["pmu 7/7"]), "delays by the clock that was set")
+    # It is looked at the delays each ten seconds.
+    time.sleep(21)
+    same(gateway.logged(r".*data come .*`wait`.*"), 0)
     gateway.quit()

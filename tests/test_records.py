@@ -179,10 +179,14 @@ def short_recording(bench):
 def test_what_was_changed_is_found(bench):
     """A file without its last bytes, one with a changed byte, and one that is no recording: `verify` says what is missing, and ends with 1."""
     folder = short_recording(bench)
-    verified(bench, folder)
+    found = verified(bench, folder)
     path = files_in(folder)[-1]
     with open(path, "rb") as f:
         whole = f.read()
+    # From a pipe, which can be read once.
+    piped = b"".join(block for it in files_in(folder) for _, block in blocks_in(it))
+    status, out, _ = tool(bench, "verify", ["/dev/stdin"], piped)
+    same((status, verdict_in(out)), (0, found), f"`verify` of a pipe: {out}")
     for changed, pattern in [(whole[:-5], r"ends within a block, \d+ bytes of it are there and left out"),
                              (whole[:100] + bytes([whole[100] ^ 1]) + whole[101:], r"the block at byte 0 was changed, its records are left out"),
                              (b"x" + whole[1:], r"no block begins at byte 0, the rest of the file is left out")]:
@@ -191,6 +195,8 @@ def test_what_was_changed_is_found(bench):
         status, out, _ = tool(bench, "verify", files_in(folder))
         same(status, 1, f"`verify` of changed bytes: {out}")
         expect(re.search(re.escape(path) + ": " + pattern, out), f"{pattern} in {out}")
+        status, out, _ = tool(bench, "script", files_in(folder))
+        expect(status == 1 and re.search("# " + re.escape(path) + ": " + pattern, out), f"{pattern} in the script, with status {status}")
     with open(path, "wb") as f:
         f.write(whole)
     verified(bench, folder)
@@ -248,6 +254,51 @@ def test_behind_missing_blocks(bench):
     expect(status == 1 and found["missing"] > 10 and lines[0].startswith("missing: places "), out)
     same((found["differing"], found["answers"]), (0, 0), out)
     expect(any(re.fullmatch(LEFT_OUT, it) for it in lines) and found["drains"] > 30, out)
+    status, out, errors = tool(bench, "script", files_in(folder))
+    same((status, errors, "# missing: places " in out), (1, "", True), "`script` of what is not whole")
+
+
+@takes(4)
+def test_old_files_go_two_at_a_time(bench):
+    """This machine's clock may be set far ahead: of five files that are older than `record_hours` two are removed where one is begun."""
+    folder = folder_of(bench)
+    old = [f"{folder}/2025010{it}T000000.000Z.pdcrec" for it in range(1, 6)]
+    for path in old:
+        open(path, "wb").close()
+        os.utime(path, (0, 0))
+    text, taps = service(bench, folder, more="record_hours = 1\n")
+    bench.gateway(text).serves(1, 2, 3)
+    until(lambda: len(files_in(folder)) == 4, "the files of which one was begun and two were removed")
+    time.sleep(0.5)
+    same(files_in(folder)[:-1], old[2:], "the files that are left")
+
+
+@takes(8)
+def test_a_clock_that_is_set_back(bench):
+    """This machine's clock is two hours ahead at first, as by its hardware, and set back while the service runs: `verify` finds all that was recorded,
+    and `explain` the frames of a second behind that, as where the clock was right."""
+    folder = folder_of(bench)
+    text, taps = service(bench, folder)
+    gateway = bench.gateway(text).serves(1, 2, 3)
+    taps[1].connect(101)
+    taps[2].connect(201, 202)
+    taps[1].comes(3000)
+    first = int(time.time()) + 1
+    taps[1].comes(9000)
+    for number, streams in ((1, [101]), (2, [201, 202])):
+        taps[number].stop(*streams)
+    gateway.quit()
+    whole = verified(bench, folder)
+    begin, end = (time.strftime("%Y-%m-%dT%H:%M:%SZ", time.gmtime(it)) for it in (first, first + 1))
+    asked = [*files_in(folder), "--subscriber", "1", "--stream", "101", "--from", begin, "--to", end]
+    status, wanted, _ = tool(bench, "explain", asked)
+    expect(status == 0 and wanted.count("\n") > 20, wanted)
+    # (By the time of its first block a recording is known.)
+    begun_later(files_in(folder), blocks_in(files_in(folder)[0])[0][0] + 0.001, 7_200)
+    begun_later(files_in(folder), first + 7_200 - 0.5, -7_200)
+    same(verified(bench, folder), whole, "`verify` where the clock was set back")
+    status, out, errors = tool(bench, "explain", asked)
+    same((status, errors, out), (0, "", wanted), "`explain` where the clock was set back")
 
 
 @takes(4)
@@ -304,6 +355,9 @@ def test_without_its_first_files(bench):
     taps[1].stop(101)
     gateway.quit()
     whole, files = verified(bench, folder), files_in(folder)
+    # By their names the files of a clock that was set back come in another order.
+    status, out, errors = tool(bench, "verify", files[::-1])
+    same((status, errors, out.count("\n"), verdict_in(out)), (0, "", 1, whole), f"`verify` of the files in another order: {out}")
     status, out, errors = tool(bench, "verify", files[2:])
     lines, found = out.splitlines(), verdict_in(out)
     same((status, errors, len(lines)), (0, "", 3), out)

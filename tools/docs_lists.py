@@ -317,11 +317,11 @@ def links():
 
 def options():
     """The options of each word of the program."""
-    texts = {name: source("pdcgw", name) for name in ("main", "ctl", "recordings", "explain")}
-    texts |= {"tools": source("pg_tools", "command_line"), "demo": source("pg_demo", "command_line")}
+    texts = {name: source("pdcgw", name) for name in ("main", "ctl")}
+    texts |= {"tools": source("pg_tools", "command_line"), "demo": source("pg_demo", "command_line"), "explain": source("pg_recordings", "command_line")}
     words = {word: set() for word in re.findall(r'Command::new\(alloc, "(\w+)"\)', "".join(texts.values()))}
-    of = {word: between(texts.get(word, texts["tools"]), f"fn {word}_words", "\n}") for word in ("simulate", "watch", "bridge", "demo")}
-    of |= {word: between(texts[word], "fn words", "\n}") for word in ("ctl", "explain")}
+    of = {word: between(texts.get(word, texts["tools"]), f"fn {word}_words", "\n}") for word in ("simulate", "watch", "bridge", "demo", "explain")}
+    of["ctl"] = between(texts["ctl"], "fn words", "\n}")
     for word, text in of.items():
         file = texts.get(word, texts["tools"])
         for table in re.findall(r"&([A-Z]+)\)", text):

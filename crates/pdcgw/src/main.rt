@@ -2,7 +2,6 @@
 #![tactic(auto)]
 
 mod ctl;
-mod explain;
 mod help;
 mod recordings;
 mod setup;
@@ -12,6 +11,7 @@ use clap::error::ErrorKind;
 use clap::{Arg, ArgMatches, Command};
 use pg_admin::{Signed, say};
 use pg_demo::demo_words;
+use pg_recordings::{explain_words, script_words, verify_words};
 use pg_replay::{Fault, replay};
 use pg_run::{Runtime, Start};
 use pg_setup::{Checked, Trouble};
@@ -77,9 +77,9 @@ fn with_gateway<'a>(
 /// A command with the subcommands for recordings.
 fn with_recordings<'a>(alloc: Global, command: Command<'a>) -> Result<Command<'a>, AllocError> {
     command
-        .subcommand(recordings::script_words(alloc)?)?
-        .subcommand(recordings::verify_words(alloc)?)?
-        .subcommand(explain::words(alloc)?)
+        .subcommand(script_words(alloc)?)?
+        .subcommand(verify_words(alloc)?)?
+        .subcommand(explain_words(alloc)?)
 }
 
 /// A command with the tools as subcommands.
@@ -148,8 +148,8 @@ fn do_words<R: Files + Env + Runtime + Alloc<A = Global>>(
     match work {
         "ctl" => return ctl::run(rt, files, words),
         "script" => return recordings::script(rt, files, words),
-        "verify" => return recordings::verify_files(rt, files, words),
-        "explain" => return explain::run(rt, files, words),
+        "verify" => return recordings::verify(rt, files, words),
+        "explain" => return recordings::explain(rt, files, words),
         "simulate" => return tools::simulate(rt, words),
         "watch" => return tools::watch(rt, words, is_terminal),
         "bridge" => return tools::bridge(rt, words),
@@ -238,7 +238,7 @@ fn status_of(printed: io::Result<()>) -> ExitCode {
 }
 
 /// Prints the refusal by which the program ends: what is known of it, or else what it means, and then its number and name.
-fn ended_by<R: Eprint>(rt: &R, text: &str, refusal: Refusal) -> ExitCode {
+fn print_refusal<R: Eprint>(rt: &R, text: &str, refusal: Refusal) -> ExitCode {
     if text.is_empty() {
         let _ = eprintln!(rt; "pdcgw: {}", say(refusal));
     } else {
@@ -257,8 +257,8 @@ fn main(rt: HostRuntime) -> ExitCode {
             status_of(print!(rt; "{}", checked.report.as_str()))
         }
         Outcome::Asked(text) => status_of(print!(rt; "{text}")),
-        Outcome::Failed(refusal) => ended_by(&rt, "", refusal),
-        Outcome::Unfit(trouble) => ended_by(&rt, trouble.told.as_str(), trouble.refusal),
+        Outcome::Failed(refusal) => print_refusal(&rt, "", refusal),
+        Outcome::Unfit(trouble) => print_refusal(&rt, trouble.told.as_str(), trouble.refusal),
         Outcome::Misused(error) => {
             let _ = eprint!(rt; "{error}");
             ExitCode::from(2)

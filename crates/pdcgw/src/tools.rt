@@ -16,7 +16,7 @@ pub fn simulate<R: Net + Clock + Print + Alloc<A = Global>>(
 ) -> Outcome {
     match simulate_by(rt, words) {
         Ok(()) => Outcome::Done,
-        Err(error) => ended_by(error),
+        Err(error) => tool_outcome(error),
     }
 }
 
@@ -29,7 +29,7 @@ pub fn watch<R: Net + Clock + Files + Print + Eprint + Alloc<A = Global>>(
     match watch_by(rt, words, is_terminal) {
         Ok(true) => Outcome::Done,
         Ok(false) => Outcome::Troubled(String::new(rt.alloc())),
-        Err(error) => ended_by(error),
+        Err(error) => tool_outcome(error),
     }
 }
 
@@ -40,7 +40,7 @@ pub fn bridge<R: Net + Clock + Print + Eprint + Alloc<A = Global>>(
 ) -> Outcome {
     match bridge_by(rt, words) {
         Ok(()) => Outcome::Done,
-        Err(error) => ended_by(error),
+        Err(error) => tool_outcome(error),
     }
 }
 
@@ -58,8 +58,8 @@ pub fn demo<R: Files + Runtime + Alloc<A = Global>>(
     }
 }
 
-/// What a tool ended by.
-fn ended_by(error: ToolError) -> Outcome {
+/// How the program ends where a tool ended by an error.
+fn tool_outcome(error: ToolError) -> Outcome {
     match error {
         ToolError::BadOption(option) => Outcome::Misworded(option),
         ToolError::Fault(fault) => Outcome::Fallen(fault),

@@ -6,18 +6,25 @@ use pg_gateway::Edit;
 use pg_log::{Detail, Entry, LogEvent, Subject};
 use pg_service::{Reports, SourceReport, StreamPace, behind_of, is_late_after};
 use pg_shared::Work;
+use pg_sources::clock_ms;
 use pg_stream::Definition;
 use pg_wire::{PmuId, Refusal, StreamId, SubId};
 use std::alloc::{AllocError, Global};
 use std::rt::Clock;
 use std::sync::Wait;
-use std::time::Duration;
+use std::time::{Duration, Instant};
 use std::{mem, thread};
 
 /// How long a turn waits, in milliseconds, and after how many it is looked at the delays: each 10 seconds.
 const WAIT_MS: u64 = 500;
 
 const WAITS: u32 = 20;
+
+/// How many milliseconds this machine's clock may go on unlike the time that passes from turn to turn; if it is more, the clock was set.
+const SET_MS: u64 = 200;
+
+/// How many looks are left out then: delays of 70 seconds, by the clock before and behind that, are looked at together.
+const LEFT_OUT: u32 = 8;
 
 /// A source whose data come too late for a stream.
 #[derive(Clone, Copy, PartialEq, Eq)]
@@ -28,7 +35,7 @@ struct LateSource {
 }
 
 /// A worker that looks each 10 seconds at the delays of the last minute, and logs where the 99th per cent of a source's has risen above what the `wait`
-/// of a stream allows, and where it is well again.
+/// of a stream allows, and where it is well again. Where this machine's clock was set, it leaves out the looks at delays by both clocks.
 #[derive(Drop)]
 pub struct DelayWatch<'a, R> {
     rt: &'a R,
@@ -37,6 +44,9 @@ pub struct DelayWatch<'a, R> {
     waits: u32,
     // Those that were late at the last look.
     late: Vec<LateSource>,
+    // When the last turn was, and this machine's clock then: milliseconds since 1970-01-01 00:00 UTC. And how many looks are left out.
+    seen: Option<(Instant, u64)>,
+    left_out: u32,
 }
 
 impl<'a, R: Wait + Clock> DelayWatch<'a, R> {
@@ -48,6 +58,30 @@ impl<'a, R: Wait + Clock> DelayWatch<'a, R> {
             service,
             waits: 0,
             late: Vec::new(alloc),
+            seen: None,
+            left_out: 0,
+        }
+    }
+
+    /// Whether this machine's clock was set since this was asked last.
+    fn was_set(&mut self) -> bool {
+        let (Ok(now), Some(clock)) = (Instant::now(self.rt), clock_ms(self.rt)) else {
+            return false;
+        };
+        let Some((then, before)) = mem::replace(&mut self.seen, Some((now, clock))) else {
+            return false;
+        };
+        let passed = now.saturating_duration_since(then).as_millis();
+        let passed = u64::try_from(passed).unwrap_or(u64::MAX);
+        clock.abs_diff(before.saturating_add(passed)) > SET_MS
+    }
+
+    /// It is time to look at the delays, unless looks are left out.
+    fn look_if_due(&mut self) {
+        if self.left_out > 0 {
+            self.left_out -= 1;
+        } else if self.look().is_err() {
+            self.service.note(LogEvent::MailFault);
         }
     }
 
@@ -117,12 +151,13 @@ impl<'a, R: Wait + Clock> DelayWatch<'a, R> {
 impl<R: Wait + Clock> Work for DelayWatch<'_, R> {
     fn turn(&mut self) -> bool {
         thread::sleep(self.rt, Duration::from_millis(WAIT_MS));
+        if self.was_set() {
+            self.left_out = LEFT_OUT;
+        }
         self.waits = self.waits.saturating_add(1);
         if self.waits >= WAITS {
             self.waits = 0;
-            if self.look().is_err() {
-                self.service.note(LogEvent::MailFault);
-            }
+            self.look_if_due();
         }
         true
     }

@@ -227,12 +227,39 @@ fn merged_by_place(rt: HostRuntime) -> Result<(), Fail> {
     assert!(rt; matches!(merge.next(false), Merged::More));
     add_ticks(&rt, alloc, &mut merge, 1_000, &[0, 2])?;
     are_next(&rt, &mut merge, 0, 3);
-    // Place 3 may come with a block that is begun until ten seconds behind the call at place 4.
-    add_ticks(&rt, alloc, &mut merge, 11_002, &[6])?;
+    // Place 3 may come with a block that is begun until ten seconds behind that with place 4.
+    add_ticks(&rt, alloc, &mut merge, 6_000, &[6])?;
+    add_ticks(&rt, alloc, &mut merge, 11_000, &[7])?;
     assert!(rt; matches!(merge.next(false), Merged::More) && merge.place() == 3);
-    add_ticks(&rt, alloc, &mut merge, 11_003, &[7])?;
+    add_ticks(&rt, alloc, &mut merge, 11_001, &[8])?;
     assert!(rt; matches!(merge.next(false), Merged::Gap(3, 4)));
-    are_next(&rt, &mut merge, 4, 8);
+    are_next(&rt, &mut merge, 4, 9);
+    Ok(())
+}
+
+/// Where this machine's clock is set back or ahead, records that wait for those of lower places still do, and what is missing is a gap ten seconds
+/// behind that.
+#[test]
+fn merged_where_the_clock_is_set(rt: HostRuntime) -> Result<(), Fail> {
+    let alloc = rt.alloc();
+    let mut merge = Merge::new(alloc, 0);
+    add_ticks(&rt, alloc, &mut merge, 7_200_000, &[0])?;
+    add_ticks(&rt, alloc, &mut merge, 7_200_100, &[1, 4])?;
+    are_next(&rt, &mut merge, 0, 2);
+    add_ticks(&rt, alloc, &mut merge, 200, &[3])?;
+    assert!(rt; matches!(merge.next(false), Merged::More) && merge.place() == 2);
+    // A block that was begun before, and comes behind it.
+    add_ticks(&rt, alloc, &mut merge, 7_200_150, &[2, 5])?;
+    are_next(&rt, &mut merge, 2, 6);
+    add_ticks(&rt, alloc, &mut merge, 1_000, &[7])?;
+    add_ticks(&rt, alloc, &mut merge, 3_601_000, &[8])?;
+    assert!(rt; matches!(merge.next(false), Merged::More) && merge.place() == 6);
+    add_ticks(&rt, alloc, &mut merge, 3_606_000, &[9])?;
+    add_ticks(&rt, alloc, &mut merge, 3_611_000, &[10])?;
+    assert!(rt; matches!(merge.next(false), Merged::More) && merge.place() == 6);
+    add_ticks(&rt, alloc, &mut merge, 3_611_001, &[11])?;
+    assert!(rt; matches!(merge.next(false), Merged::Gap(6, 7)));
+    are_next(&rt, &mut merge, 7, 12);
     Ok(())
 }
 

@@ -4,5 +4,6 @@ pub mod Records
 pub mod Blocks
 pub mod Checksums
 pub mod Taping
+pub mod Elapsing
 pub mod Merging
 pub mod Rows

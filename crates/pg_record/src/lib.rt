@@ -5,6 +5,7 @@
 
 mod block;
 mod checksum;
+mod elapsed;
 mod laws;
 mod merge;
 mod numbers;
@@ -16,6 +17,7 @@ pub use block::{
     BLOCK_HEAD, BlockHead, FoundBlock, PRELUDE, block_head, next_block, read_block_head,
 };
 pub use checksum::{short_sum, sum};
+pub use elapsed::Elapsed;
 pub use laws::{block_head_is_read, record_is_read};
 pub use merge::{Merge, Merged, Timed};
 pub use record::{

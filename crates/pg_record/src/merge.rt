@@ -4,12 +4,13 @@ ghost use Rattle.std.specs.Prelude.{◌≡◌, ◌<◌, ℕ, suc, IfOk, IfErr};
 ghost use Rattle.pg_record.specs.Merging.{Steps};
 
 use crate::block::BlockHead;
+use crate::elapsed::Elapsed;
 use crate::record::{Record, read_record};
 use std::alloc::{AllocError, Global};
 use std::collections::BTreeMap;
 use std::marker::Model;
 
-/// How many milliseconds after a call the block with its record may have been begun at most. A place that is missing for longer is a gap.
+/// How many milliseconds the blocks go on behind a record before a lower place that is missing is a gap.
 const LATEST: u64 = 10_000;
 
 /// A record with the time of its call.
@@ -34,14 +35,22 @@ pub enum Merged {
     More,
 }
 
+/// A record that waits for those of lower places.
+#[derive(Drop)]
+struct Waiting {
+    timed: Timed,
+    // For how many milliseconds the blocks had gone on when it came.
+    since: u64,
+}
+
 /// Records that wait for those of lower places.
 #[derive(Drop)]
 pub struct Merge {
     alloc: Global,
-    waiting: BTreeMap<u64, Timed>,
+    waiting: BTreeMap<u64, Waiting>,
     next: u64,
-    // When the newest block was begun.
-    newest: u64,
+    // How long the blocks have gone on.
+    elapsed: Elapsed,
     repeated: u64,
 }
 
@@ -62,7 +71,7 @@ impl Merge {
             alloc,
             waiting: BTreeMap::new(alloc),
             next,
-            newest: 0,
+            elapsed: Elapsed::new(),
             repeated: 0,
         }
     }
@@ -87,7 +96,7 @@ impl Merge {
     pub fn add(&mut self, head: &BlockHead, records: &[u8]) -> Result<usize, AllocError>
         ensures { self.new ≡ self.old }
     {
-        self.newest = self.newest.max(head.start);
+        self.elapsed.go_on(head.start);
         let mut rest = records;
         'records: for _ in 0..records.len() {
             let Some((record, body, behind)) = read_record(rest) else {
@@ -114,22 +123,26 @@ impl Merge {
             at: start.saturating_add(u64::from(record.at)),
             body: kept,
         };
-        match self.waiting.insert(record.place, timed) {
+        let waiting = Waiting {
+            timed,
+            since: self.elapsed.passed,
+        };
+        match self.waiting.insert(record.place, waiting) {
             Ok(_) => Ok(()),
             Err(_) => Err(AllocError),
         }
     }
 
     /// The record of the next place, or the gap before the next record, where that can't come any more: since no more blocks are to come,
-    /// or since the newest one was begun more than 10 s behind the call of that record.
+    /// or since the blocks have gone on for more than 10 s behind that record. Where this machine's clock was set, no time passes.
     pub fn next(&mut self, is_ended: bool) -> Merged
         ensures { Steps self.old result self.new }
     {
-        let Some((place, at)) = self.first() else {
+        let Some((place, since)) = self.first() else {
             return Merged::More;
         };
         if place == self.next {
-            let Some((_, mut timed)) = self.waiting.pop_first() else {
+            let Some((_, Waiting { mut timed, .. })) = self.waiting.pop_first() else {
                 return Merged::More;
             };
             // It waited under its place.
@@ -137,7 +150,7 @@ impl Merge {
             self.next = self.next.saturating_add(1);
             return Merged::Record(timed);
         }
-        if place > self.next && (is_ended || self.newest > at.saturating_add(LATEST)) {
+        if place > self.next && (is_ended || self.elapsed.passed > since.saturating_add(LATEST)) {
             let from = self.next;
             self.next = place;
             return Merged::Gap(from, place);
@@ -145,9 +158,9 @@ impl Merge {
         Merged::More
     }
 
-    /// The lowest place of a record that waits, and when it was posted.
+    /// The lowest place of a record that waits, and for how long the blocks had gone on when it came.
     fn first(&self) -> Option<(u64, u64)> {
-        let (place, timed) = self.waiting.first_key_value()?;
-        Some((*place, timed.at))
+        let (place, waiting) = self.waiting.first_key_value()?;
+        Some((*place, waiting.since))
     }
 }

@@ -10,7 +10,7 @@ use Rattle.pg_record.specs.Taping.{Taped, ended, ended_drain}
 pub record Taping : Type 0 where
   -- the calls that a thread recorded and has not handed over
   pub tape : Taped
-  -- the milliseconds of the clock that the thread goes by, which no clause says when to read; and those when the first of them was begun
+  -- the thread's clock in milliseconds, which no clause says when to read, and what it was when the first of these calls was begun
   pub clock : ℕ
   pub start : ℕ
   -- what the record of the next question says of ignored frames

@@ -24,6 +24,9 @@ const MOST: u64 = 256_000_000;
 /// For how many milliseconds a segment is written at most.
 const SPAN_MS: u64 = 3_600_000;
 
+/// How many segments are removed for their age where one is begun: so not all go at once where this machine's clock is set far ahead.
+const AGED: u32 = 2;
+
 /// How long nothing is written after an error, in milliseconds.
 const RETRY_MS: u64 = 10_000;
 
@@ -237,10 +240,11 @@ impl<'a> Segments<'a> {
         Ok(true)
     }
 
-    /// Removes the oldest segments while there are more bytes than are kept, or they are older than they are kept. A segment that can't be
-    /// removed is not looked at any more.
+    /// Removes the oldest segments while there are more bytes than are kept, and two at most that are older than they are kept. A segment that
+    /// can't be removed is not looked at any more.
     fn remove_oldest(&mut self, now: u64) {
         let part = self.part();
+        let mut left = AGED;
         for _ in 0..self.kept.len() {
             let mut size: u64 = 0;
             for kept in &self.kept {
@@ -249,9 +253,12 @@ impl<'a> Segments<'a> {
             let Some(oldest) = self.kept.front() else {
                 return;
             };
-            let is_old = now.saturating_sub(oldest.until) >= self.span;
-            if size.saturating_add(part) <= self.room && !is_old {
-                return;
+            if size.saturating_add(part) <= self.room {
+                let is_old = now.saturating_sub(oldest.until) >= self.span;
+                if !is_old || left == 0 {
+                    return;
+                }
+                left -= 1;
             }
             if let Ok(path) = self.path_of(oldest.name.as_str()) {
                 let _ = fs::remove_file(self.files, path.as_str());

@@ -2,7 +2,7 @@
 
 use crate::capture::Capture;
 use crate::explained::{Form, Totals, print_frame, print_heading};
-use crate::fates::{Causes, Fate, Handing, MadeFrame, Place, StreamTrack};
+use crate::fates::{Causes, Fate, Handing, MadeFrame, Place, StreamTrack, is_quiet};
 use crate::input::{command, four};
 use crate::reader::{Fault, RecordReader, Start, Step};
 use crate::replayed::Replayed;
@@ -10,7 +10,7 @@ use crate::script::{flush, notice_text, print_comment, start_text};
 use pg_audit::PmuStats;
 use pg_data::DataFrame;
 use pg_gateway::{Event, Reply};
-use pg_record::{RecordKind, Timed};
+use pg_record::{Elapsed, RecordKind, Timed};
 use pg_wire::{Deframer, Kind, PmuKey, Refusal, StreamId, SubId, Taken, is_frame, read_head};
 use std::alloc::{AllocError, Global};
 use std::collections::VecDeque;
@@ -81,6 +81,9 @@ struct Explanation<C> {
     replayed: Replayed,
     // Whether a recording has begun: a start behind it is another one of the service.
     is_begun: bool,
+    // How long the recordings have gone on, and for how many milliseconds when the last one began.
+    elapsed: Elapsed,
+    since: u64,
     streams: Vec<StreamTrack>,
     // Those that are not printed yet.
     frames: VecDeque<MadeFrame>,
@@ -114,11 +117,15 @@ impl Inquiry {
 
     /// Whether a frame with this time is asked for.
     fn asks_for(&self, stream: StreamId, time: u64) -> bool {
-        let is_stream = match self.stream {
+        self.is_of(stream) && self.is_within(time)
+    }
+
+    /// Whether it is asked for this stream.
+    fn is_of(&self, stream: StreamId) -> bool {
+        match self.stream {
             Some(asked) => asked == stream,
             None => true,
-        };
-        is_stream && self.is_within(time)
+        }
     }
 
     /// Whether it is asked for this time.
@@ -142,6 +149,8 @@ impl<C: Write + Drop> Explanation<C> {
             inquiry,
             replayed: Replayed::new(alloc)?,
             is_begun: false,
+            elapsed: Elapsed::new(),
+            since: 0,
             streams: Vec::new(alloc),
             frames: VecDeque::new(alloc),
             handed,
@@ -193,19 +202,37 @@ impl<C: Write + Drop> Explanation<C> {
 
     /// Posts what was recorded, and prints the frames of which nothing is to come any more.
     fn take_and_print<W: Write>(&mut self, timed: &Timed, out: &mut W) -> Result<(), Fault> {
+        self.elapsed.go_on(timed.at);
         self.take(timed)?;
         self.print_settled(timed.at, out)
     }
 
     /// Whether all frames that are asked for have left, and are settled.
     fn is_over(&self, now: u64) -> bool {
-        self.frames.is_empty() && now >= self.inquiry.to.saturating_add(2 * LATEST_MS)
+        if !self.frames.is_empty() {
+            return false;
+        }
+        let end = self.inquiry.to.saturating_add(2 * LATEST_MS);
+        let passed = self.elapsed.passed;
+        let (mut is_any, mut are_past) = (false, true);
+        for track in &self.streams {
+            if self.inquiry.is_of(track.id) {
+                is_any = true;
+                are_past &= track.is_past(end, now, passed);
+            }
+        }
+        if is_any {
+            are_past
+        } else {
+            now >= end && is_quiet(self.since, passed)
+        }
     }
 
     /// Begins a recording. What waited at the end of one before it is not handed out any more.
     fn begin<W: Write>(&mut self, start: Start, out: &mut W) -> Result<(), Fault> {
         let is_first = !self.is_begun;
         self.is_begun = true;
+        self.since = self.elapsed.passed;
         if !is_first {
             self.begin_again(start.at)?;
         }
@@ -278,7 +305,8 @@ impl<C: Write + Drop> Explanation<C> {
         Ok(match event {
             Event::Measure(frame) => Concern::Blocks(self.expect(frame)?),
             Event::Define(it, definition) if *it == subscriber => {
-                Concern::Defines(StreamTrack::new(self.alloc, definition)?)
+                let passed = self.elapsed.passed;
+                Concern::Defines(StreamTrack::new(self.alloc, definition, passed)?)
             }
             Event::Remove(it, stream) if *it == subscriber => Concern::Removes(*stream),
             Event::DropSub(it) if *it == subscriber => Concern::Leaves,
@@ -572,6 +600,7 @@ impl<C: Write + Drop> Explanation<C> {
                 continue;
             };
             let time = track.time_of(slot);
+            track.note_left(time, self.elapsed.passed);
             let fates = if self.inquiry.asks_for(id, time) {
                 track.take(self.alloc, slot)?
             } else {

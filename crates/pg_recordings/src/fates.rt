@@ -9,6 +9,9 @@ use std::collections::VecDeque;
 /// How many slots without a frame are kept of a stream.
 const MOST_OPEN: usize = 4_096;
 
+/// For how many milliseconds a stream has no frame before none is waited for.
+const QUIET_MS: u64 = 600_000;
+
 /// What became of a member's block in a slot. Times are milliseconds since 1970-01-01 00:00 UTC.
 #[derive(Clone, Copy, PartialEq, Eq)]
 pub(crate) enum Fate {
@@ -141,6 +144,11 @@ impl Causes {
     }
 }
 
+/// Whether a recording goes on for so long since it had gone on for `since` milliseconds that no frame is waited for.
+pub(crate) fn is_quiet(since: u64, passed: u64) -> bool {
+    passed >= since.saturating_add(QUIET_MS)
+}
+
 /// How a member of a stream stands.
 #[derive(Clone, Copy)]
 pub(crate) struct Place {
@@ -169,11 +177,18 @@ pub(crate) struct StreamTrack {
     pub(crate) places: Vec<Place>,
     pub(crate) causes: Causes,
     open: VecDeque<OpenSlot>,
+    // The time of its newest frame that has left, and for how many milliseconds the recording had gone on then.
+    newest: u64,
+    since: u64,
 }
 
 impl StreamTrack {
-    /// A stream that is defined so.
-    pub(crate) fn new(alloc: Global, definition: &Definition) -> Result<StreamTrack, AllocError> {
+    /// A stream that is defined so, once the recording has gone on for so many milliseconds.
+    pub(crate) fn new(
+        alloc: Global,
+        definition: &Definition,
+        passed: u64,
+    ) -> Result<StreamTrack, AllocError> {
         Ok(StreamTrack {
             id: definition.stream,
             rate: definition.rate,
@@ -183,7 +198,21 @@ impl StreamTrack {
             places: Vec::new(alloc),
             causes: Causes::none(),
             open: VecDeque::new(alloc),
+            newest: 0,
+            since: passed,
         })
+    }
+
+    /// A frame of this time has left, once the recording has gone on for so many milliseconds.
+    pub(crate) fn note_left(&mut self, time: u64, passed: u64) {
+        self.newest = self.newest.max(time);
+        self.since = passed;
+    }
+
+    /// Whether no frame before `end` is to come any more: one of that time or later has left, or this machine's clock is past it and none has left for
+    /// ten minutes. (The clock alone does not say so, since it may be ahead, and be set back.)
+    pub(crate) fn is_past(&self, end: u64, now: u64, passed: u64) -> bool {
+        self.newest >= end || (now >= end && is_quiet(self.since, passed))
     }
 
     /// The slot of this time, of which `frac` is in parts of `base`.

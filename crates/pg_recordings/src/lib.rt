@@ -4,9 +4,11 @@
 #![tactic(auto)]
 
 mod capture;
+mod command_line;
 mod explained;
 mod explanation;
 mod fates;
+mod help;
 mod input;
 mod laws;
 mod line;
@@ -15,6 +17,9 @@ mod replayed;
 mod script;
 mod verification;
 
+pub use command_line::{
+    RecordingsError, explain_by, explain_words, script_by, script_words, verify_by, verify_words,
+};
 pub use explained::Totals;
 pub use explanation::{Inquiry, explain};
 pub use input::input_of;

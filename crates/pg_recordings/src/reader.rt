@@ -5,9 +5,10 @@ use pg_record::{
     sum,
 };
 use std::alloc::{AllocError, AllocFailed, Global};
+use std::cmp::Ordering;
 use std::fs::{File, OpenOptions};
-use std::io;
 use std::io::{BufReader, ErrorKind, Read};
+use std::{fs, io};
 use thiserror::Error;
 
 /// Why files can't be read.
@@ -118,22 +119,31 @@ pub struct RecordReader<'a> {
 }
 
 impl<'a> RecordReader<'a> {
-    /// A reader of these files, in the order in which they were written.
-    pub fn new(files: &'a HostRuntime, alloc: Global, paths: Vec<String>) -> RecordReader<'a> {
-        RecordReader {
+    /// A reader of these files. Those of one recording are read in the order of their places, since by their names they are not in order where this
+    /// machine's clock was set back between them; recordings are read in the order in which the files come.
+    ///
+    /// # Errors
+    ///
+    /// There is no memory.
+    pub fn new(
+        files: &'a HostRuntime,
+        alloc: Global,
+        paths: Vec<String>,
+    ) -> Result<RecordReader<'a>, AllocError> {
+        Ok(RecordReader {
             files,
             alloc,
-            paths,
+            paths: in_order(files, alloc, paths)?,
             next: 0,
             open: None,
             merge: Merge::new(alloc, 0),
             recording: None,
             first: 0,
             following: None,
-        }
+        })
     }
 
-    /// The files.
+    /// The files, in the order in which they are read.
     pub fn paths(&self) -> &[String] {
         &self.paths
     }
@@ -203,7 +213,6 @@ impl<'a> RecordReader<'a> {
         match open.piece(self.alloc) {
             Ok(Piece::Block(head, records)) if head.worker == PRELUDE => {
                 let prelude = prelude_of(head, records);
-                // (The files of one recording are read in a row.)
                 if self.recording != Some(prelude.recording) {
                     self.following = Some(prelude);
                 }
@@ -234,15 +243,9 @@ impl<'a> RecordReader<'a> {
         };
         let at = self.next;
         self.next = at + 1;
-        let mut options = OpenOptions::new();
-        options.read(true);
-        let opened = match options.open(self.files, path.as_str()) {
-            Ok(file) => BufReader::new(self.alloc, file),
-            Err(error) => return Err(fault_of(at, error)),
-        };
-        match opened {
-            Ok(file) => {
-                self.open = Some(Open { file, at: 0 });
+        match Open::new(self.files, self.alloc, path.as_str()) {
+            Ok(open) => {
+                self.open = Some(open);
                 Ok(())
             }
             Err(error) => Err(fault_of(at, error)),
@@ -251,6 +254,17 @@ impl<'a> RecordReader<'a> {
 }
 
 impl Open {
+    /// The file at this path, from its first byte on.
+    fn new(files: &HostRuntime, alloc: Global, path: &str) -> io::Result<Open> {
+        let mut options = OpenOptions::new();
+        options.read(true);
+        let file = options.open(files, path)?;
+        Ok(Open {
+            file: BufReader::new(alloc, file)?,
+            at: 0,
+        })
+    }
+
     /// The next block.
     fn piece(&mut self, alloc: Global) -> io::Result<Piece> {
         let start = self.at;
@@ -291,6 +305,72 @@ impl Open {
         }
         self.at = self.at.saturating_add(filled as u64);
         Ok(filled)
+    }
+}
+
+/// A file that is to be read.
+#[derive(Drop)]
+struct Listed {
+    path: String,
+    // The number of its recording, in the order in which the files come, and its first place.
+    recording: usize,
+    place: u64,
+}
+
+/// These files, those of one recording in the order of their places. One without its head stays behind the one before it.
+fn in_order(
+    files: &HostRuntime,
+    alloc: Global,
+    paths: Vec<String>,
+) -> Result<Vec<String>, AllocError> {
+    let mut recordings = Vec::new(alloc);
+    let mut listed = Vec::with_capacity(alloc, paths.len())?;
+    let (mut recording, mut place) = (0, 0);
+    for path in paths {
+        if let Some(prelude) = prelude_in(files, alloc, path.as_str()) {
+            recording = number_of(&mut recordings, prelude.recording)?;
+            place = prelude.start.place;
+        }
+        listed.push(Listed {
+            path,
+            recording,
+            place,
+        })?;
+    }
+    listed.sort_by(|one, other| match one.recording.cmp(&other.recording) {
+        Ordering::Equal => one.place.cmp(&other.place),
+        order => order,
+    })?;
+    let mut paths = Vec::with_capacity(alloc, listed.len())?;
+    for file in listed {
+        paths.push(file.path)?;
+    }
+    Ok(paths)
+}
+
+/// The number of a recording among these, to which it is added where it is none of them.
+fn number_of(recordings: &mut Vec<u64>, recording: u64) -> Result<usize, AllocError> {
+    match recordings.iter().position(|it| *it == recording) {
+        Some(number) => Ok(number),
+        None => {
+            recordings.push(recording)?;
+            Ok(recordings.len().saturating_sub(1))
+        }
+    }
+}
+
+/// What the file at this path begins with; `None` where that can't be read, which shows again where the file is read.
+fn prelude_in(files: &HostRuntime, alloc: Global, path: &str) -> Option<Prelude> {
+    // (A pipe gives its bytes once.)
+    if !fs::metadata(files, path).ok()?.is_file() {
+        return None;
+    }
+    let mut open = Open::new(files, alloc, path).ok()?;
+    match open.piece(alloc) {
+        Ok(Piece::Block(head, records)) if head.worker == PRELUDE => {
+            Some(prelude_of(head, records))
+        }
+        _ => None,
     }
 }
 

@@ -78,10 +78,14 @@ struct ScriptPrinter {
     shown: u64,
     // Whether nothing of the recording was there yet: a start behind it is another one of the service.
     is_first: bool,
+    // The place at which the recording begins: records before it set up what was there then.
+    first: u64,
+    // Whether nothing is missing so far, and a line says each call.
+    is_whole: bool,
 }
 
 /// Prints the script of a recording: a line for each record that is one, and comments with the place and the time of what follows, and with
-/// what is missing.
+/// what is missing. It returns whether the recording is whole: nothing is missing, and a line says each call.
 ///
 /// # Errors
 ///
@@ -90,14 +94,17 @@ pub fn print_script<W: Write>(
     alloc: Global,
     reader: &mut RecordReader<'_>,
     out: &mut W,
-) -> Result<(), Fault> {
+) -> Result<bool, Fault> {
     let mut printer = ScriptPrinter {
         alloc,
         shown: 0,
         is_first: true,
+        first: 0,
+        is_whole: true,
     };
     printer.print_all(reader, out)?;
-    flush(out)
+    flush(out)?;
+    Ok(printer.is_whole)
 }
 
 /// Writes what is buffered.
@@ -135,6 +142,7 @@ impl ScriptPrinter {
     fn print_start<W: Write>(&mut self, start: Start, out: &mut W) -> Result<(), Fault> {
         let is_first = self.is_first;
         self.is_first = false;
+        self.first = start.place;
         match start_text(self.alloc, start, is_first)? {
             Some(text) => print_comment(self.alloc, text.as_str(), out),
             None => Ok(()),
@@ -144,13 +152,20 @@ impl ScriptPrinter {
     /// Prints which places have no record.
     fn print_gap<W: Write>(&mut self, from: u64, to: u64, out: &mut W) -> Result<(), Fault> {
         self.is_first = false;
+        self.is_whole = false;
         let last = to.saturating_sub(1);
         let text = format!(in self.alloc; "missing: places {from} to {last}")?;
         print_comment(self.alloc, text.as_str(), out)
     }
 
     /// Prints what is not as it was written in a file.
-    fn print_notice<W: Write>(&self, path: &str, notice: Notice, out: &mut W) -> Result<(), Fault> {
+    fn print_notice<W: Write>(
+        &mut self,
+        path: &str,
+        notice: Notice,
+        out: &mut W,
+    ) -> Result<(), Fault> {
+        self.is_whole = false;
         let text = notice_text(self.alloc, path, notice)?;
         print_comment(self.alloc, text.as_str(), out)
     }
@@ -165,6 +180,9 @@ impl ScriptPrinter {
         }
         if kind == RecordKind::Question {
             return Ok(());
+        }
+        if place >= self.first {
+            self.is_whole = false;
         }
         let text = format!(in self.alloc; "no line says what was posted at place {place}")?;
         print_comment(self.alloc, text.as_str(), out)

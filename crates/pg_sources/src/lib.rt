@@ -16,6 +16,7 @@ mod trial;
 
 pub use counted_announcements::CountedAnnouncements;
 pub use measures::Measures;
+pub use own_sources::clock_ms;
 pub use quality_gate::QualityGate;
 pub use source::{SourceConnection, Turn};
 pub use source_worker::SourceWorker;

@@ -11,7 +11,8 @@ use pg_limits::{Action, Clocks, Phase, reference};
 use pg_log::{Detail, Entry, LogEvent, Subject};
 use pg_recorder::CallRecords;
 use pg_service::{
-    Dial, Mailbox, Poller, READS, ReadyQueue, SourceOrder, Targets, WorkerHandles, ended, sooner,
+    Dial, GateStats, Mailbox, Poller, READS, ReadyQueue, SourceOrder, Targets, WorkerHandles,
+    ended, sooner,
 };
 use pg_shared::Named;
 use pg_wire::{PmuId, Refusal};
@@ -332,9 +333,27 @@ impl<'a, R: Wait + Net + Clock> OwnSources<'a, R> {
 
     /// Does what is due by now of the source at this place, and returns when something is due next.
     fn do_due_of(&mut self, measures: &mut Measures, place: usize) -> Option<Instant> {
+        let due = self.sources.get(place)?.connection.due(self.queue.now);
+        if let Some(entry) = self.act(place, due) {
+            self.handles.journal.log(self.rt, entry);
+        }
+        if due == Action::Ask {
+            // Its commands are written where it is served.
+            self.mark(place);
+        }
+        self.do_trial_of(measures, place);
+        let source = self.sources.get(place)?;
+        let next = match source.connection.plan().left(self.queue.now) {
+            Some(left) => self.queue.now.checked_add(left),
+            None => None,
+        };
+        sooner(next, source.trial_due())
+    }
+
+    /// Does this with the source at this place, and returns what is logged of it.
+    fn act(&mut self, place: usize, action: Action) -> Option<Entry> {
         let source = self.sources.get_mut(place)?;
-        let due = source.connection.due(self.queue.now);
-        let entry = match due {
+        match action {
             Action::Nothing => None,
             Action::Call => source.call(
                 self.rt,
@@ -362,21 +381,7 @@ impl<'a, R: Wait + Net + Clock> OwnSources<'a, R> {
                 source.connection.ask_again();
                 Some(source.entry(LogEvent::AskedAgain, Detail::Nothing))
             }
-        };
-        if let Some(entry) = entry {
-            self.handles.journal.log(self.rt, entry);
         }
-        if due == Action::Ask {
-            // Its commands are written where it is served.
-            self.mark(place);
-        }
-        self.do_trial_of(measures, place);
-        let source = self.sources.get(place)?;
-        let next = match source.connection.plan().left(self.queue.now) {
-            Some(left) => self.queue.now.checked_add(left),
-            None => None,
-        };
-        sooner(next, source.trial_due())
     }
 
     /// Tries the first address of the source at this place, where this is due. Where it announces, its connection is served from now on.
@@ -458,46 +463,68 @@ impl<'a, R: Wait + Net + Clock> OwnSources<'a, R> {
             if events == 0 {
                 break;
             }
-            // A turn may take long: the clock is read again before each read, so that no measurement is ahead of an old time.
-            let clock = clock_ms(self.rt).unwrap_or(self.clock);
-            gate.measures.serve(place, clock);
-            let Some((turn, seen)) = source.serve(
-                gate,
-                events,
-                self.queue.now,
-                clock,
-                self.reference.max(clock),
-            ) else {
-                return;
-            };
-            if seen.makers > 0 {
-                self.pace.spend(seen.makers, &self.handles);
-            }
-            let is_other = source.note_seen(&seen, clock, self.queue.now);
-            source.log_seen(self.rt, &mut gate.gate, self.handles.journal, &seen);
-            let records = &mut gate.gate.gate.gate;
-            source.log_ignored(self.rt, records, self.handles.journal);
-            if seen.far > 0 {
-                records.note_ignored(source.connection.source(), Refusal::FarClock, seen.far);
-            }
-            if gate.measures.take_shortage() {
-                self.handles.journal.note(LogEvent::MailFault);
-            }
-            if let Turn::Ended(end) = turn {
-                let entry = source.entry(LogEvent::SourceEnded, ended(end));
-                self.queue.due = Some(self.queue.now);
-                self.handles.journal.log(self.rt, entry);
-            }
-            if is_other {
-                // It is looked at the clocks of all sources, a second after the last time at the earliest.
-                let soon = self.looked.checked_add(Duration::from_millis(CLOCKS_MS));
-                self.queue.expect(soon);
-            }
-            if turn != Turn::More {
-                return;
+            match self.read_once(gate, place, events) {
+                Some(Turn::More) => {}
+                _ => return,
             }
         }
         self.mark(place);
+    }
+
+    /// Reads of the source at this place once, where it is connected, and posts what came: of so many events at most.
+    fn read_once<N: Named, T: CallRecords>(
+        &mut self,
+        gate: &mut SourceGate<'a, R, N, T>,
+        place: usize,
+        events: u32,
+    ) -> Option<Turn> {
+        // A turn may take long: the clock is read again before each read, so that no measurement is ahead of an old time.
+        let clock = clock_ms(self.rt).unwrap_or(self.clock);
+        gate.measures.serve(place, clock);
+        let reference = self.reference.max(clock);
+        let source = self.sources.get_mut(place)?;
+        let (turn, seen) = source.serve(gate, events, self.queue.now, clock, reference)?;
+        if seen.makers > 0 {
+            self.pace.spend(seen.makers, &self.handles);
+        }
+        self.note_read(gate, place, &seen, clock);
+        if let Turn::Ended(end) = turn {
+            let entry = self
+                .sources
+                .get(place)?
+                .entry(LogEvent::SourceEnded, ended(end));
+            self.queue.due = Some(self.queue.now);
+            self.handles.journal.log(self.rt, entry);
+        }
+        Some(turn)
+    }
+
+    /// Keeps and logs what was seen at this time where the source at this place was read.
+    fn note_read<N: Named, T: CallRecords>(
+        &mut self,
+        gate: &mut SourceGate<'a, R, N, T>,
+        place: usize,
+        seen: &GateStats,
+        clock: u64,
+    ) {
+        let Some(source) = self.sources.get_mut(place) else {
+            return;
+        };
+        let is_other = source.note_seen(seen, clock, self.queue.now);
+        source.log_seen(self.rt, &mut gate.gate, self.handles.journal, seen);
+        let records = &mut gate.gate.gate.gate;
+        source.log_ignored(self.rt, records, self.handles.journal);
+        if seen.far > 0 {
+            records.note_ignored(source.connection.source(), Refusal::FarClock, seen.far);
+        }
+        if gate.measures.take_shortage() {
+            self.handles.journal.note(LogEvent::MailFault);
+        }
+        if is_other {
+            // It is looked at the clocks of all sources, a second after the last time at the earliest.
+            let soon = self.looked.checked_add(Duration::from_millis(CLOCKS_MS));
+            self.queue.expect(soon);
+        }
     }
 
     /// Wakes those that hand out the frames made.
@@ -514,7 +541,7 @@ impl<'a, R: Wait + Net + Clock> OwnSources<'a, R> {
 }
 
 /// This machine's clock: milliseconds since 1970-01-01 00:00 UTC, as far as it is known.
-pub(crate) fn clock_ms<R: Clock>(rt: &R) -> Option<u64> {
+pub fn clock_ms<R: Clock>(rt: &R) -> Option<u64> {
     let now = SystemTime::now(rt).ok()?;
     let since = now.duration_since(SystemTime::UNIX_EPOCH).ok()?;
     u64::try_from(since.as_millis()).ok()
