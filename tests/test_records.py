@@ -227,6 +227,16 @@ def begun_later(files, since, seconds):
                 f.write(block[:14] + struct.pack(">Q", late) + block[22:])
 
 
+def begun_slower(files, since, times):
+    """The blocks of these files are begun so many times as long behind a time as they were."""
+    for path in files:
+        blocks = blocks_in(path)
+        with open(path, "wb") as f:
+            for begun, block in blocks:
+                late = round(1_000 * (since + (begun - since) * times))
+                f.write(block[:14] + struct.pack(">Q", late) + block[22:])
+
+
 @takes(8)
 def test_behind_missing_blocks(bench):
     """Of the blocks of a recording those of half a second are not there: `verify` says which places are missing, and compares a subscriber again that
@@ -368,10 +378,10 @@ def test_without_its_first_files(bench):
     expect(len(wanted) > 30, f"{len(wanted)} lines")
     same(explained(bench, files[2:], begin), wanted, "the lines of `explain`")
     # The second subscriber did not connect again: it is compared a minute later.
-    since = blocks_in(files[2])[0][0] + 1
-    begun_later(files[2:], since, 40)
+    first, last = blocks_in(files[2])[0][0], blocks_in(files[-1])[-1][0]
+    begun_slower(files[2:], first, 40 / (last - first))
     same(verdict_in(tool(bench, "verify", files[2:])[1])["drains"], found["drains"], "drains that are compared before the minute")
-    begun_later(files[2:], since + 40, 20)
+    begun_slower(files[2:], first, 2.5)
     status, out, _ = tool(bench, "verify", files[2:])
     same((status, verdict_in(out)["differing"]), (0, 0), out)
     expect(verdict_in(out)["drains"] > found["drains"] + 20, f"a minute later: {out}")

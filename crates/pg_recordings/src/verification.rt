@@ -6,7 +6,7 @@ use crate::input::{four, input_of};
 use crate::reader::{Fault, Notice, RecordReader, Start, Step};
 use crate::script::{flush, notice_text, print_line, start_text, time_text};
 use pg_gateway::Reply;
-use pg_record::{DONE, LOST, RecordKind, Timed, short_sum};
+use pg_record::{DONE, Elapsed, LOST, RecordKind, Timed, short_sum};
 use pg_serve::{Note, Output, World};
 use std::alloc::{AllocError, Global};
 use std::io::Write;
@@ -71,6 +71,8 @@ struct Replay {
     first: u64,
     is_begun: bool,
     in_step: InStep,
+    // How long the recordings have gone on.
+    elapsed: Elapsed,
     // How many drains of subscribers that are not in step there were.
     left_out: u64,
 }
@@ -82,7 +84,7 @@ enum InStep {
     All,
     /// None yet: places without a record end here.
     NoneYet,
-    /// These, since this time: milliseconds since 1970-01-01 00:00 UTC.
+    /// These, since the recordings had gone on for so many milliseconds.
     Since(u64, Vec<u16>),
 }
 
@@ -105,6 +107,7 @@ pub fn verify<W: Write>(
         first: 0,
         is_begun: false,
         in_step: InStep::All,
+        elapsed: Elapsed::new(),
         left_out: 0,
     };
     replay.compare_all(reader, out)?;
@@ -164,7 +167,7 @@ impl Replay {
         self.is_begun = true;
         self.in_step = match start.place {
             0 => InStep::All,
-            _ => InStep::Since(start.at, Vec::new(self.alloc)),
+            _ => InStep::Since(self.elapsed.passed, Vec::new(self.alloc)),
         };
         if !is_first {
             self.world = new_world(self.alloc)?;
@@ -210,10 +213,11 @@ impl Replay {
         let is_setup = timed.record.place < self.first;
         if !is_setup {
             self.verdict.records = self.verdict.records.saturating_add(1);
+            self.elapsed.go_on(timed.at);
         }
         self.is_begun = true;
         if let InStep::NoneYet = self.in_step {
-            self.in_step = InStep::Since(timed.at, Vec::new(self.alloc));
+            self.in_step = InStep::Since(self.elapsed.passed, Vec::new(self.alloc));
         }
         let Some(input) = input_of(self.alloc, &timed.record, &timed.body)? else {
             if timed.record.kind != RecordKind::Question && !is_setup {
@@ -234,6 +238,7 @@ impl Replay {
     /// connection, and a minute later behind a drain that left nothing in its queue.
     fn is_compared(&mut self, timed: &Timed, handed: u64) -> Result<bool, Fault> {
         let record = &timed.record;
+        let passed = self.elapsed.passed;
         let (since, subscribers) = match &mut self.in_step {
             InStep::All => return Ok(true),
             InStep::NoneYet => return Ok(false),
@@ -244,7 +249,7 @@ impl Replay {
         }
         let room = u64::from(four(&timed.body).unwrap_or(0));
         let is_empty = handed < room && u64::from(record.handed) < room;
-        if is_empty && timed.at >= since.saturating_add(SETTLED_MS) {
+        if is_empty && passed >= since.saturating_add(SETTLED_MS) {
             subscribers.push(record.number)?;
         }
         Ok(false)
