@@ -1,4 +1,5 @@
-/* Sets the clock of the program that it is loaded into by LD_PRELOAD: the file CLOCK_FILE has by how many seconds, 64 bits, and may change. */
+/* Loaded into a program by LD_PRELOAD it moves the program's clock ahead by the seconds that the file CLOCK_FILE has, a signed number of 64 bits,
+   which may change. */
 #define _GNU_SOURCE
 #include <dlfcn.h>
 #include <fcntl.h>

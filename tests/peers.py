@@ -707,7 +707,7 @@ class Gateway:
 
 
 class SetClock:
-    """This machine's clock, as the program has it that these words run: it may be set. The C compiler `cc` makes the library for that."""
+    """The clock of a program that is run behind `words`, which a test can set. The C compiler `cc` makes the library for that."""
 
     def __init__(self, folder):
         library, source = f"{folder}/clock.so", os.path.join(os.path.dirname(os.path.abspath(__file__)), "clock.c")
