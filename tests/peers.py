@@ -566,10 +566,12 @@ class Lines:
 class Simulated:
     """`pdcgw simulate` with these options, of source 7 unless they say otherwise."""
 
-    def __init__(self, bench, *words):
+    def __init__(self, bench, *words, behind=()):
+        """`behind` is a command that runs the program."""
         self.port = bench.port()
         self.address = f"127.0.0.1:{self.port}"
-        self.process = subprocess.Popen([bench.program, "simulate", "--listen", self.address, *words], stdin=subprocess.DEVNULL, stdout=subprocess.PIPE)
+        self.process = subprocess.Popen([*behind, bench.program, "simulate", "--listen", self.address, *words], stdin=subprocess.DEVNULL,
+                                        stdout=subprocess.PIPE)
         bench.made.append(self)
         self.out = Lines(self.process.stdout)
         until(lambda: self.out.lines, "the first line of `simulate`")

@@ -1,5 +1,7 @@
-"""Clocks: a wrong clock of a source or of this machine is found in the log, in `status` and in the metrics."""
-from peers import RATE, expect, http, metrics, now_soc, pmu, same, stream, stream_frame, subscriber, until
+"""Clocks: a wrong clock of a source or of this machine is found in the log, in `status` and in the metrics; where clocks are set back, streams go on."""
+import time
+
+from peers import RATE, SetClock, expect, http, metrics, now_soc, pmu, same, slot_of, stream, stream_frame, subscriber, takes, until
 
 
 class Three:
@@ -85,3 +87,39 @@ def test_the_clock_guard_names_the_difference(bench):
     until(lambda: '"FarClock"' in http(three.page, "/state")[1], "the refused frame on the page")
     same(three.gateway.logged("source 9: data refused.*"), 0)
     three.gateway.quit()
+
+
+@takes(45)
+def test_where_clocks_are_set_back_streams_begin_anew(bench):
+    """The clocks of this machine and of source 7 are an hour ahead, and set back: its data are too late for the stream that is on, whose first member sends
+    none. Within 45 s the log says so and its subscriber is disconnected; once it has connected again it gets data. One that gets frames stays connected,
+    though all data of a member are late."""
+    clock, wrong, right, late = SetClock(bench.folder), bench.live(7, ahead=3_600.0), bench.live(9), bench.live(11, ahead=-0.5)
+    clock.ahead(3_600)
+    ports = bench.port(), bench.port()
+    text = "".join(pmu(it.idcode, connect=it.address) for it in (wrong, right, late)) + pmu(8, source=7)
+    text += subscriber(1, ports[0], grants=["7/8", 7]) + stream(101, ["7/8", 7]) + subscriber(2, ports[1], grants=[9, 11]) + stream(101, [9, 11])
+    gateway = bench.gateway(text, words=clock.words).serves(1, 2)
+    for source in (wrong, right, late):
+        gateway.line(f"source {source.idcode}: announced")
+    links = [bench.subscriber(it) for it in ports]
+    for it in links:
+        it.start(101)
+    links[0].data()
+    wrong.ahead = 0.0
+    clock.ahead(0)
+    begun = time.monotonic()
+    gateway.line(" WARN subscriber 1: stream 101: disconnected, so that its streams begin anew: for 20 s all data were older", 45)
+    expect(time.monotonic() - begun > 19, f"it took {time.monotonic() - begun:.1f} s")
+    expect(links[0].is_closed(2), "subscriber 1 is disconnected")
+    again = bench.subscriber(ports[0])
+    again.start(101)
+    off = slot_of(again.data(), RATE) / RATE - time.time()
+    expect(-2 < off < 1, f"its data are of {off:.1f} s")
+    links[1].data()
+    time.sleep(2)
+    links[1].data()
+    counts = gateway.counters("stats 2")
+    expect(counts["late"] > 500 and counts["made"] > 500, f"subscriber 2 {counts}")
+    same([gateway.logged(f".* subscriber {number}: .*disconnected.*") for number in (1, 2)], [1, 0])
+    gateway.quit()

@@ -10,14 +10,14 @@ import time
 
 from c37118 import (BASE, COMMAND, CONFIG_1, CONFIG_2, DATA, HEADER, SEND_CONFIG_1, SEND_CONFIG_2, SEND_HEADER, START, STOP, command, configuration, frame,
                     frames_in)
-from peers import (PATIENCE, RATE, PassedBy, Simulated, Subscriber, expect, pmu, read_all, same, slot_of, stream, subscriber, takes, until,
+from peers import (PATIENCE, RATE, PassedBy, SetClock, Simulated, Subscriber, expect, pmu, read_all, same, slot_of, stream, subscriber, takes, until,
                    with_wrong_check)
 
 COUNTED = re.compile(r"(\d+) frames, (\d+) missing, (\d+) fillers, (\d+) troubles \((\d+) CHK, (\d+) order, (\d+) misfit\)")
 
 
-def begin_watch(bench, address, idcode, *words):
-    return subprocess.Popen([bench.program, "watch", address, "--stream", str(idcode), *words], cwd=bench.folder, stdin=subprocess.DEVNULL,
+def begin_watch(bench, address, idcode, *words, behind=()):
+    return subprocess.Popen([*behind, bench.program, "watch", address, "--stream", str(idcode), *words], cwd=bench.folder, stdin=subprocess.DEVNULL,
                             stdout=subprocess.PIPE, stderr=subprocess.PIPE)
 
 
@@ -279,6 +279,39 @@ def test_the_silence_of_a_simulated_source(bench):
     wanted = [it for it in range(slots[0], slots[-1] + 1) if not silent <= it < silent + 120]
     same(slots, wanted)
     expect(slots[0] < silent and slots[-1] > silent + 120, f"slots of {slots[0]} to {slots[-1]}, and {silent} is the first silent one")
+
+
+@takes(6)
+def test_simulate_where_its_clock_is_set_back(bench):
+    """A simulated source whose clock is set back by an hour goes on within a second by its clock. `watch` reports one stamp that does not rise, and takes the
+    frames behind it."""
+    clock = SetClock(bench.folder)
+    source = Simulated(bench, behind=clock.words)
+    process = begin_watch(bench, source.address, 7, "--seconds", "5")
+    time.sleep(2)
+    clock.ahead(-3_600)
+    status, out, errors = end_watch(process)
+    found = re.fullmatch(r"pdcgw: a stamp does not rise: (\d+)\+\d+ comes after (\d+)\+\d+\n", errors)
+    expect(status == 1 and found, f"status {status}, {errors!r}")
+    expect(3_598 <= int(found[2]) - int(found[1]) <= 3_600, found[0])
+    frames, missing, fillers, *troubles = counted(out)
+    expect(100 <= frames <= 5 * RATE, out)
+    same((missing, fillers, troubles), (0, 0, [1, 0, 1, 0]))
+
+
+@takes(7)
+def test_watch_where_its_clock_is_set(bench):
+    """The seconds of `watch` pass as before where its clock is set ahead and back by an hour: each has a line, and it ends on time."""
+    source, clock = Simulated(bench), SetClock(bench.folder)
+    for ahead in (3_600, 0):
+        begun = time.monotonic()
+        process = begin_watch(bench, source.address, 7, "--seconds", "3", behind=clock.words)
+        time.sleep(1.5)
+        clock.ahead(ahead)
+        status, out, errors = end_watch(process)
+        took = time.monotonic() - begun
+        expect((status, errors) == (0, "") and 2.9 < took < 4.5, f"status {status} after {took:.1f} s, {errors!r}")
+        same(len(out.splitlines()), 4, "lines of three seconds, and of what was counted")
 
 
 def counts_of(block, *places):

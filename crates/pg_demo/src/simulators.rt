@@ -83,7 +83,10 @@ impl<'a, R: Wait + Clock> Simulators<'a, R> {
         self.one.serve_clients(at, &mut self.events)?;
         self.other.serve_clients(at, &mut self.events)?;
         let facts = self.facts();
-        let phase = self.phases.step(facts, at.micros / 1_000);
+        let millis = self.state.start.elapsed(self.rt)?.as_millis();
+        let phase = self
+            .phases
+            .step(facts, u64::try_from(millis).unwrap_or(u64::MAX));
         if phase != DemoPhase::Connecting {
             self.state.is_open.store(true, Ordering::SeqCst);
         }

@@ -13,7 +13,7 @@ use crate::subscribers::TestSubscriber;
 use pg_console::{Console, HoldsSeat, ServiceBuilder};
 use pg_recorder::{Unrecorded, WorkerGate};
 use pg_shared::{Named, Seat, Work};
-use pg_tools::{PhaseMachine, Simulator, Style, UnixTime};
+use pg_tools::{PhaseMachine, Simulator, Style};
 use std::io::StdinLock;
 use std::net::Net;
 use std::rt::Clock;
@@ -80,7 +80,8 @@ fn add_simulators<'a, R: Wait + Net + Clock + Input<Reader = StdinLock<'static>>
     workers: &mut Vec<Worker<'a, R, N>>,
 ) -> Result<(), Fault> {
     let (rt, alloc) = (builder.rt, builder.alloc);
-    let phases = PhaseMachine::new(options.seconds, UnixTime::now(rt)?.micros / 1_000);
+    // Its times are counted from the start of the demo.
+    let phases = PhaseMachine::new(options.seconds, 0);
     let (one, other) = simulators;
     let simulators = Simulators::new(rt, alloc, state, phases, one, other);
     workers.push(Worker::Simulators(simulators))?;

@@ -154,13 +154,15 @@ pub enum LogEvent {
     RecordsMissed = 67,
     /// A file of the recording was begun without how the gateway was set up then.
     SetupNotRecorded = 68,
+    /// A subscriber was disconnected, since all data that came for it were of times before the frames that it was sent.
+    SetBack = 69,
 }
 
 /// The PMUs of a configuration at most.
 pub const MOST_PMUS: usize = 16;
 
 /// How many kinds of notices there are.
-const KINDS: usize = 69;
+const KINDS: usize = 70;
 
 impl LogEvent {
     /// The kinds that are counted without an entry; the log has their counts.
@@ -221,6 +223,7 @@ impl LogEvent {
             | LogEvent::FirstNotMade
             | LogEvent::FirstSilent
             | LogEvent::SetupNotRecorded
+            | LogEvent::SetBack
             | LogEvent::Warned => Level::Warn,
             LogEvent::Called
             | LogEvent::Made

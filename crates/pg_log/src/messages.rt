@@ -140,6 +140,8 @@ fn said(event: LogEvent) -> &'static str {
         LogEvent::NotRecorded => "the recording can't be written",
         LogEvent::SetupNotRecorded =>
             "a file of the recording is replayed only behind those before it: what set the gateway up takes more than half of it (raise `record_mb`) or 16 MB (restart the gateway)",
+        LogEvent::SetBack =>
+            "disconnected, so that its streams begin anew: for 20 s all data were older than the frames that it was sent (was a clock set back?)",
         LogEvent::FirstSilent =>
             "can't go back: the first address sent no configuration within 10 s; retrying in 60 s",
     }

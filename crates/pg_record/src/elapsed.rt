@@ -9,7 +9,7 @@ const NEAR: u64 = 5_000;
 /// For how long a recording goes on, by the times that it has. Where they jump this machine's clock was set, and no time has passed.
 #[derive(Clone, Copy)]
 pub struct Elapsed {
-    /// The time that counts on: milliseconds since 1970-01-01 00:00 UTC.
+    /// The newest time since this machine's clock was set last: milliseconds since 1970-01-01 00:00 UTC.
     pub newest: u64,
     /// How many milliseconds have passed; it stays at 2^64 - 1 once it is there.
     pub passed: u64,

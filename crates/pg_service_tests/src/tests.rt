@@ -6,6 +6,7 @@ mod endpoints;
 mod ends;
 mod errors;
 mod frames;
+mod late_looks;
 mod lines;
 mod logging;
 mod registering;

@@ -1,2 +1,3 @@
 -- Definitions that the contracts of the connections of subscribers cite.
 pub mod Endpoints
+pub mod LateLooks

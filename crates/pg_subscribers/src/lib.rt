@@ -6,6 +6,7 @@
 mod commands;
 mod connection;
 mod endpoint;
+mod late_watch;
 mod latency;
 mod own_ports;
 mod port;
@@ -14,6 +15,7 @@ mod standings;
 
 pub use connection::{CloseReason, ServeResult, SubscriberConnection};
 pub use endpoint::{Admission, SubscriberEndpoint};
+pub use late_watch::StreamLook;
 pub use latency::LatencyMeter;
 pub use port::Port;
 pub use port_worker::PortWorker;

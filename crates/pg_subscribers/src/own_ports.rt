@@ -334,6 +334,7 @@ impl<'a, R: Wait + Net + Clock> OwnPorts<'a, R> {
                 );
                 self.journal.log(self.rt, entry);
             }
+            port.look_at_streams(self.rt, gate, self.journal, self.queue.now);
             let accepts = port.acceptor.timer.is_due(self.queue.now);
             next = sooner(next, port.due(self.queue.now));
             if accepts {

@@ -7,6 +7,7 @@ ghost use Rattle.pg_service.specs.Posts.{OwnOnly};
 use crate::commands::{Posted, post_config, post_resume};
 use crate::connection::{CloseReason, FULL, ServeResult};
 use crate::endpoint::{Admission, SubscriberEndpoint};
+use crate::late_watch::LateWatch;
 use crate::latency::{LatencyMeter, LatencyWriter};
 use crate::standings::{Standings, ask_standings};
 use mio::net::{TcpListener, TcpStream};
@@ -59,6 +60,8 @@ pub struct Port {
     looked: u64,
     pub(crate) has_written: bool,
     unacknowledged: Unacknowledged,
+    // Whether its streams get late data alone.
+    late: LateWatch,
 }
 
 /// How the subscriber that connected is served.
@@ -125,6 +128,7 @@ impl Port {
             looked: 0,
             has_written: false,
             unacknowledged: Unacknowledged::new(),
+            late: LateWatch::new(),
         }
     }
 
@@ -156,7 +160,8 @@ impl Port {
     /// When something is to be done for it though its sockets stay silent.
     pub(crate) fn due(&self, now: Instant) -> Option<Instant> {
         let hang_up = in_future(now, self.endpoint.left(now));
-        sooner(hang_up, in_future(now, self.acceptor.timer.left(now)))
+        let accepts = in_future(now, self.acceptor.timer.left(now));
+        sooner(sooner(hang_up, accepts), self.late.due())
     }
 
     /// Its connection is closed.
@@ -172,6 +177,7 @@ impl Port {
         self.written = 0;
         self.looked = 0;
         self.unacknowledged = Unacknowledged::new();
+        self.late = LateWatch::new();
     }
 
     /// Looks in the table of connections whether bytes that were sent are not acknowledged, and returns whether some are not. What was written
@@ -301,7 +307,7 @@ impl Port {
         }
         let served = served_by(&seen);
         if let Some(stream) = self.compare(gate, changes, settled, served) {
-            self.disconnect(rt, gate, journal, now, stream);
+            self.disconnect(rt, gate, journal, now, LogEvent::Misread, stream);
             return Passed::nothing();
         }
         let is_posted = self.post_due(rt, gate, journal, served.is_emptied);
@@ -402,7 +408,30 @@ impl Port {
         judged.misread
     }
 
-    /// Disconnects the subscriber that connected, since it could misread this stream.
+    /// Looks each 10 seconds at the streams of the subscriber that connected, and disconnects it where all data of one were too late for 20 seconds:
+    /// once it connects again its streams begin anew.
+    #[tactic(auto, using(crate::proofs::Own::own_nil, crate::proofs::Own::own_more, crate::proofs::Own::own_as))]
+    pub(crate) fn look_at_streams<R: Wait + Clock, G: Gate>(
+        &mut self,
+        rt: &R,
+        gate: &mut MeteredGate<G>,
+        journal: &Journal,
+        now: Instant,
+    )
+        ensures sub { self.new.sub ≡ self.old.sub }
+        // It posts of its own subscriber alone.
+        ensures own { OwnOnly self.old.sub (G.posts gate.old.gate) (G.posts gate.new.gate) }
+    {
+        if !self.late.is_due(now) {
+            return;
+        }
+        self.late.begin(now);
+        if let Some(stream) = self.late.look(self.endpoint.sub(), gate) {
+            self.disconnect(rt, gate, journal, now, LogEvent::SetBack, stream);
+        }
+    }
+
+    /// Disconnects the subscriber that connected, for this reason and by this stream.
     #[tactic(auto, using(crate::proofs::Own::own_as))]
     fn disconnect<R: Wait + Clock, G: Gate>(
         &mut self,
@@ -410,6 +439,7 @@ impl Port {
         gate: &mut MeteredGate<G>,
         journal: &Journal,
         now: Instant,
+        event: LogEvent,
         stream: u16,
     )
         ensures sub { self.new.sub ≡ self.old.sub }
@@ -417,7 +447,7 @@ impl Port {
     {
         self.endpoint.hang_up(gate);
         self.part(now);
-        journal.log(rt, self.entry(LogEvent::Misread, Detail::OfStream(stream)));
+        journal.log(rt, self.entry(event, Detail::OfStream(stream)));
     }
 
     /// Posts what is due in the subscriber's name, one CFG-2 and one start at most, and returns whether something was posted.
@@ -661,6 +691,7 @@ impl Port {
                 }
                 self.stream = Some(stream);
                 self.peer = Some(address);
+                self.late.begin(now);
                 self.ask(gate, changes, None, ServedOnce::nothing());
                 journal.log(rt, self.entry(LogEvent::Connected, Detail::At(address)));
             }

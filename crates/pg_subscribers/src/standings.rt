@@ -42,23 +42,32 @@ pub(crate) fn ask_standings<G: Gate>(sub: SubId, gate: &mut G) -> Standings
 fn post_standing<G: Gate>(sub: SubId, place: u8, gate: &mut G) -> Option<FoundStream>
     ensures own { OwnOnly sub (G.posts gate.old) (G.posts gate.new) }
 {
-    let reply = gate.post(Event::Standing(
-        sub,
-        MemberPlace {
-            stream: place,
-            member: 0,
-        },
-    ));
+    let first = MemberPlace {
+        stream: place,
+        member: 0,
+    };
+    match post_member(sub, first, gate) {
+        Some(standing) => Some(found_stream(&standing)),
+        None => None,
+    }
+}
+
+/// Asks how a stream and a member of it stand, by their places, if there is such a stream.
+pub(crate) fn post_member<G: Gate>(
+    sub: SubId,
+    place: MemberPlace,
+    gate: &mut G,
+) -> Option<StreamStanding>
+    ensures own { OwnOnly sub (G.posts gate.old) (G.posts gate.new) }
+{
+    let reply = gate.post(Event::Standing(sub, place));
     standing_in(&reply)
 }
 
-/// What is found of a stream by this reply, if it has one.
-fn standing_in(reply: &Reply) -> Option<FoundStream> {
+/// How a stream stands by this reply, if it has one.
+fn standing_in(reply: &Reply) -> Option<StreamStanding> {
     match reply {
-        Reply::Standing(standing) => match &standing.stream {
-            Some(standing) => Some(found_stream(standing)),
-            None => None,
-        },
+        Reply::Standing(standing) => standing.stream,
         _ => None,
     }
 }

@@ -16,6 +16,11 @@ sending_after sending SendCfgTwo slot = sending
 sending_after sending SendCfgThree slot = sending
 sending_after sending Extended slot = sending
 
+-- The last slot that is done with, where the slots up to one of them were, at the slot of a clock that has so many in a second: the clock's slot
+-- where that one lies more than a second ahead of it.
+abbrev pub done_by : ℕ → ℕ → ℕ → ℕ
+done_by sent clock rate = if nat_lt rate (sent - clock) then clock else sent
+
 -- The first slot that is due behind the last one done with, where at most so many are due up to the end.
 abbrev pub least_slot : ℕ → ℕ → ℕ → ℕ
 least_slot last end most = if nat_lt (last + 1) (end - (most - 1)) then end - (most - 1) else last + 1

@@ -3,9 +3,9 @@
 /// Of `simulate`.
 pub(crate) const SIMULATE: &str = "\
 Listens, and plays a source to so many clients at once as --clients says; one more is disconnected. Each client starts and stops
-data for itself. It obeys the commands 1 to 5 of C37.118.2 and sends data frames at the timestamps of this machine's clock. The
-signals are those of a plausible grid, with the same numbers each time for the same second. It prints what happens, and goes on
-until it is ended.
+data for itself. It obeys the commands 1 to 5 of C37.118.2 and sends data frames at the timestamps of this machine's clock, also
+where that is set back. The signals are those of a plausible grid, with the same numbers each time for the same second. It prints
+what happens, and goes on until it is ended.
 
 Faults, of which a source may have several:
   silence=SECONDS          after every ten seconds with data frames none for SECONDS: 1 to 3600
@@ -37,9 +37,10 @@ connection.
 What is not answered for three seconds is asked again. If no PMU of the stream is granted and announced yet, it says so, and asks
 for the configuration again each second.
 
-It checks each frame: CHK, the length by the configuration, the IDCODE, and that timestamps rise. What is wrong is counted, and
-printed on standard error: 50 wrong frames a second have a line each, the others one with their number. Timestamps without a
-frame are counted as missing; fillers are blocks of a gateway in place of missing data.
+It checks each frame: CHK, the length by the configuration, the IDCODE, and that timestamps rise. Where they go back by more than
+a second the source's clock was set: one frame is wrong, and those behind it are not. What is wrong is counted, and printed on
+standard error: 50 wrong frames a second have a line each, the others one with their number. Timestamps without a frame are
+counted as missing; fillers are blocks of a gateway in place of missing data.
 
 Exit status: 0 if nothing was wrong; 1 if something was, or no data frame came, or the name has no address, the address can't be
 reached, or output can't be written; 2 for unknown words.";

@@ -1,7 +1,7 @@
 //! A simulated source, apart from sockets and clocks: bytes of commands go in, bytes of frames come out.
 
 ghost use Rattle.std.specs.Prelude.{◌≡◌, ◌⊎◌, ◌+◌, ◌/◌, ◌^◌, ◌≤◌, ◌<◌, length, IfOk, None, is_some};
-ghost use Rattle.pg_tools.specs.Playing.{sending_after, least_slot, IsAfter};
+ghost use Rattle.pg_tools.specs.Playing.{sending_after, done_by, least_slot, IsAfter};
 
 use crate::layout::blocks_of;
 use crate::measuring::add_measured;
@@ -234,9 +234,9 @@ impl Source {
     }
 
     /// Adds the data frames that are due at an instant: those of the slots since the last call, of a second at most, or of a second more
-    /// than the fault `backlog` holds back. A source that was held up for longer leaves out what lies further back. With the fault `unasked`
-    /// CFG-2 stands before the first data frame, and before the first one of another configuration; while data is off it is added at the
-    /// first call in a configuration.
+    /// than the fault `backlog` holds back. A source that was held up for longer leaves out what lies further back, and one whose clock was set
+    /// back by more than a second goes on from there. With the fault `unasked` CFG-2 stands before the first data frame, and before the first
+    /// one of another configuration; while data is off it is added at the first call in a configuration.
     ///
     /// # Errors
     ///
@@ -244,7 +244,9 @@ impl Source {
     pub fn due(&mut self, now: UnixTime, out: &mut Vec<u8>) -> Result<(), Refusal>
         ensures { self.old.sending ≡ None → self.new.sending ≡ None }
     {
-        if let Some(last) = self.sending {
+        if let Some(sent) = self.sending {
+            let last = self.last_done(sent, now);
+            self.sending = Some(last);
             let end = self.last_due(now);
             let first = first_due(last, end, self.most_due());
             if first <= end {
@@ -263,6 +265,12 @@ impl Source {
         faults.released_at(self.clock(now).earlier(faults.late))
     }
 
+    /// The last slot that is done with at an instant, where the slots up to `sent` were sent or left out.
+    fn last_done(&self, sent: u64, now: UnixTime) -> u64 {
+        let rate = self.settings.rate;
+        last_done(sent, self.clock(now).slot(rate), rate.frames)
+    }
+
     /// The last slot that is due at an instant.
     fn last_due(&self, now: UnixTime) -> u64 {
         self.released(now).slot(self.settings.rate)
@@ -279,10 +287,10 @@ impl Source {
     pub fn skip_due(&mut self, now: UnixTime)
         ensures { self.old.sending ≡ None → self.new.sending ≡ None }
     {
-        let Some(last) = self.sending else {
+        let Some(sent) = self.sending else {
             return;
         };
-        self.sending = Some(self.last_due(now).max(last));
+        self.sending = Some(self.last_due(now).max(self.last_done(sent, now)));
     }
 
     /// Adds the data frame of a slot, unless a fault leaves it out, behind CFG-2 where that is due.
@@ -344,6 +352,18 @@ fn after_command(sending: Option<u64>, word: Word, slot: u64) -> Option<u64>
         Word::StartData => Some(sending.unwrap_or(slot)),
         Word::StopData => None,
         _ => sending,
+    }
+}
+
+/// The last slot that is done with, where the slots up to `sent` were, by the slot of the source's clock and its rate: the clock's own one where
+/// that was set back by more than a second.
+fn last_done(sent: u64, clock: u64, rate: u8) -> u64
+    ensures { result ≡ done_by sent clock rate }
+{
+    if sent.saturating_sub(clock) > u64::from(rate) {
+        clock
+    } else {
+        sent
     }
 }
 

@@ -19,7 +19,7 @@ use std::io::{ErrorKind, Read, Write};
 use std::net::{Net, Shutdown, SocketAddr, ToSocketAddrs};
 use std::rt::{Clock, Files};
 use std::sync::Arc;
-use std::time::Duration;
+use std::time::{Duration, Instant};
 use std::{fs, io};
 
 /// How long one wait for bytes is at most, in milliseconds.
@@ -191,8 +191,8 @@ struct WatchState {
     printed: u32,
     more: u64,
     lines: usize,
-    /// The tenth of a second, counted from 1970, in which the screen was drawn last.
-    drawn: u64,
+    /// The tenth of a second, counted from the start, in which the screen was drawn last.
+    drawn: Option<u64>,
     /// The configuration by whose channels values are shown.
     shown_config: Option<Arc<SourceConfig>>,
     /// Whether the last configuration had no PMU, which was printed.
@@ -261,22 +261,21 @@ fn watch_turns<R, W: Write, A: Observer>(
 where
     R: Net + Clock + Print + Eprint,
 {
-    let start = UnixTime::now(rt)?;
-    let mut second = start.micros;
+    let start = Instant::now(rt)?;
+    let mut ended = 0u64;
     for _ in 0..u64::MAX {
         send_commands(rt, &connection.stream, state)?;
         connection.wait()?;
         read_all(rt, &connection.stream, state, options, raw, observer)?;
-        let at = UnixTime::now(rt)?;
-        let micros = at.micros.saturating_sub(start.micros);
-        if at.micros.saturating_sub(second) >= SECOND {
-            second = second.saturating_add(SECOND);
+        let micros = u64::try_from(start.elapsed(rt)?.as_micros()).unwrap_or(u64::MAX);
+        if micros.saturating_sub(ended) >= SECOND {
+            ended = ended.saturating_add(SECOND);
             state.end_second(rt, options, micros)?;
         }
         let goes_on = observer.turn(&state.watcher);
         let is_last = state.is_over || !goes_on || has_all(state, options, micros);
         if options.style == Style::Screen {
-            state.draw(rt, options, observer, at, is_last)?;
+            state.draw(rt, options, observer, micros, is_last)?;
         }
         if is_last {
             return Ok(goes_on);
@@ -484,7 +483,7 @@ impl WatchState {
             printed: 0,
             more: 0,
             lines: 0,
-            drawn: 0,
+            drawn: None,
             shown_config: None,
             is_waiting: false,
             is_over: false,
@@ -518,7 +517,12 @@ impl WatchState {
                     }
                     self.latest = Some(frame);
                 }
-                WatchEvent::Violation(trouble) => self.report_frame(rt, options, trouble),
+                WatchEvent::Violation(trouble) => {
+                    if trouble.is_set_back() {
+                        self.watcher.forget_stamp();
+                    }
+                    self.report_frame(rt, options, trouble);
+                }
                 WatchEvent::Ended => {
                     self.is_over = true;
                     return Ok(());
@@ -656,16 +660,16 @@ impl WatchState {
         Ok(())
     }
 
-    /// Draws the screen, unless that was done in this tenth of a second. The last screen is drawn in any case.
+    /// Draws the screen, so many microseconds behind the start, unless that was done in this tenth of a second. The last screen is drawn in any case.
     fn draw<R: Print, A: Observer>(
         &mut self,
         rt: &R,
         options: &WatchOptions<'_>,
         observer: &mut A,
-        at: UnixTime,
+        micros: u64,
         is_last: bool,
     ) -> Result<(), Fault> {
-        let tenth = at.micros / TENTH;
+        let tenth = Some(micros / TENTH);
         if tenth == self.drawn && !is_last {
             return Ok(());
         }

@@ -92,6 +92,13 @@ pub struct Tally {
     pub troubles: u64,
 }
 
+impl Violation {
+    /// Whether a stamp lies so far back that the source's clock was set: by more than a second.
+    pub fn is_set_back(self) -> bool {
+        matches!(self, Violation::Order(last, stamp) if last.soc.saturating_sub(stamp.soc) > 1)
+    }
+}
+
 impl Tally {
     /// Nothing yet.
     pub const NONE: Tally = Tally {
@@ -298,6 +305,11 @@ impl Watcher {
     /// The command that stops the stream.
     pub fn stop(&self, soc: u32) -> [u8; 18] {
         write_command(self.stream, soc, Word::StopData.number())
+    }
+
+    /// The source's clock was set: the stamp of the next data frame is compared with none before it.
+    pub fn forget_stamp(&mut self) {
+        self.last = None;
     }
 
     /// Notes something that is wrong apart from the bytes.
